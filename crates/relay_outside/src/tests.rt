@@ -56,7 +56,12 @@ fn a_source_gives_its_pieces_in_order(rt: HostRuntime) -> Result<(), Fail> {
 fn a_sink_fails_in_the_middle(rt: HostRuntime) -> Result<(), Fail> {
     let alloc = rt.alloc();
     let mut sink = MemSink::new(alloc, vec![in alloc; 1]?);
-    assert!(rt; put(&mut sink, b"\x01\x02") == Put::Took(2));
+    let first = put(&mut sink, b"\x01\x02");
+    if first == Put::OutOfMemory {
+        assert!(rt; sink.bytes().is_empty());
+        return Ok(());
+    }
+    assert!(rt; first == Put::Took(2));
     assert!(rt; put(&mut sink, b"\x03") == Put::Failed);
     assert_eq!(rt; sink.bytes(), b"\x01\x02".as_slice());
     assert!(rt; put(&mut sink, b"\x03\x04") == Put::Took(2));
