@@ -1,9 +1,10 @@
 -- What a message's body is as a unit: the layouts are those of Adobe's FLV file format, version 10.1.
-use Rattle.std.specs.Prelude.{ℕ, Bool, true, false, ◌==◌, ◌&&◌, ◌||◌, nat_le, nat_lt, nat_eq, if◌then◌else◌, List, [], ◌∷◌, ◌++◌, length, drop, codes, Option, Some, None, option_map, ◌/◌, ◌%◌}
+use Rattle.std.specs.Prelude.{ℕ, Bool, true, false, ◌==◌, ◌&&◌, ◌||◌, nat_le, nat_lt, nat_eq, if◌then◌else◌, List, [], ◌∷◌, length, drop, codes, Option, Some, None, option_map, ◌/◌, ◌%◌}
 use Rattle.std.specs.List.{starts_with}
 use Rattle.av_unit.specs.declared.unit.Kind.{Kind}
 use Rattle.av_unit.specs.declared.unit.Kind.TheVariants.{Meta, VConfig, AConfig, Key, Inter, Audio, Data}
 use Rattle.av_unit.specs.declared.unit.Class.{Class}
+use Rattle.av_unit.specs.Fits.{is_config}
 use Rattle.av_unit.specs.Media.{Media}
 
 -- the first byte's high four bits: SoundFormat (E.4.2.1), Frame Type (E.4.3.1)
@@ -64,12 +65,6 @@ kind_of message body = first_of
 -- how many bytes stand before the unit: the name with which a publisher asks to set the stream's metadata
 abbrev pub from_of : ℕ → List ℕ → ℕ
 from_of message body = if (message == 18) && begins_with_text (codes "@setDataFrame") body then 16 else 0
-
-abbrev pub is_config : Kind → Bool
-is_config Meta = true
-is_config VConfig = true
-is_config AConfig = true
-is_config _ = false
 
 -- the class of a kind whose unit begins at a place, with the bytes there; a configuration has at most 65,536 of them
 abbrev pub placed : ℕ → List ℕ → Option Kind → Option Class
