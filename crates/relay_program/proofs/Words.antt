@@ -1,0 +1,12 @@
+use Rattle.std.proofs.Common.{◌≡◌, ℕ, List, [], ◌∷◌, length, get_or, refl, ap, sym, arith, ◌≤◌, ◌<◌, false}
+use Rattle.relay_program.specs.Words.{only_word_is, first_word_is}
+
+pub single : {X : Type 0} (xs : List X) (x : X) → 1 ≤ length xs → length xs < 2 → x ≡ get_or xs 0 x → xs ≡ x ∷ []
+single [] x a b is = absurd (omega arith)
+single (y ∷ []) x a b is = ap (λ z. z ∷ []) (sym is)
+single (y ∷ z ∷ zs) x a b is = absurd (omega arith)
+
+pub not_first : (words : List (List ℕ)) (text : List ℕ) → first_word_is words text ≡ false → only_word_is words text ≡ false
+not_first [] text e = refl
+not_first (word ∷ []) text e = e
+not_first (word ∷ other ∷ words) text e = refl
