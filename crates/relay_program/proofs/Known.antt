@@ -18,9 +18,6 @@ nothing_written text before = record { wrote = []; parts = refl; grown = sym (ap
 pub no_part_written : (text : List ℕ) (before now : Option (List ℕ)) → now ≡ before → WritesPart text before now
 no_part_written text before now e = (text, record { wrote = []; parts = refl; grown = e ∙ sym (append_known_nil before) })
 
-pub all_written : (text : List ℕ) (before now : Option (List ℕ)) → now ≡ append_known before text → Writes text [] before now
-all_written text before now e = record { wrote = text; parts = append-nil text; grown = e }
-
 pub wrote_all : (text : List ℕ) (before now : Option (List ℕ)) → Writes text [] before now → now ≡ append_known before text
 wrote_all text before now w = w.grown ∙ ap (append_known before) (sym (append-nil w.wrote) ∙ w.parts)
 

@@ -36,9 +36,6 @@ pub result_then : (r : Result (Unit {0}) Stop) (old mid new : Drilling) (a b c :
 result_then (Ok x) old mid new a b c before between now p q = goes_then old mid new a b c before between now p q
 result_then (Err stop) old mid new a b c before between now p q = stops_then stop old mid a b before between now p q
 
-pub nothing_goes : (d : Drilling) (a : List ℕ) (before : Option (List ℕ)) → Goes d a d a before before
-nothing_goes d a before = record { writes = nothing_written (text_ahead d a) before; outside = refl }
-
 -- ---- a line that is outside
 
 pub first_stops : (n : ℕ) (d : Drilling) (ahead : List ℕ) (before now : Option (List ℕ)) → IsFirstOutside d.number (lines_ahead d ahead) → n ≡ d.number → now ≡ before →
@@ -140,35 +137,9 @@ is_near line end h = let near : nat_le end (2 ^ 28) ≡ true = grind (arith, nat
 pub feed_next : (d : Drilling) (more : List ℕ) → d.place + 1 ≤ 2 ^ 28 → IsNext d (10 ∷ more) (line_at d.line (d.place + 1)) (lines_from (d.place + 1) [] more)
 feed_next d more h = record { ahead_is = refl; meaning_is = is_near d.line (d.place + 1) h }
 
-pub feed_goes : (d new : Drilling) (more : List ℕ) (before now : Option (List ℕ)) → d.place + 1 ≤ 2 ^ 28 → Answered (meaning d.line) d.stream.past new.stream.past before now →
-    new.line ≡ [] → new.place ≡ d.place + 1 → new.number ≡ d.number + 1 → Goes d (10 ∷ more) new more before now
-feed_goes d new more before now h a empty place number =
-    let lines : lines_ahead new more ≡ lines_from (d.place + 1) [] more = ap (λ (l : List ℕ). lines_from new.place l more) empty ∙ ap (λ (n : ℕ). lines_from n [] more) place in
-    let i = inside d new.stream.past (10 ∷ more) (line_at d.line (d.place + 1)) (lines_from (d.place + 1) [] more) before now (feed_next d more h) a in
-    record {
-      writes = record {
-        wrote = said_by (meaning d.line) d.stream.past;
-        parts = ap (λ (l : List Line). said_by (meaning d.line) d.stream.past ++ reply_lines new.stream.past (entries l)) lines ∙ i.text;
-        grown = a.writes;
-      };
-      outside = ap (first_outside new.number) lines ∙ ap (λ (n : ℕ). first_outside n (lines_from (d.place + 1) [] more)) number ∙ i.outside;
-    }
-
 pub feed_stops : (stop : Stop) (d : Drilling) (more : List ℕ) (before now : Option (List ℕ)) → d.place + 1 ≤ 2 ^ 28 →
     AnswerStops stop (meaning d.line) d.number d.stream.past before now → Stops stop d (10 ∷ more) before now
 feed_stops stop d more before now h p = answer_stops stop d (10 ∷ more) (line_at d.line (d.place + 1)) (lines_from (d.place + 1) [] more) before now (feed_next d more h) p
-
-far_feed : (d : Drilling) (more : List ℕ) → d.place ≡ 2 ^ 28 → IsFirstOutside d.number (lines_ahead d (10 ∷ more))
-far_feed d more h =
-    let far : nat_le (d.place + 1) (2 ^ 28) ≡ false = grind (arith, nat_tests) in
-    let none : line_meaning (line_at d.line (d.place + 1)) ≡ None = rw far refl in
-    record {
-      outside = outside_first d.number (line_at d.line (d.place + 1)) (lines_from (d.place + 1) [] more) none;
-      none = outside_ends (line_at d.line (d.place + 1)) (lines_from (d.place + 1) [] more) none;
-    }
-
-pub far_stops : (d : Drilling) (more : List ℕ) (before : Option (List ℕ)) → d.place ≡ 2 ^ 28 → Stops (Outside d.number) d (10 ∷ more) before before
-far_stops d more before h = first_stops d.number d (10 ∷ more) before before (far_feed d more h) refl refl
 
 -- ---- at the script's end
 
@@ -178,12 +149,6 @@ one_left place (c ∷ cs) h = refl
 
 pub end_next : (d : Drilling) → Fit d → 0 < length d.line → IsNext d [] (line_at d.line d.place) []
 end_next d fit some = record { ahead_is = one_left d.place d.line some; meaning_is = is_near d.line d.place fit.place }
-
-pub end_empty : (d : Drilling) (before : Option (List ℕ)) → d.line ≡ [] → Writes (text_ahead d []) [] before before × (outside_ahead d [] ≡ None)
-end_empty d before empty = (
-  record { wrote = []; parts = sym (ap (λ (l : List ℕ). reply_lines d.stream.past (entries (last_line d.place l))) empty); grown = sym (append_known_nil before) },
-  ap (λ (l : List ℕ). first_outside d.number (last_line d.place l)) empty,
-)
 
 pub end_said : (r : Result (Unit {0}) Stop) (d : Drilling) (past : History) (before now : Option (List ℕ)) → Fit d → 0 < length d.line →
     MatchResult r (λ _. Answered (meaning d.line) d.stream.past past before now) (λ stop. AnswerStops stop (meaning d.line) d.number d.stream.past before now) →

@@ -5,8 +5,3 @@ pub single : {X : Type 0} (xs : List X) (x : X) → 1 ≤ length xs → length x
 single [] x a b is = absurd (omega arith)
 single (y ∷ []) x a b is = ap (λ z. z ∷ []) (sym is)
 single (y ∷ z ∷ zs) x a b is = absurd (omega arith)
-
-pub not_first : (words : List (List ℕ)) (text : List ℕ) → first_word_is words text ≡ false → only_word_is words text ≡ false
-not_first [] text e = refl
-not_first (word ∷ []) text e = e
-not_first (word ∷ other ∷ words) text e = refl
