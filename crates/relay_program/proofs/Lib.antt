@@ -7,3 +7,4 @@ pub mod Steps
 pub mod Ahead
 pub mod Stops
 pub mod Words
+pub mod OneLine

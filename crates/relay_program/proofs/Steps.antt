@@ -1,5 +1,5 @@
 -- What the parts of a drill do to what is ahead.
-use Rattle.std.proofs.Common.{◌≡◌, ℕ, suc, take, drop, ◌-◌, ◌+◌, ◌<◌, ◌≤◌, ◌^◌, nat_le, true, false, List, [], ◌∷◌, ◌++◌, Option, None, Some, Result, Ok, Err, MatchResult, length, refl, ap, sym, ◌∙◌, subst, append_assoc, arith}
+use Rattle.std.proofs.Common.{◌≡◌, ℕ, suc, take, drop, ◌-◌, ◌+◌, ◌<◌, ◌≤◌, ◌^◌, nat_le, true, List, [], ◌∷◌, ◌++◌, Option, None, Some, Result, Ok, Err, MatchResult, length, refl, ap, sym, ◌∙◌, subst, append_assoc, arith}
 use Rattle.std.proofs.lemmas.Bool.Decides.{nat_tests}
 use Rattle.std.proofs.lemmas.List.{length-append, length-drop, length-take, take_all}
 use Rattle.std.specs.Option.{is_some}
@@ -14,7 +14,7 @@ use Rattle.relay_program.specs.declared.line.DrillLine.TheVariants.{Nothing, Ste
 use Rattle.relay_program.specs.Lines.{meaning}
 use Rattle.relay_program.specs.Script.{Line, line_at, last_line, lines_from, line_meaning, first_outside, entries, entries_then, reply_lines, defaults}
 use Rattle.relay_program.specs.Parts.{Writes, WritesPart, Answered, AnswerStops, Fit, lines_ahead, text_ahead, outside_ahead, Goes, Stops, NoFeed, Extended, IsOver, ExtendStops, after_line, said_by}
-use Rattle.relay_program.proofs.Known.{append_known_nil, nothing_written, no_part_written, write_then, write_part_then, part_of_more}
+use Rattle.relay_program.proofs.Known.{append_known_nil, no_part_written, write_then, write_part_then, part_of_more}
 use Rattle.relay_program.proofs.Script.{HasFeed, lines_of_run, IsFirstOutside, over, outside_first, outside_ends, inside_first, inside_text}
 
 -- ---- one part after another

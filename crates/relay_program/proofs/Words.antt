@@ -1,5 +1,4 @@
-use Rattle.std.proofs.Common.{◌≡◌, ℕ, List, [], ◌∷◌, length, get_or, refl, ap, sym, arith, ◌≤◌, ◌<◌, false}
-use Rattle.relay_program.specs.Words.{only_word_is, first_word_is}
+use Rattle.std.proofs.Common.{◌≡◌, List, [], ◌∷◌, length, get_or, ap, sym, arith, ◌≤◌, ◌<◌}
 
 pub single : {X : Type 0} (xs : List X) (x : X) → 1 ≤ length xs → length xs < 2 → x ≡ get_or xs 0 x → xs ≡ x ∷ []
 single [] x a b is = absurd (omega arith)

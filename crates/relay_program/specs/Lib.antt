@@ -4,3 +4,4 @@ pub mod Script
 pub mod Parts
 pub mod Ends
 pub mod Words
+pub mod OneLine

@@ -1,5 +1,6 @@
 ghost use Rattle.std.specs.Prelude.{◌≡◌, ◌++◌, OnOk, OnErr, IfOk, string_bytes};
 ghost use Rattle.stream_model.specs.declared.replies.Reply.{Reply};
+ghost use Rattle.relay_program.specs.OneLine.{IsOneLine, IsReply};
 ghost use Rattle.relay_program.specs.Texts.{line_of, item_text, kind_text, live_text, unit_text};
 
 use av_unit::{Bytes, Item, Kind, OutOfMemory};
@@ -120,3 +121,9 @@ pub fn reply_text(alloc: Global, reply: &Reply, out: &mut Bytes) -> Result<(), O
     let text = line_of(alloc, reply)?;
     out.append(text.as_str().as_bytes())
 }
+
+/// Reply lines can't run together: the line of a reply has one LF, which stands at its end.
+#[tactic(auto, using(crate::proofs::OneLine::one_line))]
+pub fn reply_lines_stand_alone()
+    ensures { (r : Reply) → IsReply r → IsOneLine (line_of r) }
+{}
