@@ -5,3 +5,12 @@ pub mod Effect
 pub mod Numbers
 pub mod Whole
 pub mod Bounds
+pub mod Dues
+pub mod FirstTaken
+pub mod Alike
+pub mod Standing
+pub mod Passing
+pub mod Sending
+pub mod Taking
+pub mod Calls
+pub mod Viewers
