@@ -99,3 +99,13 @@ config_earlier kind xs n c m e le lt = effect_is kind xs c m (effect_earlier kin
 -- more items at the end change nothing before it
 pub config_at-append : (kind : Kind) (xs ys : List Item) (n : ℕ) → n ≤ length xs → config_at kind (xs ++ ys) n ≡ config_at kind xs n
 config_at-append kind xs ys n le = rw (take-append-le n xs ys le) refl
+
+pub none_in_effect : (kind : Kind) (xs : List Item) (n : ℕ) → config_at kind xs n ≡ None → (m : ℕ) → InEffect kind xs n m → ⊥
+none_in_effect kind xs n e m l = let f = effect_is kind xs n m l in cc
+
+none_or_some : (kind : Kind) (xs : List Item) (n : ℕ) (o : Option ℕ) → config_at kind xs n ≡ o → ((m : ℕ) → InEffect kind xs n m → ⊥) → o ≡ None
+none_or_some kind xs n None e h = refl
+none_or_some kind xs n (Some m) e h = absurd (h m (in_effect kind xs n m e))
+
+pub effect_none : (kind : Kind) (xs : List Item) (n : ℕ) → ((m : ℕ) → InEffect kind xs n m → ⊥) → config_at kind xs n ≡ None
+effect_none kind xs n h = none_or_some kind xs n (config_at kind xs n) refl h

@@ -14,3 +14,8 @@ pub mod Sending
 pub mod Taking
 pub mod Calls
 pub mod Viewers
+pub mod Lists
+pub mod Chains
+pub mod Live
+pub mod Windows
+pub mod Inters

@@ -1,13 +1,13 @@
-//! The laws that stand above the definitions of a stream.
+//! The laws of a stream that stand above its definitions.
+//!
+//! Each law is the contract of a function that does nothing: a fact about every history of calls,
+//! every list of items and every limit. The viewer's law and what follows from it speak of what a
+//! player is sent. The other laws read the definitions of the window, the configuration in effect,
+//! a whole chain of frames and the join place as plain relations between items and numbers.
 #![tactic(auto)]
 
-ghost use Rattle.std.specs.Prelude.{ℕ};
-ghost use Rattle.stream_model.specs.declared.calls.StreamLimits.{StreamLimits};
-ghost use Rattle.stream_model.specs.History.{History};
-ghost use Rattle.stream_model.specs.Known.{IsLawful};
-ghost use Rattle.stream_model.specs.Legal.{Legal};
+mod definitions;
+mod players;
 
-/// The viewer's law.
-pub fn viewers_law()
-    ensures { (limits : StreamLimits) (past : History) → IsLawful limits past → (place : ℕ) → Legal limits past place }
-{}
+pub use definitions::{base_law, chain_law, configuration_law, join_law, live_law};
+pub use players::{chains_law, numbers_law, takes_alone, viewers_law};
