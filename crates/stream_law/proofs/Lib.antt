@@ -19,3 +19,6 @@ pub mod Chains
 pub mod Live
 pub mod Windows
 pub mod Inters
+pub mod Published
+pub mod Ruled
+pub mod Configured

@@ -10,4 +10,6 @@ mod definitions;
 mod players;
 
 pub use definitions::{base_law, chain_law, configuration_law, join_law, live_law};
-pub use players::{chains_law, numbers_law, takes_alone, viewers_law};
+pub use players::{
+    chains_law, configurations_law, items_law, numbers_law, takes_alone, turns_law, viewers_law,
+};
