@@ -1,8 +1,8 @@
 -- The parts of the law say the same of two lists of items, or of two lists of numbers, that agree where it looks.
-use Rattle.std.proofs.Common.{◌≡◌, ℕ, zero, suc, ◌+◌, ◌<◌, ◌≤◌, Bool, true, false, List, [], ◌∷◌, ◌++◌, length, map, get_or, None, Some, Option, ◌⊎◌, inl, inr, refl, ap, sym, ◌∙◌, arith, length-append}
+use Rattle.std.proofs.Common.{◌≡◌, ℕ, ◌<◌, ◌≤◌, List, [], ◌∷◌, ◌++◌, length, map, None, Some, Option, inl, inr, refl, sym, ◌∙◌, arith, length-append}
 use Rattle.std.specs.List.{slice_get, All}
 use Rattle.std.proofs.lemmas.List.{get_or_append_left, get_or_push}
-use Rattle.std.proofs.lemmas.List.Elements.{All-weaker, All-push}
+use Rattle.std.proofs.lemmas.List.Elements.{All-weaker}
 use Rattle.av_unit.specs.declared.item.Item.{Item}
 use Rattle.av_unit.specs.declared.item.Item.TheVariants as item
 use Rattle.av_unit.specs.declared.unit.Kind.{Kind}
@@ -11,11 +11,9 @@ use Rattle.av_unit.specs.declared.head.Want.{Want}
 use Rattle.stream_model.specs.declared.calls.StreamLimits.{StreamLimits}
 use Rattle.stream_model.specs.declared.replies.Taken.{Taken}
 use Rattle.stream_model.specs.declared.replies.Taken.TheVariants.{Sent, Skip, NotYet}
-use Rattle.stream_model.specs.Items.{config_at}
-use Rattle.stream_model.specs.Chain.{whole, has_number}
-use Rattle.stream_model.specs.Take.{last_sent}
+use Rattle.stream_model.specs.Chain.{whole}
 use Rattle.stream_model.specs.Spell.{numbers_of, cursor_after}
-use Rattle.stream_model.specs.Legal.{Turn, Each, SomeTurn, OnSent, IsKnown, IsConfigured, IsConfiguredKind, IsWhole, IsWholeKind, IsExcluded, IsExcludedKind, IsBetween, IsPassedBy, Passes}
+use Rattle.stream_model.specs.Legal.{Turn, Each, SomeTurn, OnSent, IsKnown, IsConfigured, IsConfiguredKind, IsWhole, IsWholeKind, IsExcluded, IsExcludedKind, IsPassedBy, Passes}
 use Rattle.stream_law.proofs.Effect.{config_at-append}
 use Rattle.stream_law.proofs.Numbers.{last_sent-append}
 

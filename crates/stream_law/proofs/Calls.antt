@@ -1,5 +1,5 @@
 -- What a lawful call makes of one place: the items grow, the place is joined, or its holder takes.
-use Rattle.std.proofs.Common.{◌≡◌, ◌==◌, ℕ, zero, suc, Bool, true, false, if◌then◌else◌, List, [], ◌∷◌, ◌++◌, length, None, Some, Option, ◌⊎◌, inl, inr, refl, ap, sym, ◌∙◌}
+use Rattle.std.proofs.Common.{◌≡◌, ◌==◌, ℕ, Bool, true, false, if◌then◌else◌, List, [], ◌∷◌, ◌++◌, length, None, Some, Option, ◌⊎◌, inl, inr, refl, ap, sym, ◌∙◌}
 use Rattle.std.proofs.lemmas.List.{append-nil}
 use Rattle.std.proofs.lemmas.Bool.Decides.{eqb_tells}
 use Rattle.av_unit.specs.declared.item.Item.{Item}
@@ -10,15 +10,14 @@ use Rattle.stream_model.specs.declared.calls.StreamLimits.{StreamLimits}
 use Rattle.stream_model.specs.declared.calls.Call.{Call}
 use Rattle.stream_model.specs.declared.calls.Call.TheVariants as call
 use Rattle.stream_model.specs.declared.replies.Reply.{Reply}
-use Rattle.stream_model.specs.declared.replies.Reply.TheVariants.{Began, InUse, Pushed, NotPublisher, Ended, Joined, Full, NotPlayer, Left, Counts}
+use Rattle.stream_model.specs.declared.replies.Reply.TheVariants.{Pushed, NotPublisher, Ended, NotPlayer, Left}
 use Rattle.stream_model.specs.declared.replies.Taken.{Taken}
 use Rattle.stream_model.specs.declared.replies.Taken.TheVariants.{Sent, Skip, NotYet}
 use Rattle.stream_model.specs.Window.{join}
 use Rattle.stream_model.specs.Take.{taken}
-use Rattle.stream_model.specs.Spell.{Spell, spell, spell_after, one_more, cursor, sent, reply_of}
-use Rattle.stream_model.specs.Counts.{counts_reply}
+use Rattle.stream_model.specs.Spell.{Spell, spell, spell_after, cursor, sent, reply_of}
 use Rattle.stream_model.specs.History.{History, items_of, items_after, publisher, holder}
-use Rattle.stream_model.specs.Answer.{reply_to, begin_reply, push_reply, end_reply, join_reply, free_place, is_who}
+use Rattle.stream_model.specs.Answer.{reply_to, begin_reply, join_reply, free_place, is_who}
 use Rattle.stream_model.specs.Legal.{Turn, turns, turn_after, turns_after}
 
 -- only the items change, by more at their end
@@ -64,8 +63,9 @@ end_change limits items s ts place end live false = inl (record { more = []; ite
 join_change : (limits : StreamLimits) (items : List Item) (s : Spell) (ts : List Turn) (place : ℕ) (o : Option ℕ) → Change limits items s ts place call.Join (join_reply (join limits items) o)
 join_change limits items s ts place None = inl (record { more = []; items_are = sym (append-nil items); spell_is = refl; turns_are = refl })
 join_change limits items s ts place (Some player) = elim (eqb_tells player place) [
-    inl h ↦ inr (inl (record { items_are = refl; spell_is = rw h.0 refl; turns_are = rw h.0 refl }))
-  | inr h ↦ inl (record { more = []; items_are = sym (append-nil items); spell_is = rw h.0 refl; turns_are = rw h.0 refl }) ]
+  | inl h ↦ inr (inl (record { items_are = refl; spell_is = rw h.0 refl; turns_are = rw h.0 refl }))
+  | inr h ↦ inl (record { more = []; items_are = sym (append-nil items); spell_is = rw h.0 refl; turns_are = rw h.0 refl })
+]
 
 leave_change : (limits : StreamLimits) (items : List Item) (s : Spell) (ts : List Turn) (place player : ℕ) (b : Bool) → Change limits items s ts place (call.Leave player) (if b then Left player else NotPlayer)
 leave_change limits items s ts place player true = inl (record { more = []; items_are = sym (append-nil items); spell_is = refl; turns_are = refl })
@@ -122,9 +122,10 @@ take_change : (limits : StreamLimits) (past : History) (place player : ℕ) (wan
     (if b then reply_of (taken limits (items_of past) (cursor (spell past player)) (sent (spell past player)) want) else NotPlayer)
 take_change limits past place player want false = inl (record { more = []; items_are = sym (append-nil (items_of past)); spell_is = same_spell (player == place) (spell past place); turns_are = no_turn (player == place) (items_of past) want (turns past place) })
 take_change limits past place player want true = elim (eqb_tells player place) [
-    inl h ↦ take_here limits (items_of past) (spell past place) (turns past place) place player want (taken limits (items_of past) (cursor (spell past player)) (sent (spell past player)) want) h.0
-        (ap (λ (p : ℕ). taken limits (items_of past) (cursor (spell past p)) (sent (spell past p)) want) h.1)
-  | inr h ↦ take_other limits (items_of past) (spell past place) (turns past place) place player want (taken limits (items_of past) (cursor (spell past player)) (sent (spell past player)) want) h.0 ]
+  | inl h ↦ take_here limits (items_of past) (spell past place) (turns past place) place player want (taken limits (items_of past) (cursor (spell past player)) (sent (spell past player)) want) h.0
+      (ap (λ (p : ℕ). taken limits (items_of past) (cursor (spell past p)) (sent (spell past p)) want) h.1)
+  | inr h ↦ take_other limits (items_of past) (spell past place) (turns past place) place player want (taken limits (items_of past) (cursor (spell past player)) (sent (spell past player)) want) h.0
+]
 
 pub change : (limits : StreamLimits) (past : History) (place who : ℕ) (c : Call) → Change limits (items_of past) (spell past place) (turns past place) place c (reply_to limits past who c)
 change limits past place who call.Begin = begin_change limits (items_of past) (spell past place) (turns past place) place (length (items_of past)) (publisher past)

@@ -1,15 +1,15 @@
 -- A frame that was sent had its configuration sent.
-use Rattle.std.proofs.Common.{◌≡◌, ℕ, zero, suc, ◌+◌, ◌<◌, Bool, true, false, if◌then◌else◌, List, [], ◌∷◌, ◌++◌, length, None, Some, Option, ◌⊎◌, inl, inr, refl, ap, sym, ◌∙◌, arith}
+use Rattle.std.proofs.Common.{◌≡◌, ℕ, true, if◌then◌else◌, List, [], ◌∷◌, None, Some, Option, ◌⊎◌, inl, inr, arith}
 use Rattle.std.specs.List.{slice_get, fold, Contains}
 use Rattle.std.proofs.lemmas.Bool.{false≢true, cases_Bool}
-use Rattle.std.proofs.lemmas.List.Elements.{Contains-append_left, Contains-append_right}
+use Rattle.std.proofs.lemmas.List.Elements.{Contains-append_right}
 use Rattle.av_unit.specs.declared.item.Item.{Item}
 use Rattle.av_unit.specs.declared.item.Item.TheVariants as item
 use Rattle.av_unit.specs.declared.unit.Kind.{Kind}
-use Rattle.av_unit.specs.declared.unit.Kind.TheVariants.{Meta, VConfig, AConfig, Key, Inter, Audio, Data}
+use Rattle.av_unit.specs.declared.unit.Kind.TheVariants.{Meta, VConfig, AConfig, Key, Inter, Audio}
 use Rattle.stream_model.specs.declared.calls.StreamLimits.{StreamLimits}
 use Rattle.stream_model.specs.declared.replies.Taken.{Taken}
-use Rattle.stream_model.specs.Items.{config_at, has_kind}
+use Rattle.stream_model.specs.Items.{has_kind}
 use Rattle.stream_model.specs.Take.{at_kind, last_sent}
 use Rattle.stream_model.specs.Spell.{spell, sent, numbers_of}
 use Rattle.stream_model.specs.History.{History, items_of}
@@ -20,22 +20,24 @@ use Rattle.stream_law.specs.Needs.{needs}
 use Rattle.stream_law.proofs.UnitKinds.{same_kind_is}
 use Rattle.stream_law.proofs.Effect.{effect_is}
 use Rattle.stream_law.proofs.Standing.{IsContent}
-use Rattle.stream_law.proofs.Lists.{WasSent, was_sent, each_both}
+use Rattle.stream_law.proofs.Lists.{was_sent, each_both}
 use Rattle.stream_law.proofs.Viewers.{legal}
 
 -- the last of a kind is one of the numbers
-kept : (kind : Kind) (items : List Item) (last : Option ℕ) (numbers : List ℕ) (m : ℕ) → fold (λ last n. if at_kind kind (slice_get items n) then Some n else last) last numbers ≡ Some m →
+last_or_number : (kind : Kind) (items : List Item) (last : Option ℕ) (numbers : List ℕ) (m : ℕ) → fold (λ last n. if at_kind kind (slice_get items n) then Some n else last) last numbers ≡ Some m →
     (last ≡ Some m) ⊎ Contains numbers m
-kept kind items last [] m e = inl e
-kept kind items last (n ∷ numbers) m e =
-    elim (kept kind items (if at_kind kind (slice_get items n) then Some n else last) numbers m e) [
-      inl f ↦ elim (cases_Bool (at_kind kind (slice_get items n))) [
-          inl h ↦ let g = rw h at f in let same : n ≡ m = cc in inr (0, omega arith, same)
-        | inr h ↦ inl (rw h at f) ]
-    | inr c ↦ inr (Contains-append_right (n ∷ []) numbers m c) ]
+last_or_number kind items last [] m e = inl e
+last_or_number kind items last (n ∷ numbers) m e =
+    elim (last_or_number kind items (if at_kind kind (slice_get items n) then Some n else last) numbers m e) [
+      | inl f ↦ elim (cases_Bool (at_kind kind (slice_get items n))) [
+        | inl h ↦ let g = rw h at f in let same : n ≡ m = cc in inr (0, omega arith, same)
+        | inr h ↦ inl (rw h at f)
+      ]
+      | inr c ↦ inr (Contains-append_right (n ∷ []) numbers m c)
+    ]
 
 last_contained : (kind : Kind) (items : List Item) (numbers : List ℕ) (m : ℕ) → last_sent kind items numbers ≡ Some m → Contains numbers m
-last_contained kind items numbers m e = elim (kept kind items None numbers m e) [ inl f ↦ absurd (cc) | inr c ↦ c ]
+last_contained kind items numbers m e = elim (last_or_number kind items None numbers m e) [ inl f ↦ absurd (cc) | inr c ↦ c ]
 
 needed : (items : List Item) (n : ℕ) (before : List Taken) (kind config : Kind) → needs kind config ≡ true → IsConfiguredKind items n before kind → IsKnown items n before config
 needed items n before Key Meta e h = h.1

@@ -1,5 +1,5 @@
 -- The first item that is taken.
-use Rattle.std.proofs.Common.{◌≡◌, ℕ, zero, suc, ◌+◌, ◌<◌, ◌≤◌, ◌-◌, Bool, true, false, ◌&&◌, if◌then◌else◌, List, [], ◌∷◌, length, drop, None, Some, Option, ◌⊎◌, inl, inr, refl, ap, sym, ◌∙◌, arith}
+use Rattle.std.proofs.Common.{◌≡◌, ℕ, zero, suc, ◌+◌, ◌<◌, ◌≤◌, ◌-◌, Bool, true, false, List, [], ◌∷◌, drop, None, Some, inl, inr, refl, ap, sym, ◌∙◌, arith}
 use Rattle.std.specs.List.{slice_get}
 use Rattle.std.proofs.lemmas.Bool.{false≢true, cases_Bool, and_cases, and_parts}
 use Rattle.av_unit.specs.declared.item.Item.{Item}
@@ -7,12 +7,11 @@ use Rattle.av_unit.specs.declared.item.Item.TheVariants as item
 use Rattle.av_unit.specs.declared.unit.Kind.{Kind}
 use Rattle.av_unit.specs.declared.unit.Kind.TheVariants.{Meta, VConfig, AConfig, Key, Inter, Audio, Data}
 use Rattle.av_unit.specs.declared.head.Want.{Want}
-use Rattle.stream_model.specs.Items.{has_kind, same_kind}
-use Rattle.stream_model.specs.Chain.{whole, is_frame}
-use Rattle.stream_model.specs.Take.{at_kind, first_taken, takes, is_wanted, is_wanted_kind}
+use Rattle.stream_model.specs.Items.{has_kind}
+use Rattle.stream_model.specs.Chain.{whole}
+use Rattle.stream_model.specs.Take.{first_taken, takes, is_wanted, is_wanted_kind}
 use Rattle.stream_model.specs.Legal.{IsExcluded, IsExcludedKind, IsWhole, IsWholeKind}
 use Rattle.stream_law.proofs.Places.{slice_get-drop}
-use Rattle.stream_law.proofs.Last.{passes_at}
 use Rattle.stream_law.proofs.UnitKinds.{same_kind_is}
 use Rattle.stream_law.proofs.Dues.{IsConfigKind, meta, vconfig, aconfig}
 
@@ -28,19 +27,20 @@ pub record IsFirst (p : ℕ → Item → Bool) (xs : List Item) (from m : ℕ) :
   pub passes : p m item ≡ true
   pub before : NonePass p xs from m
 
-none_on : (p : ℕ → Item → Bool) (n : ℕ) (y : Item) (ys : List Item) → p n y ≡ false → ((j : ℕ) (x : Item) → slice_get ys j ≡ Some x → p (n + 1 + j) x ≡ false) →
+none_more : (p : ℕ → Item → Bool) (n : ℕ) (y : Item) (ys : List Item) → p n y ≡ false → ((j : ℕ) (x : Item) → slice_get ys j ≡ Some x → p (n + 1 + j) x ≡ false) →
     (j : ℕ) (x : Item) → slice_get (y ∷ ys) j ≡ Some x → p (n + j) x ≡ false
-none_on p n y ys e h zero x f =
+none_more p n y ys e h zero x f =
     let on : n + 0 ≡ n = omega arith in
     let same : y ≡ x = cc in
     rw (on, ← same) e
-none_on p n y ys e h (suc j) x f = let on : n + suc j ≡ n + 1 + j = omega arith in rw on (h j x f)
+none_more p n y ys e h (suc j) x f = let on : n + suc j ≡ n + 1 + j = omega arith in rw on (h j x f)
 
 first_none : (p : ℕ → Item → Bool) (n : ℕ) (xs : List Item) → first_taken p n xs ≡ None → (j : ℕ) (x : Item) → slice_get xs j ≡ Some x → p (n + j) x ≡ false
 first_none p n [] e = λ j x f. absurd (cc f)
 first_none p n (y ∷ ys) e = elim (cases_Bool (p n y)) [
-    inl h ↦ let f = rw h at e in absurd (cc f)
-  | inr h ↦ let f : first_taken p (n + 1) ys ≡ None = rw h at e in none_on p n y ys h (first_none p (n + 1) ys f) ]
+  | inl h ↦ let f = rw h at e in absurd (cc f)
+  | inr h ↦ let f : first_taken p (n + 1) ys ≡ None = rw h at e in none_more p n y ys h (first_none p (n + 1) ys f)
+]
 
 record At (p : ℕ → Item → Bool) (n : ℕ) (xs : List Item) (m : ℕ) : Type 0 where
   place : ℕ
@@ -50,39 +50,40 @@ record At (p : ℕ → Item → Bool) (n : ℕ) (xs : List Item) (m : ℕ) : Typ
   passes : p m item ≡ true
   before : (j : ℕ) → j < place → (x : Item) → slice_get xs j ≡ Some x → p (n + j) x ≡ false
 
-before_on : (p : ℕ → Item → Bool) (n place : ℕ) (y : Item) (ys : List Item) → p n y ≡ false → ((j : ℕ) → j < place → (x : Item) → slice_get ys j ≡ Some x → p (n + 1 + j) x ≡ false) →
+before_more : (p : ℕ → Item → Bool) (n place : ℕ) (y : Item) (ys : List Item) → p n y ≡ false → ((j : ℕ) → j < place → (x : Item) → slice_get ys j ≡ Some x → p (n + 1 + j) x ≡ false) →
     (j : ℕ) → j < suc place → (x : Item) → slice_get (y ∷ ys) j ≡ Some x → p (n + j) x ≡ false
-before_on p n place y ys e h zero lt x f =
+before_more p n place y ys e h zero lt x f =
     let on : n + 0 ≡ n = omega arith in
     let same : y ≡ x = cc in
     rw (on, ← same) e
-before_on p n place y ys e h (suc j) lt x f = let on : n + suc j ≡ n + 1 + j = omega arith in rw on (h j (omega arith) x f)
+before_more p n place y ys e h (suc j) lt x f = let on : n + suc j ≡ n + 1 + j = omega arith in rw on (h j (omega arith) x f)
 
-at_on : (p : ℕ → Item → Bool) (n m : ℕ) (y : Item) (ys : List Item) → p n y ≡ false → At p (n + 1) ys m → At p n (y ∷ ys) m
-at_on p n m y ys e a = record {
-    place = suc a.place;
-    number = let f = a.number in omega arith;
-    item = a.item;
-    there = a.there;
-    passes = a.passes;
-    before = before_on p n a.place y ys e a.before;
-  }
+at_more : (p : ℕ → Item → Bool) (n m : ℕ) (y : Item) (ys : List Item) → p n y ≡ false → At p (n + 1) ys m → At p n (y ∷ ys) m
+at_more p n m y ys e a = record {
+  place = suc a.place;
+  number = let f = a.number in omega arith;
+  item = a.item;
+  there = a.there;
+  passes = a.passes;
+  before = before_more p n a.place y ys e a.before;
+}
 
 at_first : (p : ℕ → Item → Bool) (n m : ℕ) (y : Item) (ys : List Item) → n ≡ m → p n y ≡ true → At p n (y ∷ ys) m
 at_first p n m y ys same e = record {
-    place = 0;
-    number = omega arith;
-    item = y;
-    there = refl;
-    passes = rw (← same) e;
-    before = λ j lt x f. absurd (omega arith);
-  }
+  place = 0;
+  number = omega arith;
+  item = y;
+  there = refl;
+  passes = rw (← same) e;
+  before = λ j lt x f. absurd (omega arith);
+}
 
 first_some : (p : ℕ → Item → Bool) (n : ℕ) (xs : List Item) (m : ℕ) → first_taken p n xs ≡ Some m → At p n xs m
 first_some p n [] m e = absurd (cc)
 first_some p n (y ∷ ys) m e = elim (cases_Bool (p n y)) [
-    inl h ↦ let f = rw h at e in let same : n ≡ m = cc in at_first p n m y ys same h
-  | inr h ↦ let f : first_taken p (n + 1) ys ≡ Some m = rw h at e in at_on p n m y ys h (first_some p (n + 1) ys m f) ]
+  | inl h ↦ let f = rw h at e in let same : n ≡ m = cc in at_first p n m y ys same h
+  | inr h ↦ let f : first_taken p (n + 1) ys ≡ Some m = rw h at e in at_more p n m y ys h (first_some p (n + 1) ys m f)
+]
 
 pub none_taken : (p : ℕ → Item → Bool) (xs : List Item) (from to : ℕ) → first_taken p from (drop from xs) ≡ None → NonePass p xs from to
 none_taken p xs from to e k low high x f =

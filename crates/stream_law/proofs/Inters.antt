@@ -1,5 +1,5 @@
 -- An inter frame that was sent has its chain.
-use Rattle.std.proofs.Common.{◌≡◌, ℕ, true, List, None, Some, Option, refl, ap, sym, ◌∙◌}
+use Rattle.std.proofs.Common.{◌≡◌, ℕ, true, List}
 use Rattle.std.specs.List.{slice_get, Contains}
 use Rattle.std.proofs.lemmas.Bool.{false≢true}
 use Rattle.av_unit.specs.declared.item.Item.{Item}
@@ -12,11 +12,11 @@ use Rattle.stream_model.specs.Take.{at_kind}
 use Rattle.stream_model.specs.Spell.{spell, sent}
 use Rattle.stream_model.specs.History.{History, items_of}
 use Rattle.stream_model.specs.Known.{IsLawful}
-use Rattle.stream_model.specs.Legal.{IsWhole, IsWholeKind}
+use Rattle.stream_model.specs.Legal.{IsWhole}
 use Rattle.stream_law.specs.HasChain.{HasChain}
 use Rattle.stream_law.proofs.UnitKinds.{same_kind_is}
 use Rattle.stream_law.proofs.Standing.{IsContent, IsWholeAmong}
-use Rattle.stream_law.proofs.Lists.{WasSent, was_sent, each_both}
+use Rattle.stream_law.proofs.Lists.{was_sent, each_both}
 use Rattle.stream_law.proofs.Chains.{has_chain}
 use Rattle.stream_law.proofs.Viewers.{legal}
 
@@ -32,6 +32,6 @@ inter_chain limits past lawful place n c e =
     let numbers = sent (spell past place) in
     let l = legal limits past lawful place in
     let w = was_sent (λ m x before. IsContent items m x before × IsWholeAmong items numbers m x before) n (spell past place).answers
-        (each_both (IsContent items) (IsWholeAmong items numbers) (spell past place).answers l.content l.whole) c in
+    (each_both (IsContent items) (IsWholeAmong items numbers) (spell past place).answers l.content l.whole) c in
     let is_inter : has_kind Inter w.item ≡ true = rw w.says.0 at e in
     has_chain items numbers n (whole_inter items numbers n w.item is_inter w.says.1)

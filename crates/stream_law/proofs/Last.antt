@@ -1,7 +1,7 @@
 -- The last item that passes, as a relation.
-use Rattle.std.proofs.Common.{◌≡◌, ℕ, zero, suc, ◌+◌, ◌<◌, ◌≤◌, Bool, true, false, if◌then◌else◌, List, [], ◌∷◌, length, take, None, Some, Option, ◌⊎◌, inl, inr, refl, ap, sym, ◌∙◌, arith}
+use Rattle.std.proofs.Common.{◌≡◌, ℕ, zero, suc, ◌+◌, ◌<◌, Bool, true, false, if◌then◌else◌, List, [], ◌∷◌, None, Some, Option, ◌⊎◌, inl, inr, refl, arith}
 use Rattle.std.specs.List.{slice_get}
-use Rattle.std.proofs.lemmas.Bool.{false≢true, cases_Bool}
+use Rattle.std.proofs.lemmas.Bool.{false≢true}
 use Rattle.av_unit.specs.declared.item.Item.{Item}
 use Rattle.stream_model.specs.Items.{last_where, after_first}
 
@@ -35,14 +35,14 @@ first-some : (b : Bool) (m : ℕ) → first_if b ≡ Some m → (b ≡ true) × 
 first-some true m e = (refl, cc)
 first-some false m e = absurd (cc)
 
-none_on : (p : Item → Bool) (x : Item) (xs : List Item) → p x ≡ false → NoneAt p xs → NoneAt p (x ∷ xs)
-none_on p x xs e h zero = e
-none_on p x xs e h (suc k) = h k
+none_more : (p : Item → Bool) (x : Item) (xs : List Item) → p x ≡ false → NoneAt p xs → NoneAt p (x ∷ xs)
+none_more p x xs e h zero = e
+none_more p x xs e h (suc k) = h k
 
-later_on : (p : Item → Bool) (x : Item) (xs : List Item) (m : ℕ) → ((k : ℕ) → m < k → passes_at p (slice_get xs k) ≡ false) →
+later_more : (p : Item → Bool) (x : Item) (xs : List Item) (m : ℕ) → ((k : ℕ) → m < k → passes_at p (slice_get xs k) ≡ false) →
     (k : ℕ) → suc m < k → passes_at p (slice_get (x ∷ xs) k) ≡ false
-later_on p x xs m h zero lt = absurd (omega arith)
-later_on p x xs m h (suc k) lt = h k (omega arith)
+later_more p x xs m h zero lt = absurd (omega arith)
+later_more p x xs m h (suc k) lt = h k (omega arith)
 
 later_first : (p : Item → Bool) (x : Item) (xs : List Item) → NoneAt p xs → (k : ℕ) → 0 < k → passes_at p (slice_get (x ∷ xs) k) ≡ false
 later_first p x xs h zero lt = absurd (omega arith)
@@ -52,14 +52,14 @@ pub none_where : (p : Item → Bool) (xs : List Item) → last_where p xs ≡ No
 none_where p [] e = λ k. refl
 none_where p (x ∷ xs) e =
     let h = after_first-none (last_where p xs) (first_if (p x)) e in
-    none_on p x xs (first-none (p x) h.1) (none_where p xs h.0)
+    none_more p x xs (first-none (p x) h.1) (none_where p xs h.0)
 
 pub where_none : (p : Item → Bool) (xs : List Item) → NoneAt p xs → last_where p xs ≡ None
 where_none p [] h = refl
 where_none p (x ∷ xs) h = rw (where_none p xs (λ k. h (suc k)), h 0) refl
 
-last_at_on : (p : Item → Bool) (x : Item) (xs : List Item) (m n : ℕ) → m ≡ suc n → LastAt p xs n → LastAt p (x ∷ xs) m
-last_at_on p x xs m n e l = rw e (record { here = l.here; later = later_on p x xs n l.later })
+last_at_more : (p : Item → Bool) (x : Item) (xs : List Item) (m n : ℕ) → m ≡ suc n → LastAt p xs n → LastAt p (x ∷ xs) m
+last_at_more p x xs m n e l = rw e (record { here = l.here; later = later_more p x xs n l.later })
 
 last_at_first : (p : Item → Bool) (x : Item) (xs : List Item) (m : ℕ) → m ≡ 0 → p x ≡ true → NoneAt p xs → LastAt p (x ∷ xs) m
 last_at_first p x xs m e h none = rw e (record { here = h; later = later_first p x xs none })
@@ -67,8 +67,9 @@ last_at_first p x xs m e h none = rw e (record { here = h; later = later_first p
 pub some_where : (p : Item → Bool) (xs : List Item) (m : ℕ) → last_where p xs ≡ Some m → LastAt p xs m
 some_where p [] m e = absurd (cc)
 some_where p (x ∷ xs) m e = elim (after_first-some (last_where p xs) (first_if (p x)) m e) [
-    inl h ↦ last_at_on p x xs m h.0 h.2 (some_where p xs h.0 h.1)
-  | inr h ↦ let f = first-some (p x) m h.1 in last_at_first p x xs m f.1 f.0 (none_where p xs h.0) ]
+  | inl h ↦ last_at_more p x xs m h.0 h.2 (some_where p xs h.0 h.1)
+  | inr h ↦ let f = first-some (p x) m h.1 in last_at_first p x xs m f.1 f.0 (none_where p xs h.0)
+]
 
 pub where_some : (p : Item → Bool) (xs : List Item) (m : ℕ) → LastAt p xs m → last_where p xs ≡ Some m
 where_some p [] m l = absurd (false≢true l.here)

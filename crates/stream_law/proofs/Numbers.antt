@@ -1,10 +1,10 @@
 -- One number more among the numbers sent.
-use Rattle.std.proofs.Common.{◌≡◌, ◌==◌, ℕ, zero, suc, ◌+◌, ◌<◌, ◌≤◌, Bool, true, false, ◌||◌, if◌then◌else◌, List, [], ◌∷◌, ◌++◌, length, None, Some, Option, refl, ap, sym, ◌∙◌, arith}
-use Rattle.std.specs.List.{slice_get, fold, All, list_any}
+use Rattle.std.proofs.Common.{◌≡◌, ◌==◌, ℕ, ◌<◌, Bool, true, false, ◌||◌, if◌then◌else◌, List, [], ◌∷◌, ◌++◌, length, None, Some, refl, ap, ◌∙◌}
+use Rattle.std.specs.List.{slice_get, fold, All}
 use Rattle.std.proofs.lemmas.List.Folds.{list_any-append}
 use Rattle.std.proofs.lemmas.List.Elements.{All-head, All-tail}
 use Rattle.std.proofs.lemmas.Grind.{fold-append}
-use Rattle.std.proofs.lemmas.Bool.{or_right, or_left, eq-eqb, ne_eqb, cases_Bool, cases_eq}
+use Rattle.std.proofs.lemmas.Bool.{or_right, or_left, eq-eqb, ne_eqb}
 use Rattle.av_unit.specs.declared.item.Item.{Item}
 use Rattle.av_unit.specs.declared.unit.Kind.{Kind}
 use Rattle.stream_model.specs.Chain.{has_number}

@@ -1,5 +1,5 @@
 -- The kind of an item.
-use Rattle.std.proofs.Common.{◌≡◌, Bool, true, false, None, Some, Option, refl, ap, sym, ◌∙◌}
+use Rattle.std.proofs.Common.{◌≡◌, true, false, None, Some, Option, refl, sym, ◌∙◌}
 use Rattle.std.proofs.lemmas.Bool.{false≢true}
 use Rattle.av_unit.specs.declared.item.Item.{Item}
 use Rattle.av_unit.specs.declared.item.Item.TheVariants as item

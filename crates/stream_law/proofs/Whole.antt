@@ -1,8 +1,8 @@
 -- A whole chain of frames asks only for the frames before its number.
-use Rattle.std.proofs.Common.{◌≡◌, ℕ, zero, suc, ◌+◌, ◌<◌, ◌≤◌, Bool, true, false, ◌&&◌, if◌then◌else◌, List, [], ◌∷◌, ◌++◌, length, take, drop, None, Some, Option, ◌⊎◌, inl, inr, refl, ap, sym, ◌∙◌, arith}
+use Rattle.std.proofs.Common.{◌≡◌, ℕ, suc, ◌+◌, ◌<◌, ◌≤◌, Bool, true, false, ◌&&◌, if◌then◌else◌, List, [], ◌∷◌, ◌++◌, length, take, drop, None, Some, Option, ◌⊎◌, inl, inr, refl, ap, sym, ◌∙◌, arith}
 use Rattle.std.specs.List.{slice_get}
 use Rattle.std.proofs.lemmas.List.{take-append-le}
-use Rattle.std.proofs.lemmas.Bool.{false≢true, cases_Bool}
+use Rattle.std.proofs.lemmas.Bool.{false≢true}
 use Rattle.av_unit.specs.declared.item.Item.{Item}
 use Rattle.av_unit.specs.declared.unit.Kind.TheVariants.{Key}
 use Rattle.stream_model.specs.Items.{last_of}
@@ -40,8 +40,9 @@ pub whole-push : (items : List Item) (numbers : List ℕ) (n m : ℕ) → (n ≤
     whole items (numbers ++ m ∷ []) n ≡ whole items numbers n
 whole-push items numbers n m h = whole_same items (numbers ++ m ∷ []) numbers n
     (λ k lt frame. has_number_else k m numbers (λ same. elim h [
-        inl le ↦ omega arith
-      | inr out ↦ false≢true (sym (rw same at out) ∙ frame) ]))
+      | inl le ↦ omega arith
+      | inr out ↦ false≢true (sym (rw same at out) ∙ frame)
+    ]))
 
 pub whole-append : (xs ys : List Item) (numbers : List ℕ) (n : ℕ) → n ≤ length xs → whole (xs ++ ys) numbers n ≡ whole xs numbers n
 whole-append xs ys numbers n le = rw (take-append-le n xs ys le) refl
