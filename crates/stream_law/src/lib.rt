@@ -9,7 +9,7 @@
 mod definitions;
 mod players;
 
-pub use definitions::{base_law, chain_law, configuration_law, join_law, live_law};
+pub use definitions::{chain_law, configuration_law, join_law, live_law, window_law};
 pub use players::{
     chains_law, configurations_law, items_law, numbers_law, takes_alone, turns_law, viewers_law,
 };
