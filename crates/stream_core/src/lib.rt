@@ -14,3 +14,6 @@ mod walks;
 
 pub use stream::Stream;
 pub use stream_model::{Call, Entry, Reply, StreamLimits, Taken};
+
+#[cfg(test)]
+mod tests;
