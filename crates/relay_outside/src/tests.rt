@@ -59,7 +59,7 @@ fn a_sink_fails_in_the_middle(rt: HostRuntime) -> Result<(), Fail> {
     let first = put(&mut sink, b"\x01\x02");
     if first == Put::OutOfMemory {
         assert!(rt; sink.bytes().is_empty());
-        return Ok(());
+        return Err(AllocError.into());
     }
     assert!(rt; first == Put::Took(2));
     assert!(rt; put(&mut sink, b"\x03") == Put::Failed);

@@ -1,3 +1,3 @@
-pub mod Seat
+pub mod PlaceState
 pub mod Tally
 pub mod IsPast

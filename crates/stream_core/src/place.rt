@@ -2,7 +2,7 @@
 ghost use Rattle.std.specs.Prelude.{◌≡◌, ℕ, ◌+◌, ◌<◌, ◌≤◌, ◌^◌, [], ◌∷◌, ◌++◌, None, Some, false, OnOk, OnErr, vec_len, slice_index_or};
 ghost use Rattle.stream_model.specs.Answer.{is_who};
 ghost use Rattle.stream_model.specs.Chain.{has_number};
-ghost use Rattle.stream_core.specs.Seat.{free_seat};
+ghost use Rattle.stream_core.specs.PlaceState.{free_state};
 
 use av_unit::OutOfMemory;
 use std::alloc::Global;
@@ -21,9 +21,9 @@ pub struct Place {
 impl Model for Place {
     ghost use Rattle.std.specs.Prelude.{◌≡◌, ℕ, false, slice_index_or};
     ghost use Rattle.stream_model.specs.Chain.{has_number};
-    ghost use Rattle.stream_core.specs.Seat.{Seat};
+    ghost use Rattle.stream_core.specs.PlaceState.{PlaceState};
 
-    ghost Value = { Seat };
+    ghost Value = { PlaceState };
 
     ghost view = { λ p. record { holder = p.who; cursor = p.next; sent = p.numbers.items } };
 
@@ -32,7 +32,7 @@ impl Model for Place {
 
 impl Place {
     pub fn free(alloc: Global) -> Place
-        ensures { result ≡ free_seat }
+        ensures { result ≡ free_state }
     {
         Place {
             who: None,

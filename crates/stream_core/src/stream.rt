@@ -4,7 +4,7 @@ ghost use Rattle.stream_model.specs.Answer.{free_place, reply};
 ghost use Rattle.stream_model.specs.History.{items_of};
 ghost use Rattle.stream_model.specs.Known.{Known, answered, IsLawful};
 ghost use Rattle.stream_model.specs.Legal.{Legal};
-ghost use Rattle.stream_core.specs.Seat.{free_seat};
+ghost use Rattle.stream_core.specs.PlaceState.{free_state};
 ghost use Rattle.stream_core.specs.Tally.{tally_after};
 
 use crate::place::Place;
@@ -59,7 +59,8 @@ impl Stream {
         })
     }
 
-    /// Answers the call by the rules of one stream, or nothing is done for want of memory. Whatever
+    /// Answers the call by the rules of one stream, or nothing is done for want of memory, on condition
+    /// that fewer than 2^62 items were published. Whatever
     /// the calls so far, what each player was sent since its Join keeps the viewer's law.
     pub fn apply(&mut self, entry: Entry) -> Result<Reply, OutOfMemory>
         requires { length (items_of self.old.past) < 2 ^ 62 }
@@ -68,13 +69,13 @@ impl Stream {
         ensures viewers { (place : ℕ) → Legal self.new.limits self.new.past place }
     {
         let reply = self.answer(entry);
-        self.lawful();
+        self.history_law();
         reply
     }
 
     /// Each call so far was answered by the rules, and what each player was sent keeps the viewer's
     /// law.
-    pub fn lawful(&self)
+    pub fn history_law(&self)
         ensures rules { IsLawful self.now.limits self.now.past }
         ensures viewers { (place : ℕ) → Legal self.now.limits self.now.past place }
     {
@@ -187,11 +188,11 @@ impl Stream {
         if place >= self.places.len() {
             return Ok(noted(&mut self.past, &mut self.tally, seen, Reply::NotPlayer));
         }
-        let seat = &mut self.places[place];
-        if !seat.is_held_by(who) {
+        let state = &mut self.places[place];
+        if !state.is_held_by(who) {
             return Ok(noted(&mut self.past, &mut self.tally, seen, Reply::NotPlayer));
         }
-        let taken = answer(&self.limits, &self.items, seat, want)?;
+        let taken = answer(&self.limits, &self.items, state, want)?;
         Ok(noted(&mut self.past, &mut self.tally, seen, taken.into_reply()))
     }
 
@@ -203,11 +204,11 @@ impl Stream {
         if place >= self.places.len() {
             return noted(&mut self.past, &mut self.tally, seen, Reply::NotPlayer);
         }
-        let seat = &mut self.places[place];
-        if !seat.is_held_by(who) {
+        let state = &mut self.places[place];
+        if !state.is_held_by(who) {
             return noted(&mut self.past, &mut self.tally, seen, Reply::NotPlayer);
         }
-        seat.leave();
+        state.leave();
         noted(
             &mut self.past,
             &mut self.tally,
@@ -241,7 +242,7 @@ fn noted(
 
 fn free_places(alloc: Global, count: u32) -> Result<Vec<Place>, OutOfMemory>
     ensures count { IfOk result (λ places. vec_len places ≡ count) }
-    ensures free { IfOk result (λ places. (p : ℕ) → slice_index_or places.items p free_seat ≡ free_seat) }
+    ensures free { IfOk result (λ places. (p : ℕ) → slice_index_or places.items p free_state ≡ free_state) }
 {
     let mut places = Vec::new(alloc);
     for _ in 0..count {
@@ -252,7 +253,7 @@ fn free_places(alloc: Global, count: u32) -> Result<Vec<Place>, OutOfMemory>
 
 // The least place that nobody holds.
 fn free_place(places: &[Place]) -> Option<usize>
-    ensures place { result ≡ free_place (λ p. (slice_index_or places.now p free_seat).holder) (length places.now) }
+    ensures place { result ≡ free_place (λ p. (slice_index_or places.now p free_state).holder) (length places.now) }
     ensures within { IfSome result (λ p. p < length places.now) }
 {
     let mut free = None;

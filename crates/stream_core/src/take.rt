@@ -4,7 +4,7 @@ ghost use Rattle.std.specs.List.{slice_get};
 ghost use Rattle.std.specs.Option.{IfSome};
 ghost use Rattle.stream_model.specs.Chain.{is_frame, frames_sent, whole};
 ghost use Rattle.stream_model.specs.Take.{takes, first_taken, at_kind, last_sent, unless_same, due, lower, first_due, number_sent, taken};
-ghost use Rattle.stream_core.specs.Seat.{seat_after};
+ghost use Rattle.stream_core.specs.PlaceState.{state_after};
 
 use crate::place::Place;
 use crate::shared::item_again;
@@ -177,7 +177,7 @@ pub fn answer(
     place: &mut Place,
     want: Want,
 ) -> Result<Taken, OutOfMemory>
-    ensures { MatchResult result (λ r. (r ≡ taken limits.now items.now place.old.cursor place.old.sent want) × (place.new ≡ seat_after r place.old)) (λ _. place.new ≡ place.old) }
+    ensures { MatchResult result (λ r. (r ≡ taken limits.now items.now place.old.cursor place.old.sent want) × (place.new ≡ state_after r place.old)) (λ _. place.new ≡ place.old) }
 {
     let from = place.cursor();
     if from < base(limits, items) as u64 {

@@ -12,7 +12,7 @@ pub struct StreamLimits {
 }
 
 /// A call at a stream.
-#[derive(Drop)]
+#[derive(Debug, PartialEq, Eq, Drop)]
 pub enum Call {
     /// Begins a broadcast.
     Begin,
@@ -31,11 +31,12 @@ pub enum Call {
 }
 
 /// A call with its caller.
-#[derive(Drop)]
+#[derive(Debug, PartialEq, Eq, Drop)]
 pub struct Entry {
     /// The name of the caller.
     pub who: u64,
     /// How many bytes of input the caller had been fed.
     pub at: u64,
+    /// What it asks.
     pub call: Call,
 }

@@ -5,7 +5,7 @@ use av_unit::Item;
 
 /// The answer of a stream to a call. Items are numbered from 0 in the order in which they were
 /// published.
-#[derive(Drop)]
+#[derive(Debug, PartialEq, Eq, Drop)]
 pub enum Reply {
     /// The broadcast has begun, with item `n`.
     Began {
@@ -66,7 +66,7 @@ pub enum Reply {
 }
 
 /// What the holder of a place is answered to a Take.
-#[derive(Drop)]
+#[derive(Debug, PartialEq, Eq, Drop)]
 pub enum Taken {
     /// Item `n`, taken with the cursor at `from`.
     Sent { from: u64, n: u64, item: Item },
