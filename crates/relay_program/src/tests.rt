@@ -31,11 +31,19 @@ fn words(alloc: Global) -> Result<Vec<Vec<u8>>, Fail> {
     Ok(vec![in alloc; b"drill".to_vec(alloc)?]?)
 }
 
+// The status, or that memory was refused.
+fn answered(status: Status) -> Result<Status, AllocError> {
+    if status.code == 6 {
+        return Err(AllocError);
+    }
+    Ok(status)
+}
+
 // What a drill of the script, in pieces of so many bytes, answers and writes.
 fn drilled(alloc: Global, script: &[u8], piece: usize) -> Result<(Status, Vec<u8>), Fail> {
     let mut input = source(alloc, script, piece, vec![in alloc]?)?;
     let mut out = MemSink::new(alloc, vec![in alloc]?);
-    let status = run(alloc, &words(alloc)?, &mut input, &mut out);
+    let status = answered(run(alloc, &words(alloc)?, &mut input, &mut out))?;
     Ok((status, out.bytes().to_vec(alloc)?))
 }
 
@@ -240,13 +248,13 @@ fn a_fault_in_mid_stream_keeps_what_stands_before(rt: HostRuntime) -> Result<(),
     let script = b"begin 1\nbegin 2\nbegin 3\n".as_slice();
     let mut input = source(alloc, script, 8, vec![in alloc; 1]?)?;
     let mut out = MemSink::new(alloc, vec![in alloc]?);
-    let status = drill(alloc, &words(alloc)?, &mut input, &mut out);
+    let status = answered(drill(alloc, &words(alloc)?, &mut input, &mut out))?;
     assert_eq!(rt; status, Status { code: 3, place: 0 });
     assert_eq!(rt; out.bytes(), b"began 0\n".as_slice());
 
     let mut input = source(alloc, script, 64, vec![in alloc]?)?;
     let mut out = MemSink::new(alloc, vec![in alloc; 1]?);
-    let status = drill(alloc, &words(alloc)?, &mut input, &mut out);
+    let status = answered(drill(alloc, &words(alloc)?, &mut input, &mut out))?;
     assert_eq!(rt; status, Status { code: 5, place: 0 });
     assert_eq!(rt; out.bytes(), b"began 0\n".as_slice());
     Ok(())
@@ -304,15 +312,14 @@ enum Verdict {
     Nothing,
     Step,
     Outside,
-    OutOfMemory,
 }
 
-fn judged(alloc: Global, line: &[u8]) -> Verdict {
+fn judged(alloc: Global, line: &[u8]) -> Result<Verdict, AllocError> {
     match drill_line(alloc, line) {
-        Ok(DrillLine::Nothing) => Verdict::Nothing,
-        Ok(DrillLine::Step(_)) => Verdict::Step,
-        Err(LineFail::Outside) => Verdict::Outside,
-        Err(LineFail::OutOfMemory) => Verdict::OutOfMemory,
+        Ok(DrillLine::Nothing) => Ok(Verdict::Nothing),
+        Ok(DrillLine::Step(_)) => Ok(Verdict::Step),
+        Err(LineFail::Outside) => Ok(Verdict::Outside),
+        Err(LineFail::OutOfMemory) => Err(AllocError),
     }
 }
 
@@ -320,7 +327,7 @@ fn judged(alloc: Global, line: &[u8]) -> Verdict {
 fn a_line_is_inside_the_grammar_or_outside(rt: HostRuntime) -> Result<(), Fail> {
     let alloc = rt.alloc();
     for line in [b"".as_slice(), b"#", b"# \t\r", b"#begin 1"] {
-        assert_eq!(rt; judged(alloc, line), Verdict::Nothing);
+        assert_eq!(rt; judged(alloc, line)?, Verdict::Nothing);
     }
     for line in [
         b"begin 0".as_slice(),
@@ -341,7 +348,7 @@ fn a_line_is_inside_the_grammar_or_outside(rt: HostRuntime) -> Result<(), Fail> 
         b"push 1 vconfig 0 65536",
         b"push 1 aconfig 0 65536",
     ] {
-        assert_eq!(rt; judged(alloc, line), Verdict::Step);
+        assert_eq!(rt; judged(alloc, line)?, Verdict::Step);
     }
     for line in [
         b" ".as_slice(),
@@ -384,7 +391,7 @@ fn a_line_is_inside_the_grammar_or_outside(rt: HostRuntime) -> Result<(), Fail> 
         b"held",
         b"frob",
     ] {
-        assert_eq!(rt; judged(alloc, line), Verdict::Outside);
+        assert_eq!(rt; judged(alloc, line)?, Verdict::Outside);
     }
     Ok(())
 }
