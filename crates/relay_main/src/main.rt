@@ -5,7 +5,8 @@ mod adapters;
 mod texts;
 
 use adapters::{Reading, Writing};
-use relay_program::{Status, run};
+use relay_base::Status;
+use relay_program::run;
 use std::process::ExitCode;
 use std::{env, io};
 use texts::{HELP, USAGE, VERSION};
