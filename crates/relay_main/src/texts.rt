@@ -1,0 +1,72 @@
+//! What the program tells of itself.
+
+pub const VERSION: &str = "relay 0.1.0\n";
+
+pub const USAGE: &str = "usage: relay drill < SCRIPT
+       relay --help
+       relay --version
+";
+
+pub const HELP: &str = "relay: a live video relay, whose rules are proved
+
+usage: relay drill < SCRIPT
+       relay --help
+       relay --version
+
+relay drill reads a script of calls at one stream on standard input, makes
+each call, and prints its reply on standard output as it goes.
+
+Lines end with a line feed; the last may lack it. Words are parted by one
+space. An empty line, and a line that begins with '#', does nothing. Numbers
+are decimal digits without a sign or a leading zero. The stream's window has
+at most 33554432 bytes and 16384 items, and the stream has 256 places.
+
+  begin WHO
+      WHO begins to publish.
+      began N              its Begin is item N
+      inuse BY             BY publishes already
+  push WHO KIND TIME LEN
+      WHO publishes a unit of LEN zero bytes at TIME milliseconds. KIND is
+      meta, vconfig, aconfig, key, inter, audio or data.
+      pushed N             the unit is item N
+      notpublisher LIVE    LIVE publishes and not WHO; - where nobody does
+  end WHO
+      WHO ends its broadcast.
+      ended N              its End is item N
+      notpublisher LIVE    as for push
+  join WHO
+      WHO becomes a player.
+      joined PLAYER FROM   its place is PLAYER, and stands at item FROM
+      full                 every place is taken
+  take WHO PLAYER WANT
+      WHO takes what comes next in its place PLAYER. WANT is av for audio and
+      video, a for audio alone, v for video alone, or n for neither.
+      item FROM N begin, item FROM N end, item FROM N KIND TIME LEN
+                           it is sent item N; its place stood at item FROM
+      skip FROM TO         the window has passed item FROM; its place moves to TO
+      notyet END           nothing more is there; the stream has END items
+      notplayer            the place isn't WHO's
+  leave WHO PLAYER
+      WHO gives its place PLAYER back.
+      left PLAYER          the place is free
+      notplayer            the place isn't WHO's
+  count
+      How many calls so far were answered so.
+      counts BEGAN PUSHED ENDED JOINED SKIPS
+
+WHO and TIME are below 4294967296, PLAYER is below 256. LEN is at most 4194304,
+and at most 65536 for meta, vconfig and aconfig. A line has at most 65536
+bytes, and a script at most 268435456.
+
+Exit status:
+  0  the script was read to its end
+  2  the command line is none of the above; nothing was read or written
+  3  standard input failed
+  4  a line of the script is none of the above; the replies to the lines
+     before it are written
+  5  standard output failed
+  6  there was too little memory
+Where it isn't 0, standard error has the line 'relay: status CODE at PLACE'.
+PLACE is the number of the script's line with code 4, the first being 1, and
+else 0.
+";
