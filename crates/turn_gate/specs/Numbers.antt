@@ -1,5 +1,5 @@
 -- A list of numbers, the machine of the tests. A call adds a number, and is answered by its place and the last number before it, or by None where there was no memory
-use Rattle.std.specs.Prelude.{◌≡◌, ℕ, List, [], ◌∷◌, ◌++◌, length, fold, Option, Some, None}
+use Rattle.std.specs.Prelude.{◌≡◌, ℕ, List, [], ◌∷◌, ◌++◌, length, ◌-◌, slice_index, fold, Option, Some, None}
 
 -- the list after a call
 abbrev pub added : List ℕ → ℕ → Option (ℕ × ℕ) → List ℕ
@@ -9,9 +9,9 @@ added xs number (Some reply) = xs ++ number ∷ []
 abbrev pub list_after : List ℕ → List (ℕ × Option (ℕ × ℕ)) → List ℕ
 list_after = fold (λ xs e. added xs e.0 e.1)
 
--- the last number, or 0
+-- the last number, or 0 where there is none
 abbrev pub last_number : List ℕ → ℕ
-last_number = fold (λ _ x. x) 0
+last_number xs = slice_index xs (length xs - 1)
 
 -- the reply that a list gives
 abbrev pub IsReply : List ℕ → Option (ℕ × ℕ) → Type 0
