@@ -1,5 +1,5 @@
 -- Each step on the count word keeps the rule
-use Rattle.std.proofs.Common.{◌≡◌, ◌≢◌, ◌⊎◌, ℕ, zero, suc, ◌+◌, ◌%◌, ◌^◌, ◌<◌, ◌≤◌, List, [], ◌∷◌, ◌++◌, length, get_or, set, Option, Some, Bool, true, false, true≢false, refl, sym, ap, ◌∙◌, subst, inl, inr, ⊎_elim, arith, length-set, length-append, get_or-set_same, cond, lt-ltb, append-nil}
+use Rattle.std.proofs.Common.{◌≡◌, ◌≢◌, ℕ, zero, suc, ◌+◌, ◌%◌, ◌^◌, ◌<◌, ◌≤◌, List, [], ◌∷◌, ◌++◌, length, get_or, set, Option, Some, true, false, refl, sym, ap, ◌∙◌, subst, ⊎_elim, arith, length-set, length-append, get_or-set_same, cond, lt-ltb, append-nil}
 use mathlib.Core.Logic.{dite}
 use mathlib.Core.Option.{none, some, some-injective, some-ne-none}
 use native.Mathlib.Decide.{ℕ_discrete, dec_le}
@@ -7,8 +7,8 @@ use lib.ListN.{get_elem?}
 use Rattle.atomic_table.specs.Table.{State, Me, keeps, Allows, Splits, Joins, opening}
 use Rattle.atomic_table.proofs.Lists.{at_set, set_here, set_else, at_snoc, at_longer}
 use Rattle.turn_gate.specs.declared.view.Count.{Count}
-use Rattle.turn_gate.specs.Histories.{Begins, longer, shorter, total, times, AreOwn}
-use Rattle.turn_gate.specs.CountTable.{count, blank, opener, newcomer, copied, handed, taken, noting, grown, claims, Fits, Keeps, CountRule, Looks, Learns, Adds}
+use Rattle.turn_gate.specs.Histories.{Begins, total, times, AreOwn}
+use Rattle.turn_gate.specs.CountTable.{blank, opener, newcomer, copied, handed, taken, noting, grown, claims, Fits, Keeps, CountRule, Looks, Learns, Adds}
 use Rattle.turn_gate.proofs.Places.{begins_less, begins_more, begins_both, longer_begins, longer_length, longer_whole, own_more, times-append, times_other, times_single, total-append, total-set, total_zero, term_le}
 use Rattle.turn_gate.proofs.Turning.{off, within}
 

@@ -1,5 +1,5 @@
 -- Histories of a list of numbers, and their ends
-use Rattle.std.proofs.Common.{◌≡◌, ℕ, List, [], ◌∷◌, ◌++◌, length, Option, Some, None, refl, sym, ap, ◌∙◌, subst}
+use Rattle.std.proofs.Common.{◌≡◌, ℕ, List, [], ◌∷◌, ◌++◌, Option, refl, sym, ap, ◌∙◌, subst}
 use Rattle.turn_gate.specs.Numbers.{added, list_after, IsReply, IsAnswered, Lists}
 
 list_more : (xs : List ℕ) (h : List (ℕ × Option (ℕ × ℕ))) (e : ℕ × Option (ℕ × ℕ)) → list_after xs (h ++ e ∷ []) ≡ added (list_after xs h) e.0 e.1

@@ -1,5 +1,5 @@
 -- Each step on the turn word keeps the rule
-use Rattle.std.proofs.Common.{◌≡◌, ◌≢◌, ◌⊎◌, ℕ, zero, suc, ◌+◌, ◌<◌, List, [], ◌∷◌, ◌++◌, length, get_or, set, Option, Some, Bool, true, false, true≢false, refl, sym, ap, ◌∙◌, subst, inl, inr, ⊎_elim, arith, length-set, get_or-set_same}
+use Rattle.std.proofs.Common.{◌≡◌, ◌≢◌, ℕ, zero, suc, ◌+◌, ◌<◌, List, [], ◌∷◌, ◌++◌, length, get_or, set, Option, Some, Bool, true, false, true≢false, refl, sym, ap, ◌∙◌, subst, ⊎_elim, arith, length-set, get_or-set_same}
 use mathlib.Core.Logic.{dite}
 use mathlib.Core.Option.{none, some, some-injective, some-ne-none}
 use native.Mathlib.Decide.{ℕ_discrete}
@@ -7,7 +7,7 @@ use lib.ListN.{get_elem?}
 use Rattle.atomic_table.specs.Table.{State, Me, keeps, takes, gives, Allows, Splits, opening}
 use Rattle.atomic_table.proofs.Lists.{at_set, set_here, set_else, at_snoc, at_longer, set_again}
 use Rattle.turn_gate.specs.declared.view.Turn.{Turn}
-use Rattle.turn_gate.specs.TurnTable.{turn, newcomer, OneHolds, NoneHolds, TurnRule, Seizes, Frees}
+use Rattle.turn_gate.specs.TurnTable.{turn, newcomer, OneHolds, TurnRule, Seizes, Frees}
 
 pub off : {b : Bool} → b ≡ false → b ≡ true → ⊥
 off un so = true≢false (sym so ∙ un)

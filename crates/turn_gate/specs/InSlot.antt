@@ -1,5 +1,5 @@
 -- What lies in the slot of the turn table while it is at home
-use Rattle.std.specs.Prelude.{◌≡◌, ℕ, true, List, [], ◌∷◌}
+use Rattle.std.specs.Prelude.{◌≡◌, true, List, [], ◌∷◌}
 use Rattle.atomic_table.specs.declared.shared.Seat.{Seat}
 use Rattle.turn_gate.specs.declared.view.Count.{Count}
 use Rattle.turn_gate.specs.declared.view.Kept.{Kept}

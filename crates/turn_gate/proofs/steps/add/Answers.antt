@@ -1,4 +1,4 @@
-use Rattle.std.proofs.Common.{rules, ◌≡◌, ◌∷◌, [], ap, sym, refl, ◌∙◌, subst, true, false}
+use Rattle.std.proofs.Common.{rules}
 use Rattle.turn_gate.proofs.Counting.{adds}
 use Rattle.turn_gate.proofs.steps.add.Goals as goal
 

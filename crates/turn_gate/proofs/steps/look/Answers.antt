@@ -1,5 +1,4 @@
-use Rattle.std.proofs.Common.{rules, ◌≡◌, ◌∷◌, [], ap, sym, refl, ◌∙◌, subst, true, false}
-use Rattle.atomic_table.specs.Table.{Splits, Joins}
+use Rattle.std.proofs.Common.{rules}
 use Rattle.turn_gate.proofs.Counting.{looks, new_pass, notes}
 use Rattle.turn_gate.proofs.steps.look.Goals as goal
 

@@ -1,4 +1,4 @@
-use Rattle.std.proofs.Common.{rules, refl, sym, ◌∙◌}
+use Rattle.std.proofs.Common.{rules, ◌∙◌}
 use Rattle.turn_gate.specs.InSlot.{InSlot}
 use Rattle.turn_gate.proofs.Turning.{frees}
 use Rattle.turn_gate.proofs.steps.put_back.Goals as goal

@@ -1,4 +1,4 @@
-use Rattle.std.proofs.Common.{rules, ◌≡◌, ◌∷◌, [], ap, sym, refl, ◌∙◌, subst, true, false}
+use Rattle.std.proofs.Common.{rules}
 use Rattle.turn_gate.proofs.Counting.{copies, takes_in}
 use Rattle.turn_gate.proofs.steps.tell.Goals as goal
 

@@ -1,4 +1,4 @@
-use Rattle.std.proofs.Common.{rules, arith, ◌≡◌, ◌<◌, ◌^◌, ◌+◌, ◌∷◌, [], ◌++◌, length, ap, sym, refl, ◌∙◌, subst, true, false, Some, length-append}
+use Rattle.std.proofs.Common.{rules, arith, ◌≡◌, ◌<◌, ◌^◌, ◌+◌, ◌∷◌, [], length, ap, sym, refl, ◌∙◌, subst, Some, length-append}
 use Rattle.atomic_table.specs.Table.{rest}
 use Rattle.turn_gate.specs.InSlot.{InSlot}
 use Rattle.turn_gate.specs.CountTable.{copied, taken, noting, grown}

@@ -1,4 +1,4 @@
-use Rattle.std.proofs.Common.{rules, [], ◌∷◌, ap, sym, ◌∙◌, refl, subst, ◌≡◌}
+use Rattle.std.proofs.Common.{rules, [], sym, subst, ◌≡◌}
 use Rattle.turn_gate.specs.InSlot.{InSlot}
 use Rattle.turn_gate.proofs.Turning.{starts_at}
 use Rattle.turn_gate.proofs.Counting.{starts, new_pass}
