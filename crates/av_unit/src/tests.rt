@@ -1,0 +1,244 @@
+use super::*;
+use std::test::Fail;
+
+fn some(kind: Kind, from: usize) -> Option<Class> {
+    Some(Class { kind, from })
+}
+
+// The AVC bodies and the metadata are the first bytes of those that ffmpeg 5.1.9 publishes; `12 10`
+// is the AudioSpecificConfig of AAC LC at 44,100 Hz in stereo, and `2f ff fb` begins MP3.
+#[test]
+fn a_message_has_the_class_of_the_first_row_that_fits(rt: HostRuntime) {
+    for (message, body, want) in [
+        // Empty bodies.
+        (8, b"".as_slice(), None),
+        (9, b"".as_slice(), None),
+        (18, b"".as_slice(), None),
+        // Audio.
+        (8, b"\xaf\x00\x12\x10".as_slice(), some(Kind::AConfig, 0)),
+        (8, b"\xa0\x00".as_slice(), some(Kind::AConfig, 0)),
+        (8, b"\xaf\x01\x21\x1b\x8f".as_slice(), some(Kind::Audio, 0)),
+        (8, b"\xaf".as_slice(), some(Kind::Audio, 0)),
+        (8, b"\x2f\xff\xfb\x90".as_slice(), some(Kind::Audio, 0)),
+        (8, b"\x2f\x00".as_slice(), some(Kind::Audio, 0)),
+        // Video of a frame type that isn't a picture's.
+        (9, b"\x07\x01".as_slice(), None),
+        (9, b"\x57\x01".as_slice(), None),
+        (9, b"\x52\x00".as_slice(), None),
+        (9, b"\xf2\x00".as_slice(), None),
+        // AVC.
+        (9, b"\x17".as_slice(), None),
+        (
+            9,
+            b"\x17\x00\x00\x00\x00\x01\x4d\x40\x0d\xff\xe1".as_slice(),
+            some(Kind::VConfig, 0),
+        ),
+        (9, b"\x27\x00".as_slice(), some(Kind::VConfig, 0)),
+        (
+            9,
+            b"\x17\x01\x00\x00\x50\x00\x00\x02\xba\x06".as_slice(),
+            some(Kind::Key, 0),
+        ),
+        (9, b"\x47\x01".as_slice(), some(Kind::Key, 0)),
+        (
+            9,
+            b"\x27\x01\x00\x00\xc8\x00\x00\x05\x09\x41".as_slice(),
+            some(Kind::Inter, 0),
+        ),
+        (9, b"\x37\x01".as_slice(), some(Kind::Inter, 0)),
+        (9, b"\x17\x02\x00\x00\x00".as_slice(), None),
+        (9, b"\x27\x03".as_slice(), None),
+        // Other codecs.
+        (9, b"\x12".as_slice(), some(Kind::Key, 0)),
+        (9, b"\x14\x00".as_slice(), some(Kind::Key, 0)),
+        (9, b"\x42\x02".as_slice(), some(Kind::Key, 0)),
+        (9, b"\x22\x00".as_slice(), some(Kind::Inter, 0)),
+        (9, b"\x32\x02".as_slice(), some(Kind::Inter, 0)),
+        // Data.
+        (
+            18,
+            b"\x02\x00\x0d@setDataFrame\x02\x00\x0aonMetaData\x08\x00\x00".as_slice(),
+            some(Kind::Meta, 16),
+        ),
+        (
+            18,
+            b"\x02\x00\x0d@setDataFrame\x02\x00\x0bonTextData\x08\x00\x00".as_slice(),
+            some(Kind::Data, 16),
+        ),
+        (18, b"\x02\x00\x0d@setDataFrame".as_slice(), None),
+        (
+            18,
+            b"\x02\x00\x0d@setDataFrame\x02\x00\x0d@setDataFrame".as_slice(),
+            some(Kind::Data, 16),
+        ),
+        (
+            18,
+            b"\x02\x00\x0d@setDataFram".as_slice(),
+            some(Kind::Data, 0),
+        ),
+        (
+            18,
+            b"\x02\x00\x0aonMetaData".as_slice(),
+            some(Kind::Meta, 0),
+        ),
+        (18, b"\x02\x00\x0aonMetaDat".as_slice(), some(Kind::Data, 0)),
+        (
+            18,
+            b"\x02\x00\x0aonCuePoint\x03".as_slice(),
+            some(Kind::Data, 0),
+        ),
+        (18, b"\x02".as_slice(), some(Kind::Data, 0)),
+        // Other types.
+        (1, b"\xaf\x00\x12\x10".as_slice(), None),
+        (15, b"\x02\x00\x0aonMetaData".as_slice(), None),
+        (
+            20,
+            b"\x02\x00\x0d@setDataFrame\x02\x00\x0aonMetaData".as_slice(),
+            None,
+        ),
+        (22, b"\x17\x01\x00\x00\x50".as_slice(), None),
+    ] {
+        assert_eq!(rt; class(message, body), want, "type {message}, body {body:?}");
+    }
+}
+
+#[test]
+fn a_configuration_has_at_most_65_536_bytes(rt: HostRuntime) -> Result<(), Fail> {
+    let alloc = rt.alloc();
+    let name = b"\x02\x00\x0d@setDataFrame".as_slice();
+    for (message, front, begin, more, want) in [
+        (
+            8,
+            b"".as_slice(),
+            b"\xaf\x00".as_slice(),
+            65_534,
+            some(Kind::AConfig, 0),
+        ),
+        (8, b"".as_slice(), b"\xaf\x00".as_slice(), 65_535, None),
+        (
+            8,
+            b"".as_slice(),
+            b"\xaf\x01".as_slice(),
+            65_535,
+            some(Kind::Audio, 0),
+        ),
+        (
+            9,
+            b"".as_slice(),
+            b"\x17\x00".as_slice(),
+            65_534,
+            some(Kind::VConfig, 0),
+        ),
+        (9, b"".as_slice(), b"\x17\x00".as_slice(), 65_535, None),
+        (
+            9,
+            b"".as_slice(),
+            b"\x17\x01".as_slice(),
+            65_535,
+            some(Kind::Key, 0),
+        ),
+        (
+            18,
+            b"".as_slice(),
+            b"\x02\x00\x0aonMetaData".as_slice(),
+            65_523,
+            some(Kind::Meta, 0),
+        ),
+        (
+            18,
+            b"".as_slice(),
+            b"\x02\x00\x0aonMetaData".as_slice(),
+            65_524,
+            None,
+        ),
+        (
+            18,
+            name,
+            b"\x02\x00\x0aonMetaData".as_slice(),
+            65_523,
+            some(Kind::Meta, 16),
+        ),
+        (18, name, b"\x02\x00\x0aonMetaData".as_slice(), 65_524, None),
+        (
+            18,
+            name,
+            b"\x02\x00\x0aonTextData".as_slice(),
+            65_524,
+            some(Kind::Data, 16),
+        ),
+    ] {
+        let mut body = Bytes::new(alloc);
+        body.append(front)?;
+        body.append(begin)?;
+        body.append(vec![in alloc; 0; more]?.as_slice())?;
+        assert_eq!(rt;
+            class(message, body.as_slice()),
+            want,
+            "type {message}, {more} more"
+        );
+    }
+    Ok(())
+}
+
+#[test]
+fn a_unit_is_what_follows_the_name(rt: HostRuntime) -> Result<(), Fail> {
+    let alloc = rt.alloc();
+    for (message, body, want) in [
+        (
+            18,
+            b"\x02\x00\x0d@setDataFrame\x02\x00\x0aonMetaData\x08".as_slice(),
+            Some((Kind::Meta, b"\x02\x00\x0aonMetaData\x08".as_slice())),
+        ),
+        (
+            9,
+            b"\x27\x01\x00\x00\xc8".as_slice(),
+            Some((Kind::Inter, b"\x27\x01\x00\x00\xc8".as_slice())),
+        ),
+        (9, b"\x17\x02\x00\x00\x00".as_slice(), None),
+    ] {
+        let mut given = Bytes::new(alloc);
+        given.append(body)?;
+        let Some(unit) = unit_of(message, 4_294_967_295, given) else {
+            assert!(rt; want.is_none());
+            continue;
+        };
+        assert_eq!(rt; Some((unit.kind, unit.body.as_slice())), want);
+        assert_eq!(rt; unit.time, 4_294_967_295);
+        assert_eq!(rt; message_kind(unit.kind), message);
+    }
+    Ok(())
+}
+
+#[test]
+fn an_item_costs_its_body_and_64(rt: HostRuntime) -> Result<(), Fail> {
+    let body = Bytes::from_vec(vec![in rt.alloc(); 0; 1_000]?);
+    let unit = Unit {
+        kind: Kind::Key,
+        time: 7,
+        body,
+    };
+    assert_eq!(rt; cost(&Item::Unit(UnitArc::new(rt.alloc(), unit)?)), 1_064);
+    assert_eq!(rt; cost(&Item::Begin), 64);
+    assert_eq!(rt; cost(&Item::End), 64);
+    Ok(())
+}
+
+#[test]
+fn lists_are_made_from_vectors_and_give_them_back(rt: HostRuntime) -> Result<(), Fail> {
+    let alloc = rt.alloc();
+    let bytes = Bytes::from_vec(vec![in alloc; 5, 6]?);
+    assert!(rt; bytes.len() == 2 && !bytes.is_empty());
+    let keys = KeyList::from_vec(vec![in alloc; bytes]?);
+    assert!(rt; keys.len() == 1 && !keys.is_empty());
+    for key in keys.as_slice() {
+        assert_eq!(rt; key.as_slice(), [5, 6].as_slice());
+    }
+    for key in keys.into_vec() {
+        assert_eq!(rt; key.into_vec().as_slice(), [5, 6].as_slice());
+    }
+    assert_eq!(rt;
+        format!(in alloc; "{OutOfMemory}")?.as_str(),
+        "out of memory"
+    );
+    Ok(())
+}
