@@ -1,5 +1,5 @@
 -- Each step on the count word keeps the rule
-use Rattle.std.proofs.Common.{◌≡◌, ◌≢◌, ℕ, zero, suc, ◌+◌, ◌%◌, ◌^◌, ◌<◌, ◌≤◌, List, [], ◌∷◌, ◌++◌, length, get_or, set, Option, Some, true, false, refl, sym, ap, ◌∙◌, subst, ⊎_elim, arith, length-set, length-append, get_or-set_same, cond, lt-ltb, append-nil}
+use Rattle.std.proofs.Common.{◌≡◌, ◌≢◌, ℕ, zero, suc, ◌+◌, ◌%◌, ◌^◌, ◌<◌, ◌≤◌, List, [], ◌∷◌, ◌++◌, length, get_or, set, Option, Some, true, false, refl, sym, ap, ◌∙◌, subst, ⊎_elim, arith, length-set, length-append, get_or-set_same}
 use mathlib.Core.Logic.{dite}
 use mathlib.Core.Option.{none, some, some-injective, some-ne-none}
 use native.Mathlib.Decide.{ℕ_discrete, dec_le}
@@ -7,9 +7,9 @@ use lib.ListN.{get_elem?}
 use Rattle.atomic_table.specs.Table.{State, Me, keeps, Allows, Splits, Joins, opening}
 use Rattle.atomic_table.proofs.Lists.{at_set, set_here, set_else, at_snoc, at_longer}
 use Rattle.turn_gate.specs.declared.view.Count.{Count}
-use Rattle.turn_gate.specs.Histories.{Begins, total, times, AreOwn}
+use Rattle.turn_gate.specs.Histories.{Begins, total, times}
 use Rattle.turn_gate.specs.CountTable.{blank, opener, newcomer, copied, handed, taken, noting, grown, claims, Fits, Keeps, CountRule, Looks, Learns, Adds}
-use Rattle.turn_gate.proofs.Places.{begins_less, begins_more, begins_both, longer_begins, longer_length, longer_whole, own_more, times-append, times_other, times_single, total-append, total-set, total_zero, term_le}
+use Rattle.turn_gate.proofs.Places.{begins_less, begins_more, begins_both, longer_begins, longer_length, times-append, times_other, times_single, total-append, total-set, total_zero, term_le}
 use Rattle.turn_gate.proofs.Turning.{off, within}
 
 module _ {C R : Type 0} where
@@ -181,21 +181,3 @@ module _ {C R : Type 0} where
         first : (j : ℕ) (v : Count C R) → get_elem? (opener ∷ []) j ≡ some v → Fits 0 [] j v
         first zero v e = subst (λ (u : Count C R). Fits 0 [] 0 u) (some-injective opener v e) record { keeps = λ _. (refl, refl); seen = ([], refl); noted = ([], refl); mine = λ p h. absurd (omega arith); fresh = λ p h. absurd (omega arith) }
         first (suc j) v e = absurd (some-ne-none v (sym e))
-
-  -- what a pass has, once the keeper has added its call and told it
-  pub extends : (v k x : Count C R) (e : C × R) → Begins v.seen k.whole → x ≡ taken v (copied (grown (noting k v) e)) → (x.seen ≡ k.whole ++ e ∷ []) × (x.mine ≡ v.mine ++ length k.whole ∷ [])
-  extends v k x e b is =
-      let l = begins_less v.seen k.whole b in let long : length (k.whole ++ e ∷ []) ≡ length k.whole + 1 = length-append k.whole (e ∷ []) in
-      (ap (λ (y : Count C R). y.seen) is ∙ ap (λ t. cond t (k.whole ++ e ∷ []) v.seen) (lt-ltb (length v.seen) (length (k.whole ++ e ∷ [])) (omega arith)), ap (λ (y : Count C R). y.mine) is)
-
-  -- its own calls have then each a place of its own
-  pub extends_own : (v k x : Count C R) (e : C × R) → Begins v.seen k.whole → AreOwn v.mine (length v.seen) → x ≡ taken v (copied (grown (noting k v) e)) → AreOwn x.mine (length x.seen)
-  extends_own v k x e b own is =
-      let t = extends v k x e b is in let long : length x.seen ≡ length k.whole + 1 = ap length t.0 ∙ length-append k.whole (e ∷ []) in
-      let places = own_more v.mine (length v.seen) (length k.whole) own (begins_less v.seen k.whole b) in
-      subst (λ (y : List ℕ × ℕ). AreOwn y.0 y.1) (λ i. (sym t.1 i, sym long i)) places
-
-  -- what a pass has, once the keeper of a full history has told it all
-  pub wears : (v k x : Count C R) → Begins v.seen k.whole → k.fresh ≡ [] → x ≡ taken v (copied (noting k v)) → (x.seen ≡ k.whole) × (x.mine ≡ v.mine)
-  wears v k x b none_fresh is =
-      (ap (λ (y : Count C R). y.seen) is ∙ longer_whole v.seen k.whole b, ap (λ (y : Count C R). y.mine) is ∙ (ap (λ (f : List ℕ). v.mine ++ f) none_fresh ∙ append-nil v.mine))

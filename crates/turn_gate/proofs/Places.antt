@@ -1,5 +1,5 @@
 -- Beginnings of lists, and how often a place stands in a list
-use Rattle.std.proofs.Common.{◌≡◌, ◌≢◌, ◌⊎◌, ℕ, zero, suc, ◌+◌, ◌<◌, ◌≤◌, List, [], ◌∷◌, ◌++◌, length, drop, get_or, set, refl, sym, ap, ◌∙◌, subst, inl, inr, arith, cond, eq-eqb, ne_eqb, lt-ltb, le-ltb, length-append, append_assoc, append-nil, lt_of_not-le}
+use Rattle.std.proofs.Common.{◌≡◌, ◌≢◌, ℕ, zero, suc, ◌+◌, ◌<◌, ◌≤◌, List, [], ◌∷◌, ◌++◌, length, drop, get_or, set, refl, sym, ap, ◌∙◌, subst, arith, cond, eq-eqb, ne_eqb, lt-ltb, le-ltb, length-append, append_assoc, lt_of_not-le}
 use mathlib.Core.Logic.{dite}
 use mathlib.Core.Option.{some, some-injective, some-ne-none}
 use native.Mathlib.Decide.{ℕ_discrete, dec_le}
@@ -33,14 +33,6 @@ module _ {E : Type 0} where
 
   pub longer_length : (xs ys : List E) → (length xs ≤ length (longer xs ys)) × (length ys ≤ length (longer xs ys)) × (length (shorter xs ys) ≤ length (longer xs ys))
   longer_length xs ys = pick (λ p q. (length xs ≤ length p) × (length ys ≤ length p) × (length q ≤ length p)) xs ys (λ l. (omega arith, l, l)) (λ l. (omega arith, omega arith, omega arith))
-
-  -- where the shorter begins the longer, both begin it
-  pub both_begin : (xs ys : List E) → Begins (shorter xs ys) (longer xs ys) → Begins xs (longer xs ys) × Begins ys (longer xs ys)
-  both_begin xs ys = pick (λ p q. Begins q p → Begins xs p × Begins ys p) xs ys (λ _ b. (([], append-nil xs), b)) (λ _ b. (b, ([], append-nil ys)))
-
-  -- and so one begins the other
-  pub one_begins : (xs ys : List E) → Begins (shorter xs ys) (longer xs ys) → Begins xs ys ⊎ Begins ys xs
-  one_begins xs ys = pick (λ p q. Begins q p → Begins xs ys ⊎ Begins ys xs) xs ys (λ _ b. inr b) (λ _ b. inl b)
 
   -- a list that is no longer than its own beginning is that beginning
   begins_whole : (xs ys : List E) → Begins xs ys → length ys ≤ length xs → xs ≡ ys

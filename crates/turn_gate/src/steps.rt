@@ -1,7 +1,7 @@
 //! The steps on the two tables.
 ghost use Rattle.std.specs.Prelude.{◌≡◌, ◌+◌, ◌^◌, ◌<◌, ◌≤◌, [], ◌∷◌, ◌++◌, true, false, length, Some};
 ghost use Rattle.turn_gate.specs.Histories.{Begins};
-ghost use Rattle.turn_gate.specs.CountTable.{copied, handed, taken, noting, grown};
+ghost use Rattle.turn_gate.specs.CountTable.{handed, noting, grown};
 
 use crate::machine::Machine;
 use crate::rule::{Add, Copied, Counts, Free, Look, Mark, Newcomer, Noted, Said, Taken, Turns};
@@ -47,8 +47,11 @@ pub(crate) fn tell<T: Machine>(
     requires tables { (counts.now.table_id.words ≡ 1) × (count.old.table_id ≡ counts.now.table_id) × (keeper.old.table_id ≡ counts.now.table_id) }
     requires keeper { keeper.old.me.0.keeps ≡ true }
     requires pass { (count.old.me.0.keeps ≡ false) × (count.old.me.0.fresh ≡ []) }
+    requires begins { Begins count.old.me.0.seen keeper.old.me.0.whole }
     ensures tables { (count.new.table_id ≡ count.old.table_id) × (keeper.new.table_id ≡ keeper.old.table_id) }
-    ensures count { count.new.me ≡ (taken count.old.me.0 (copied keeper.old.me.0), count.old.me.1) }
+    ensures seen { count.new.me.0.seen ≡ keeper.old.me.0.whole }
+    ensures mine { count.new.me.0.mine ≡ count.old.me.0.mine ++ keeper.old.me.0.fresh }
+    ensures pass { (count.new.me.0.keeps ≡ false) × (count.new.me.0.fresh ≡ []) × (count.new.me.1 ≡ count.old.me.1) }
     ensures keeper { keeper.new.me ≡ (handed keeper.old.me.0, keeper.old.me.1) }
 {
     let copy = counts.split_seat::<Copied>(keeper);

@@ -79,8 +79,24 @@ fn add(gate: &Gate<Numbers>, pass: &mut Pass<Numbers>, number: u64) -> Reply
     None
 }
 
+fn is_send<X: Send>() {}
+
+fn is_sync<X: Sync>() {}
+
+/// A gate and its passes may cross threads where the machine, its calls and its replies may.
+fn cross_threads<T: Machine + Drop + Send>()
+where
+    T::Call: Send,
+    T::Reply: Send,
+{
+    is_send::<Gate<T>>();
+    is_sync::<Gate<T>>();
+    is_send::<Pass<T>>();
+}
+
 #[test]
 fn a_split_pass_has_seen_the_call_in_another_thread(rt: HostRuntime) -> Result<(), Fail> {
+    cross_threads::<Numbers>();
     let (gate, mut mine) = new_gate(rt.alloc())?;
     assert_eq!(rt; add(&gate, &mut mine, 7), Some((0, 0)));
     assert_eq!(rt; mine.seen(), 1);

@@ -1,8 +1,8 @@
-use Rattle.std.proofs.Common.{rules, arith, ◌≡◌, ◌<◌, ◌^◌, ◌+◌, ◌∷◌, [], length, ap, sym, refl, ◌∙◌, subst, Some, length-append}
+use Rattle.std.proofs.Common.{rules, arith, ◌≡◌, ℕ, List, ◌<◌, ◌^◌, ◌+◌, ◌∷◌, [], ◌++◌, length, ap, sym, ◌∙◌, subst, Some, length-append}
 use Rattle.atomic_table.specs.Table.{rest}
+use Rattle.turn_gate.specs.Histories.{AreOwn}
 use Rattle.turn_gate.specs.InSlot.{InSlot}
-use Rattle.turn_gate.specs.CountTable.{copied, taken, noting, grown}
-use Rattle.turn_gate.proofs.Counting.{extends, extends_own, wears}
+use Rattle.turn_gate.proofs.Places.{begins_less, begins_more, own_more}
 use Rattle.turn_gate.proofs.Turning.{seizes}
 use Rattle.turn_gate.proofs.gate.Gate.call.Goals as goal
 
@@ -13,88 +13,54 @@ pub exchange-requires : goal.exchange-requires
 exchange-requires g c = let t = c.swap.ensures.2.0 (search rules) in
     (search rules, (Some t.1.0, t.1.1 ∙ ap (λ l. (0, Some t.1.0) ∷ rest l) (sym t.1.1)))
 
-pub returns-then-before-eq-FULL-clause-free : goal.returns-then-before-eq-FULL-clause-free
-returns-then-before-eq-FULL-clause-free g c = λ _.
+pub tell-requires-2-clause-begins : goal.tell-requires-2-clause-begins
+tell-requires-2-clause-begins g c =
     let v = c.pass.inside.count.me.0 in
     let k = c.into_seat-keeper.result.me.0 in
-    let p1 = c.look-before.ensures.count in
-    let p2 = c.look-before.ensures.keeper in
-    let p5 : c.tell.new.count.me.0 ≡ taken v (copied (noting k v)) = ap (λ m. m.0) c.tell.ensures.count ∙ (λ i. taken (p1 i).0 (copied (p2 i).0)) in
-    let found = c.look-before.ensures.found in
-    let long : length k.whole ≡ 2 ^ 62 = search rules in
-    let none_fresh : k.fresh ≡ [] = search rules in
-    let x = wears v k c.tell.new.count.me.0 found.2 none_fresh p5 in
-    rw (← c.pass.view_is) record {
-      before = k.whole;
-      begins = found.2;
-      bounded = omega arith;
-      room = λ short. absurd (omega arith);
-      full = λ _. (refl, x.0);
-    }
+    let e : g.row.T-Call.Denot × g.row.T-Reply.Denot = (c.args.call, c.apply-reply.result) in
+    let same : c.look-before.new.count.me.0.seen ≡ v.seen = search rules in
+    let whole : c.add.new.keeper.me.0.whole ≡ k.whole ++ e ∷ [] = search rules in
+    let more = begins_more v.seen k.whole (e ∷ []) c.look-before.ensures.found.2 in
+    (more.0, ap (λ l. l ++ more.0) same ∙ (more.1 ∙ sym whole))
 
 pub invariant_of-pass-2 : goal.invariant_of-pass-2
 invariant_of-pass-2 g c =
     let v = c.pass.inside.count.me.0 in
     let k = c.into_seat-keeper.result.me.0 in
     let e : g.row.T-Call.Denot × g.row.T-Reply.Denot = (c.args.call, c.apply-reply.result) in
-    let p1 = c.look-before.ensures.count in
-    let p2 = c.look-before.ensures.keeper in
-    let p3 : c.add.new.keeper.me.0 ≡ grown (noting k v) e = ap (λ m. m.0) c.add.ensures.grown ∙ (λ i. grown (p2 i).0 (c.of-asked.ensures i, c.apply-reply.result)) in
-    let p5 : c.tell-2.new.count.me.0 ≡ taken v (copied (grown (noting k v) e)) = ap (λ m. m.0) c.tell-2.ensures.count ∙ (λ i. taken (p1 i).0 (copied (p3 i))) in
-    let found = c.look-before.ensures.found in
     let stood : g.T.Machine.stands c.unwrap-machine.result.machine k.whole = search rules in
     let short : length k.whole < 2 ^ 62 = search rules in
-    let stands = c.apply-reply.ensures k.whole stood short in
-    let x = extends v k _ e found.2 p5 in
-    let long : length c.tell-2.new.count.me.0.seen ≡ length k.whole + 1 = ap length x.0 ∙ length-append k.whole (e ∷ []) in
-    (search rules, search rules, search rules, search rules, search rules, search rules, omega arith, extends_own v k _ e found.2 c.pass.invariant.7 p5, subst g.T.Machine.lawful (sym x.0) (g.met.T.Machine.legal _ _ stands))
+    let legal = g.met.T.Machine.legal _ _ (c.apply-reply.ensures k.whole stood short) in
+    let seen : c.tell-2.new.count.me.0.seen ≡ k.whole ++ e ∷ [] = search rules in
+    let mine : c.tell-2.new.count.me.0.mine ≡ v.mine ++ length k.whole ∷ [] = search rules in
+    let long : length c.tell-2.new.count.me.0.seen ≡ length k.whole + 1 = ap length seen ∙ length-append k.whole (e ∷ []) in
+    let own = own_more v.mine (length v.seen) (length k.whole) c.pass.invariant.7 (begins_less v.seen k.whole c.look-before.ensures.found.2) in
+    (search rules, search rules, search rules, search rules, search rules, search rules, omega arith, subst (λ (y : List ℕ × ℕ). AreOwn y.0 y.1) (λ i. (sym mine i, sym long i)) own, subst g.T.Machine.lawful (sym seen) legal)
 
 pub returns-clause-reply : goal.returns-clause-reply
 returns-clause-reply g c =
     let v = c.pass.inside.count.me.0 in
     let k = c.into_seat-keeper.result.me.0 in
     let e : g.row.T-Call.Denot × g.row.T-Reply.Denot = (c.args.call, c.apply-reply.result) in
-    let p1 = c.look-before.ensures.count in
-    let p2 = c.look-before.ensures.keeper in
-    let p3 : c.add.new.keeper.me.0 ≡ grown (noting k v) e = ap (λ m. m.0) c.add.ensures.grown ∙ (λ i. grown (p2 i).0 (c.of-asked.ensures i, c.apply-reply.result)) in
-    let p5 : c.tell-2.new.count.me.0 ≡ taken v (copied (grown (noting k v) e)) = ap (λ m. m.0) c.tell-2.ensures.count ∙ (λ i. taken (p1 i).0 (copied (p3 i))) in
-    let found = c.look-before.ensures.found in
     let stood : g.T.Machine.stands c.unwrap-machine.result.machine k.whole = search rules in
     let short : length k.whole < 2 ^ 62 = search rules in
-    let stands = c.apply-reply.ensures k.whole stood short in
-    let x = extends v k _ e found.2 p5 in
-    let a : c.put_back-2.new.turn.table_id ≡ c.pass.inside.turn.table_id = search rules in
-    let b : c.tell-2.new.count.table_id ≡ c.pass.inside.count.table_id = search rules in
+    let legal = g.met.T.Machine.legal _ _ (c.apply-reply.ensures k.whole stood short) in
+    let seen : c.tell-2.new.count.me.0.seen ≡ k.whole ++ e ∷ [] = search rules in
+    let mine : c.tell-2.new.count.me.0.mine ≡ v.mine ++ length k.whole ∷ [] = search rules in
+    let long : length c.tell-2.new.count.me.0.seen ≡ length k.whole + 1 = ap length seen ∙ length-append k.whole (e ∷ []) in
+    let own = own_more v.mine (length v.seen) (length k.whole) c.pass.invariant.7 (begins_less v.seen k.whole c.look-before.ensures.found.2) in
+    let turns : c.put_back-2.new.turn.table_id ≡ c.pass.inside.turn.table_id = search rules in
+    let counts : c.tell-2.new.count.table_id ≡ c.pass.inside.count.table_id = search rules in
     rw (← c.pass.view_is) record {
       before = k.whole;
-      begins = found.2;
-      lawful_before = found.3;
+      begins = c.look-before.ensures.found.2;
+      lawful_before = c.look-before.ensures.found.3;
       room = short;
-      seen = x.0;
-      lawful_seen = subst g.T.Machine.lawful (sym x.0) (g.met.T.Machine.legal _ _ stands);
-      mine = x.1;
-      own = extends_own v k _ e found.2 c.pass.invariant.7 p5;
+      seen = seen;
+      lawful_seen = subst g.T.Machine.lawful (sym seen) legal;
+      mine = mine;
+      own = subst (λ (y : List ℕ × ℕ). AreOwn y.0 y.1) (λ i. (sym mine i, sym long i)) own;
       idle = search rules;
       met = search rules;
-      gate = λ i. record { turns = a i; counts = b i };
-    }
-
-pub returns-clause-free : goal.returns-clause-free
-returns-clause-free g c = λ _.
-    let v = c.pass.inside.count.me.0 in
-    let k = c.into_seat-keeper.result.me.0 in
-    let e : g.row.T-Call.Denot × g.row.T-Reply.Denot = (c.args.call, c.apply-reply.result) in
-    let p1 = c.look-before.ensures.count in
-    let p2 = c.look-before.ensures.keeper in
-    let p3 : c.add.new.keeper.me.0 ≡ grown (noting k v) e = ap (λ m. m.0) c.add.ensures.grown ∙ (λ i. grown (p2 i).0 (c.of-asked.ensures i, c.apply-reply.result)) in
-    let p5 : c.tell-2.new.count.me.0 ≡ taken v (copied (grown (noting k v) e)) = ap (λ m. m.0) c.tell-2.ensures.count ∙ (λ i. taken (p1 i).0 (copied (p3 i))) in
-    let found = c.look-before.ensures.found in
-    let short : length k.whole < 2 ^ 62 = search rules in
-    let x = extends v k _ e found.2 p5 in
-    rw (← c.pass.view_is) record {
-      before = k.whole;
-      begins = found.2;
-      bounded = omega arith;
-      room = λ _. (c.apply-reply.result, refl, x.0);
-      full = λ long. absurd (omega arith);
+      gate = λ i. record { turns = turns i; counts = counts i };
     }
