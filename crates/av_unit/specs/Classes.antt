@@ -1,5 +1,8 @@
--- What a message's body is as a unit: the layouts are those of Adobe's FLV file format, version 10.1.
-use Rattle.std.specs.Prelude.{ℕ, Bool, true, false, ◌==◌, ◌&&◌, ◌||◌, nat_le, nat_lt, nat_eq, if◌then◌else◌, List, [], ◌∷◌, length, drop, codes, Option, Some, None, option_map, ◌/◌, ◌%◌}
+-- What a message is as a unit. The message types are those of RTMP 1.0: 8 for audio (7.1.4), 9 for video (7.1.5), 18
+-- for data in AMF0 (7.1.2). Sections by E are those of Adobe's FLV 10.1, whose tags have these bodies. Which messages are
+-- published is this project's own choice.
+use Rattle.std.specs.Prelude.{◌≡◌, ℕ, Bool, true, false, ◌==◌, ◌&&◌, ◌||◌, nat_le, nat_lt, nat_eq, if◌then◌else◌, List, [], ◌∷◌, length, drop, codes, Option, Some, None, option_map, ◌/◌, ◌%◌}
+use Rattle.std.specs.Io.{StartsWith}
 use Rattle.std.specs.List.{starts_with}
 use Rattle.av_unit.specs.declared.unit.Kind.{Kind}
 use Rattle.av_unit.specs.declared.unit.Kind.TheVariants.{Meta, VConfig, AConfig, Key, Inter, Audio, Data}
@@ -62,7 +65,12 @@ kind_of message body = first_of
     ∷ (message == 18, Some Data)
     ∷ [])
 
--- how many bytes stand before the unit: the name with which a publisher asks to set the stream's metadata
+-- whether the message is data that begins with the text by which a publisher asks that what follows be kept as the
+-- stream's data
+abbrev pub SetsData : ℕ → List ℕ → Type 0
+SetsData message body = (message ≡ 18) × StartsWith body (amf_text (codes "@setDataFrame"))
+
+-- how many bytes stand before the unit: those of that text
 abbrev pub from_of : ℕ → List ℕ → ℕ
 from_of message body = if (message == 18) && begins_with_text (codes "@setDataFrame") body then 16 else 0
 
@@ -73,17 +81,17 @@ placed from rest (Some kind) =
     if is_config kind && nat_lt 65536 (length rest) then None else Some (record { kind = kind; from = from })
 
 -- THE CLASS of a message: the kind of what follows the name, which is taken off once, and the place where that begins
-abbrev pub class_of : ℕ → List ℕ → Option Class
+unfoldable pub class_of : ℕ → List ℕ → Option Class
 class_of message body =
     let from = from_of message body in
     placed from (drop from body) (kind_of message (drop from body))
 
 -- the unit of a message, where it has a class
-abbrev pub unit_from : ℕ → ℕ → List ℕ → Option Media
+unfoldable pub unit_from : ℕ → ℕ → List ℕ → Option Media
 unit_from message time body =
     option_map (λ c. record { kind = c.kind; time = time; body = drop c.from body }) (class_of message body)
 
--- the message type of a kind
+-- the message type of a kind (RTMP 1.0, 7.1)
 abbrev pub message_type : Kind → ℕ
 message_type AConfig = 8
 message_type Audio = 8
@@ -92,3 +100,9 @@ message_type Key = 9
 message_type Inter = 9
 message_type Meta = 18
 message_type Data = 18
+
+-- sent as a message of its kind, a unit is the same unit again, unless it is data that begins with that text itself
+abbrev pub IsItselfAgain : Media → Type 0
+IsItselfAgain u =
+    (u.kind ≡ Data → begins_with_text (codes "@setDataFrame") u.body ≡ false)
+    → unit_from (message_type u.kind) u.time u.body ≡ Some u

@@ -1,8 +1,6 @@
-ghost use Rattle.std.specs.Prelude.{◌≡◌, ◌≢◌, ◌+◌, ◌<◌, ◌≤◌, ◌↔◌, ◌⊎◌, false, codes, drop, length, IfSome, IsNone, IsTrue, Some};
-ghost use Rattle.std.specs.Io.{StartsWith};
+ghost use Rattle.std.specs.Prelude.{◌≡◌, ◌≢◌, ◌+◌, ◌<◌, ◌≤◌, ◌↔◌, ◌⊎◌, drop, length, IfSome, IsNone, IsTrue, None};
 ghost use Rattle.av_unit.specs.Fits.{Fits, is_config};
-ghost use Rattle.av_unit.specs.Classes.{amf_text, begins_with_text, class_of, from_of, kind_of, message_type, unit_from};
-ghost use Rattle.av_unit.specs.declared.unit.Kind.TheVariants.{Data};
+ghost use Rattle.av_unit.specs.Classes.{SetsData, IsItselfAgain, class_of, from_of, kind_of, message_type, unit_from};
 
 use crate::{Bytes, Class, Kind, Unit};
 
@@ -29,19 +27,20 @@ const ON_META_DATA: &[u8; 13] = b"\x02\x00\x0aonMetaData";
 /// published. That is so for every other type, for an empty body, for a video body of frame type
 /// 0 or 5 and above, for an AVC body that is neither a sequence header nor NAL units, and for a
 /// configuration of more than 65,536 bytes.
+#[tactic(auto, unfolding(crate::specs::Classes::class_of))]
 pub fn class(message_kind: u8, body: &[u8]) -> Option<Class>
     ensures value { result ≡ class_of message_kind body.now }
     ensures type_of_kind { IfSome result (λ c. message_type c.kind ≡ message_kind) }
     ensures others { message_kind ≢ 8 → message_kind ≢ 9 → message_kind ≢ 18 → IsNone result }
 
-    // Sixteen bytes stand before the unit exactly where they are the name `@setDataFrame`.
+    // Sixteen bytes stand before the unit exactly where they are the text `@setDataFrame` of data.
     ensures place { IfSome result (λ c. (c.from ≡ 0) ⊎ (c.from ≡ 16)) }
-    ensures name { IfSome result (λ c. (c.from ≡ 16) ↔ ((message_kind ≡ 18) × StartsWith body.now (amf_text (codes "@setDataFrame")))) }
+    ensures text { IfSome result (λ c. (c.from ≡ 16) ↔ SetsData message_kind body.now) }
 
     // The unit has a byte at least, and no more than one of its kind may have.
     ensures inside { IfSome result (λ c. c.from < length body.now) }
     ensures config { IfSome result (λ c. IsTrue (is_config c.kind) → length body.now ≤ c.from + 65536) }
-    ensures fits { IfSome result (λ c. length body.now ≤ 4194304 → Fits c.kind (drop c.from body.now)) }
+    ensures fits { length body.now ≤ 4194304 → IfSome result (λ c. Fits c.kind (drop c.from body.now)) }
 {
     let from = front(message_kind, body);
     let rest = &body[from..];
@@ -54,13 +53,17 @@ pub fn class(message_kind: u8, body: &[u8]) -> Option<Class>
 
 /// The unit that a message is, at a time in milliseconds; `None` exactly where the message has no
 /// class. It takes no memory: the unit keeps the body that was handed in.
+#[tactic(auto, unfolding(crate::specs::Classes::class_of, crate::specs::Classes::unit_from))]
 pub fn unit_of(message_kind: u8, time: u32, body: Bytes) -> Option<Unit>
     requires { length body ≤ 4194304 }
     ensures value { result ≡ unit_from message_kind time body }
+    ensures none { IsNone result ↔ (class_of message_kind body ≡ None) }
+    ensures type_of_kind { IfSome result (λ u. message_type u.kind ≡ message_kind) }
+    ensures time { IfSome result (λ u. u.time ≡ time) }
+    ensures fits { IfSome result (λ u. Fits u.kind u.body) }
 
-    // Sent as a message of its kind, the unit is of its class again, as it stands. Only a unit of
-    // kind Data that begins with the name `@setDataFrame` once more isn't.
-    ensures again { IfSome result (λ u. (u.kind ≡ Data → begins_with_text (codes "@setDataFrame") u.body ≡ false) → class_of (message_type u.kind) u.body ≡ Some (record { kind = u.kind; from = 0 })) }
+    // A relay that is sent the unit makes it the same unit again.
+    ensures again { IfSome result IsItselfAgain }
 {
     let Class { kind, from } = class(message_kind, body.as_slice())?;
     Some(Unit {
@@ -85,7 +88,7 @@ pub fn message_kind(kind: Kind) -> u8
 fn front(message_kind: u8, body: &[u8]) -> usize
     ensures value { result ≡ from_of message_kind body.now }
     ensures place { (result ≡ 0) ⊎ (result ≡ 16) }
-    ensures name { (result ≡ 16) ↔ ((message_kind ≡ 18) × StartsWith body.now (amf_text (codes "@setDataFrame"))) }
+    ensures text { (result ≡ 16) ↔ SetsData message_kind body.now }
     ensures within { result ≤ length body.now }
 {
     if message_kind == DATA_AMF0 && body.starts_with(SET_DATA_FRAME) {

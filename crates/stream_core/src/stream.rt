@@ -16,6 +16,7 @@ use past::{History, Pair};
 use std::alloc::Global;
 use std::marker::Model;
 use std::snapshot::Snapshot;
+use stream_law::viewers_law;
 use stream_model::{Call, Entry, Reply, StreamLimits};
 
 /// One stream: what is published on it, and the players that take from it.
@@ -58,9 +59,30 @@ impl Stream {
         })
     }
 
-    /// Answers the call by the rules of one stream, or nothing is done for want of memory.
+    /// Answers the call by the rules of one stream, or nothing is done for want of memory. Whatever
+    /// the calls so far, what each player was sent since its Join keeps the viewer's law.
     pub fn apply(&mut self, entry: Entry) -> Result<Reply, OutOfMemory>
         requires { length (items_of self.old.past) < 2 ^ 62 }
+        ensures ok { IfOk result (λ r. (r ≡ reply self.old.limits self.old.past entry) × (self.new ≡ answered self.old entry r)) }
+        ensures err { OnErr result (self.new ≡ self.old) }
+        ensures viewers { (place : ℕ) → Legal self.new.limits self.new.past place }
+    {
+        let reply = self.answer(entry);
+        self.lawful();
+        reply
+    }
+
+    /// Each call so far was answered by the rules, and what each player was sent keeps the viewer's
+    /// law.
+    pub fn lawful(&self)
+        ensures rules { IsLawful self.now.limits self.now.past }
+        ensures viewers { (place : ℕ) → Legal self.now.limits self.now.past place }
+    {
+        let _ = &self.limits;
+        viewers_law();
+    }
+
+    fn answer(&mut self, entry: Entry) -> Result<Reply, OutOfMemory>
         ensures ok { IfOk result (λ r. (r ≡ reply self.old.limits self.old.past entry) × (self.new ≡ answered self.old entry r)) }
         ensures err { OnErr result (self.new ≡ self.old) }
     {
@@ -75,13 +97,6 @@ impl Stream {
             Call::Leave { player } => Ok(self.leave(seen, who, player)),
             Call::Count => Ok(self.count(seen)),
         }
-    }
-
-    /// Each call so far was answered by the rules.
-    pub fn lawful(&self)
-        ensures { IsLawful self.now.limits self.now.past }
-    {
-        let _ = &self.limits;
     }
 
     fn begin(&mut self, seen: Snapshot<Entry>, who: u64) -> Result<Reply, OutOfMemory>
