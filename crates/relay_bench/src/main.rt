@@ -1,0 +1,15 @@
+//! Measurements. Each word names one that is run; without words nothing is done.
+#![tactic(auto)]
+
+mod gate;
+
+use std::{env, io};
+
+fn main(rt: HostRuntime) -> io::Result<()> {
+    for word in env::args(&rt)?.skip(1) {
+        if word.as_str() == "gate" {
+            gate::measure(&rt, rt.alloc())?;
+        }
+    }
+    Ok(())
+}

@@ -1,0 +1,16 @@
+use Rattle.std.proofs.Common.{rules, ◌≡◌, ◌∷◌, ◌++◌, [], sym, subst, Some, None}
+use Rattle.turn_gate.specs.Numbers.{Lists}
+use Rattle.turn_gate.proofs.Listing.{lists_more}
+use Rattle.turn_gate.proofs.tests.NumbersMachine.apply.Goals as goal
+
+pub returns-in-Ok : goal.returns-in-Ok
+returns-in-Ok c = λ h l _.
+    let grew : c.push.new.self.items ≡ c.args.self.now.list.items ++ c.args.call ∷ [] = search rules in
+    let more = lists_more c.args.self.now.list.items h c.args.call (Some (c.len-place.result, c.last-last.result)) l (search rules) in
+    subst (λ xs. Lists xs (h ++ (c.args.call, Some (c.len-place.result, c.last-last.result)) ∷ [])) (sym grew) more
+
+pub returns-in-Err : goal.returns-in-Err
+returns-in-Err c = λ h l _.
+    let same : c.push.new.self.items ≡ c.args.self.now.list.items = search rules in
+    let more = lists_more c.args.self.now.list.items h c.args.call None l tt in
+    subst (λ xs. Lists xs (h ++ (c.args.call, None) ∷ [])) (sym same) more
