@@ -2,3 +2,4 @@ pub mod Layout
 pub mod Written
 pub mod State
 pub mod Chunk
+pub mod ReadBack
