@@ -33,21 +33,21 @@ header_size s b = basic_size b + head_size (format_in b) + (if is_extended s b t
 unfoldable pub value_in : State → List ℕ → ℕ
 value_in s b = if is_extended s b then be32_of (drop (basic_size b + head_size (format_in b)) b) else (head_fields b).field
 
--- what the id keeps after a header with a value v: the table of formats (5.3.1.2.1 to 5.3.1.2.4). A message in
--- progress goes on by format 3 alone. Times add modulo 2^32.
-unfoldable pub terms_by : Terms → List ℕ → Head → ℕ → Bool → Terms
+-- what the id keeps after a header with a value v, where so many bytes of a message in progress are there: the table of formats (5.3.1.2.1 to 5.3.1.2.4). A
+-- message in progress goes on by format 3 alone. Times add modulo 2^32.
+unfoldable pub terms_by : Terms → ℕ → Head → ℕ → Bool → Terms
 terms_by k part h v extended =
     if nat_eq h.format 0 then record { time = v; delta = v; length = h.length; kind = h.kind; stream = h.stream; extended = extended }
     else (if nat_eq h.format 1 then record { time = (k.time + v) % 2 ^ 32; delta = v; length = h.length; kind = h.kind; stream = k.stream; extended = extended }
     else (if nat_eq h.format 2 then record { time = (k.time + v) % 2 ^ 32; delta = v; length = k.length; kind = k.kind; stream = k.stream; extended = extended }
-    else (if nat_eq (length part) 0 then record { time = (k.time + k.delta) % 2 ^ 32; delta = k.delta; length = k.length; kind = k.kind; stream = k.stream; extended = k.extended }
+    else (if nat_eq part 0 then record { time = (k.time + k.delta) % 2 ^ 32; delta = k.delta; length = k.length; kind = k.kind; stream = k.stream; extended = k.extended }
     else k)))
 
 -- the record of the id after the chunk's header: formats 0, 1 and 2 drop the part of a message in progress
 unfoldable pub opened : State → List ℕ → Kept
 opened s b = record {
   id = id_in b;
-  terms = terms_by (kept_before s b).terms (kept_before s b).part (head_fields b) (value_in s b) (is_extended s b);
+  terms = terms_by (kept_before s b).terms (length (kept_before s b).part) (head_fields b) (value_in s b) (is_extended s b);
   part = if nat_lt (format_in b) 3 then [] else (kept_before s b).part;
 }
 

@@ -1,6 +1,6 @@
 -- How the header of a chunk stands in its bytes: the basic header (5.3.1.1) and the message header (5.3.1.2).
 -- A byte that isn't there counts as 0, so each word means something once the bytes that it reads are there.
-use Rattle.std.specs.Prelude.{ℕ, ◌+◌, ◌*◌, ◌/◌, ◌%◌, nat_eq, nat_le, if◌then◌else◌, List, length, drop, slice_index, Option, Some, None}
+use Rattle.std.specs.Prelude.{◌≡◌, ◌≤◌, ℕ, ◌+◌, ◌*◌, ◌/◌, ◌%◌, nat_eq, nat_le, if◌then◌else◌, List, length, drop, slice_index, Option, Some, None}
 use Rattle.relay_base.specs.Numbers.{be24_of, le32_of}
 use Rattle.chunk_wire.specs.declared.headers.Basic.{Basic}
 use Rattle.chunk_wire.specs.declared.headers.Head.{Head}
@@ -43,3 +43,15 @@ head_in basic b =
 -- the message header at the front, where its bytes are there
 abbrev pub head_of : Basic → List ℕ → Option (Head × ℕ)
 head_of basic b = if nat_le (head_size basic.format) (length b) then Some (head_in basic b, head_size basic.format) else None
+
+-- the basic header at the front of b, of n bytes, which are there
+pub record IsBasicAt (b : List ℕ) (basic : Basic) (n : ℕ) : Type 0 where
+  pub is : basic ≡ basic_in b
+  pub size : n ≡ basic_size b
+  pub there : n ≤ length b
+
+-- the message header at the front of b, of n bytes, which are there
+pub record IsHeadAt (basic : Basic) (b : List ℕ) (head : Head) (n : ℕ) : Type 0 where
+  pub is : head ≡ head_in basic b
+  pub size : n ≡ head_size basic.format
+  pub there : n ≤ length b

@@ -1,5 +1,5 @@
-ghost use Rattle.std.specs.Prelude.{◌≡◌, ◌≤◌, ◌<◌, length};
-ghost use Rattle.chunk_wire.specs.Layout.{basic_of, basic_size, id_in, head_of, head_in, head_size};
+ghost use Rattle.std.specs.Prelude.{◌≡◌, ◌≤◌, ◌<◌, length, MatchOption};
+ghost use Rattle.chunk_wire.specs.Layout.{basic_of, basic_size, id_in, head_of, head_in, head_size, IsBasicAt, IsHeadAt};
 
 use crate::{Basic, Head};
 use relay_base::{be24, le32};
@@ -41,7 +41,8 @@ fn id_of_basic(b: &[u8]) -> u32
 /// before it.
 #[tactic(auto, using(crate::proofs::Sizes::basic_size_some))]
 pub fn read_basic(b: &[u8]) -> Option<(Basic, usize)>
-    ensures { result ≡ basic_of b.now }
+    ensures exact { result ≡ basic_of b.now }
+    ensures parts { MatchOption result (length b.now < basic_size b.now) (λ p. IsBasicAt b.now p.0 p.1) }
 {
     if b.is_empty() {
         return None;
@@ -103,7 +104,8 @@ fn fields(basic: Basic, b: &[u8]) -> Head
 /// The message header that `b` begins with, after a basic header, and the number of its bytes: 11, 7, 3 or 0 by its
 /// format (5.3.1.2). None exactly where `b` ends before it.
 pub fn read_head(basic: Basic, b: &[u8]) -> Option<(Head, usize)>
-    ensures { result ≡ head_of basic b.now }
+    ensures exact { result ≡ head_of basic b.now }
+    ensures parts { MatchOption result (length b.now < head_size basic.format) (λ p. IsHeadAt basic b.now p.0 p.1) }
 {
     let size = size_of_head(basic.format);
     if b.len() < size {
