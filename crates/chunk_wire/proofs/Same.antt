@@ -95,7 +95,7 @@ pub record HeaderSame (s : State) (a b : List ℕ) : Type 0 where
   pub size : header_size s a ≡ header_size s b
   pub opened_same : opened s a ≡ opened s b
 
-size_parts : (s : State) (a : List ℕ) → header_size s a ≡ basic_size a + head_size (format_in a) + cond (is_extended s a) 4 0
+pub size_parts : (s : State) (a : List ℕ) → header_size s a ≡ basic_size a + head_size (format_in a) + cond (is_extended s a) 4 0
 unfolding header_size
 size_parts s a = refl
 

@@ -1,0 +1,6 @@
+pub mod Control
+pub mod Reads
+pub mod Stops
+pub mod Known
+pub mod Core
+pub mod Steps

@@ -1,0 +1,13 @@
+//! The reader of RTMP chunks: bytes in pieces of any cutting, and the messages that they carry.
+//!
+//! The section numbers are those of Adobe's RTMP 1.0.
+#![tactic(auto)]
+
+mod fail;
+mod fields;
+mod finish;
+mod header;
+mod open;
+mod take;
+
+pub use fail::{ReadCause, ReadFail};
