@@ -38,5 +38,5 @@ bad_size None = None
 bad_size (Some m) = refused_size m
 
 -- the state in which the next chunk begins
-abbrev pub next : State → List ℕ → State
+unfoldable pub next : State → List ℕ → State
 next s c = controlled (message_of s c) (after_chunk s c)
