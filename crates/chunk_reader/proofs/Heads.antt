@@ -15,19 +15,19 @@ pub opens_ok : (old : Core) (r : List ℕ) (o : Opening) (mid : Core) (res : Res
 opens_ok old r o mid (Ok m) new op is less p = inr (record { whole = op.whole; room = op.room; fits = op.fits; mid = mid; opens = is; less = less; passed = p })
 opens_ok old r o mid (Err e) new op is less p = p
 
-bad_head : (max : ℕ) (s : State) (r : List ℕ) (o : Opening) (mid : Core) (e : ReadCause) → IsOpening max s r o → IsOpened max s r mid → mid.need ≡ 0 → IsBadSize (slot_message (slot_at mid)) e → HeadFails max s r e
-bad_head max s r o mid (NoHead id) op is z b = absurd b
-bad_head max s r o mid TooManyIds op is z b = absurd b
-bad_head max s r o mid (TooLong n) op is z b = absurd b
-bad_head max s r o mid TooMuch op is z b = absurd b
-bad_head max s r o mid (BadChunkSize v) op is z b = (op.whole, op.room, op.fits, (mid, (is, z, b)))
-bad_head max s r o mid OutOfMemory op is z b = absurd b
-bad_head max s r o mid TooFar op is z b = absurd b
+bad_head : (max held : ℕ) (s : State) (r : List ℕ) (o : Opening) (mid : Core) (e : ReadCause) → IsOpening max s r o → IsOpened max s r mid → mid.held ≤ held → mid.need ≡ 0 → IsBadSize (slot_message (slot_at mid)) e → HeadFails max held s r e
+bad_head max held s r o mid (NoHead id) op is less z b = absurd b
+bad_head max held s r o mid TooManyIds op is less z b = absurd b
+bad_head max held s r o mid (TooLong n) op is less z b = absurd b
+bad_head max held s r o mid TooMuch op is less z b = absurd b
+bad_head max held s r o mid (BadChunkSize v) op is less z b = (op.whole, op.room, op.fits, (mid, (is, less, z, b)))
+bad_head max held s r o mid OutOfMemory op is less z b = absurd b
+bad_head max held s r o mid TooFar op is less z b = absurd b
 
-pub opens_err : (max : ℕ) (s : State) (r : List ℕ) (o : Opening) (mid : Core) (res : Result (Option Message) ReadCause) → IsOpening max s r o → IsOpened max s r mid
-    → IfErr res (λ e. (mid.need ≡ 0) × IsBadSize (slot_message (slot_at mid)) e) → IfErr res (λ e. HeadFails max s r e)
-opens_err max s r o mid (Ok m) op is p = p
-opens_err max s r o mid (Err e) op is p = bad_head max s r o mid e op is p.0 p.1
+pub opens_err : (max held : ℕ) (s : State) (r : List ℕ) (o : Opening) (mid : Core) (res : Result (Option Message) ReadCause) → IsOpening max s r o → IsOpened max s r mid → mid.held ≤ held
+    → IfErr res (λ e. (mid.need ≡ 0) × IsBadSize (slot_message (slot_at mid)) e) → IfErr res (λ e. HeadFails max held s r e)
+opens_err max held s r o mid (Ok m) op is less p = p
+opens_err max held s r o mid (Err e) op is less p = bad_head max held s r o mid e op is less p.0 p.1
 
 pub payload_err : (old : Core) (piece : List ℕ) (mid : Core) (e : ReadCause) → IsFed old piece mid → old.held + length piece ≤ part_limit old.max → 0 < length piece
     → (mid.need ≡ 0) × IsBadSize (slot_message (slot_at mid)) e → PayloadFails old piece e (length piece - 1)

@@ -3,3 +3,4 @@ pub mod Places
 pub mod Heads
 pub mod Reading
 pub mod Running
+pub mod Stopping

@@ -46,14 +46,14 @@ pub record Running (max : ℕ) (s : State) (r : List ℕ) (mid : Core) : Type 0 
   pub limit : mid.held ≤ part_limit max
   pub counted : mid.held ≡ part_bytes mid.slots.items
 
-admits_running : (max : ℕ) (s : State) (r : List ℕ) (mid : Core) → Running max s r mid → Admits max s r
+pub admits_running : (max : ℕ) (s : State) (r : List ℕ) (mid : Core) → Running max s r mid → Admits max s r
 admits_running max s r mid u = record { room = λ _. u.room; length = λ _. u.fits; held = rw (← u.held) u.limit }
 
 -- the slot is the record of the chunk
-slot_is : (max : ℕ) (s : State) (r : List ℕ) (mid : Core) → Running max s r mid → slot_at mid ≡ with_part (opened s r) (filled s r)
+pub slot_is : (max : ℕ) (s : State) (r : List ℕ) (mid : Core) → Running max s r mid → slot_at mid ≡ with_part (opened s r) (filled s r)
 slot_is max s r mid u = u.place.is (fresh_kept 0)
 
-message_is : (s : State) (r : List ℕ) → slot_message (with_part (opened s r) (filled s r)) ≡ message_of s r
+pub message_is : (s : State) (r : List ℕ) → slot_message (with_part (opened s r) (filled s r)) ≡ message_of s r
 unfolding message_of
 message_is s r = refl
 
@@ -77,10 +77,21 @@ pub record Stood (max : ℕ) (fed : List ℕ) (given : List (ℕ × Message)) (m
   pub standing : IsStanding max fed (given ++ ended (length fed) m) new
   pub whole : is_some m ≡ true → (s : State) × Reads max fed (given ++ ended (length fed) m) s []
 
+pub running_open : (max : ℕ) (s : State) (r : List ℕ) (mid : Core) → Running max s r mid → 0 < mid.need → IsOpen max s r
+running_open max s r mid u some = record { admitted = admits_running max s r mid u; short = omega (arith, u.need) }
+
+pub running_chunk : (max : ℕ) (s : State) (r : List ℕ) (mid : Core) → Running max s r mid → mid.need ≡ 0 → bad_size (slot_message (slot_at mid)) ≡ None → IsChunk max s r
+running_chunk max s r mid u zero sized =
+    let message : slot_message (slot_at mid) ≡ message_of s r = ap slot_message (slot_is max s r mid u) ∙ message_is s r in
+    record {
+      chunk = record { begins = may_begin_room (is_known s r) (format_in r) (length s.kept) u.room; whole = omega (arith, u.need, zero); state = refl; message = refl };
+      admitted = admits_running max s r mid u;
+      sized = rw (← message) sized;
+    }
+
 goes_on : (max : ℕ) (fed x : List ℕ) (given : List (ℕ × Message)) (s : State) (r : List ℕ) (new : Core) → Reads max fed given s r → length (fed ++ x) ≤ 2 ^ 62 → Running max s (r ++ x) new → 0 < new.need → Stood max (fed ++ x) given None new
 goes_on max fed x given s r new q near u some =
-    let a = admits_running max s (r ++ x) new u in
-    let o : IsOpen max s (r ++ x) = record { admitted = a; short = omega (arith, u.need) } in
+    let o = running_open max s (r ++ x) new u some in
     let reads = open_more max fed given s r x q o near in
     record {
       standing = record {
@@ -104,11 +115,7 @@ finished max fed x given s r m mid new q near u zero f =
     let kept : new.slots.items ≡ (next s c).kept = ap (λ (t : State). t.kept) state in
     let held : new.held ≡ part_bytes (next s c).kept = f.keeps.counted ∙ ap part_bytes kept in
     let begins : IsOpen max (next s c) [] = open_empty max (next s c) (rw (← held) (omega (arith, f.keeps.less, u.limit))) in
-    let whole : IsChunk max s c = record {
-      chunk = record { begins = may_begin_room (is_known s c) (format_in c) (length s.kept) u.room; whole = omega (arith, u.need, zero); state = refl; message = refl };
-      admitted = admits_running max s c mid u;
-      sized = rw (← message) f.sized;
-    } in
+    let whole = running_chunk max s c mid u zero f.sized in
     let reads = chunk_more max fed given s r x q whole begins near in
     let some = header_some (next s c) [] in
     let no_head : length new.head.items ≡ 0 = ap length f.keeps.head ∙ u.head in
@@ -129,7 +136,7 @@ passed max fed x given s r m mid new q near u (inl p) = rw (p.1, p.2) (goes_on m
 passed max fed x given s r m mid new q near u (inr p) = finished max fed x given s r m mid new q near u p.0 p.1
 
 -- a whole header opens the chunk
-opens_run : (max : ℕ) (s : State) (r : List ℕ) (old mid : Core) → length r ≡ header_size s r → has_room s r ≡ true → (opened s r).terms.length ≤ max → IsOpened max s r mid → mid.held ≤ part_limit max → Running max s r mid
+pub opens_run : (max : ℕ) (s : State) (r : List ℕ) (old mid : Core) → length r ≡ header_size s r → has_room s r ≡ true → (opened s r).terms.length ≤ max → IsOpened max s r mid → mid.held ≤ part_limit max → Running max s r mid
 opens_run max s r old mid size room fits o limit =
     let none : filled s r ≡ (opened s r).part = ap (λ (t : List ℕ). (opened s r).part ++ t) (no_more r (header_size s r) size) ∙ append-nil (opened s r).part in
     let k : with_part (opened s r) (filled s r) ≡ opened s r = ap (λ (t : List ℕ). with_part (opened s r) t) none in
@@ -148,7 +155,7 @@ opens_run max s r old mid size room fits o limit =
     }
 
 -- more payload stands in the slot
-fed_runs : (max : ℕ) (s : State) (r x : List ℕ) (old mid : Core) → old.max ≡ max → Admits max s r → InPayload s r old → old.held ≡ held_bytes s r → IsFed old x mid → old.held + length x ≤ part_limit old.max → Running max s (r ++ x) mid
+pub fed_runs : (max : ℕ) (s : State) (r x : List ℕ) (old mid : Core) → old.max ≡ max → Admits max s r → InPayload s r old → old.held ≡ held_bytes s r → IsFed old x mid → old.held + length x ≤ part_limit old.max → Running max s (r ++ x) mid
 fed_runs max s r x old mid max_is a p held f within =
     let g = grown s r x p.whole in
     let k = p.place.is (fresh_kept 0) in
@@ -184,16 +191,20 @@ fed_runs max s r x old mid max_is a p held f within =
       counted = f.counted;
     }
 
+pub grows_open : (max : ℕ) (s : State) (r x : List ℕ) (m : Option Message) (old new : Core) → Admits max s r → AtHead s r old → HeadGrows s (r ++ x) m old new → IsOpen max s (r ++ x)
+grows_open max s r x m old new a h g =
+    let short = g.short.short in
+    record {
+      admitted = record { room = g.short.room; length = λ le. absurd (omega (arith, short)); held = rw (held_short s (r ++ x) short, ← held_short s r h.short) a.held };
+      short = omega (arith, short);
+    }
+
 -- a byte of a header that isn't whole
 grows_stands : (max : ℕ) (fed x : List ℕ) (given : List (ℕ × Message)) (s : State) (r : List ℕ) (m : Option Message) (old new : Core) → Reads max fed given s r → length (fed ++ x) ≤ 2 ^ 62 → AtHead s r old → old.max ≡ max → old.held ≡ held_bytes s r → old.held ≡ part_bytes old.slots.items
     → HeadGrows s (r ++ x) m old new → Stood max (fed ++ x) given m new
 grows_stands max fed x given s r m old new q near h max_is held counted g =
     let short = g.short.short in
-    let a : held_bytes s (r ++ x) ≤ part_limit max = rw (held_short s (r ++ x) short, ← held_short s r h.short) q.rest.admitted.held in
-    let o : IsOpen max s (r ++ x) = record {
-      admitted = record { room = g.short.room; length = λ le. absurd (omega (arith, short)); held = a };
-      short = omega (arith, short);
-    } in
+    let o = grows_open max s r x m old new q.rest.admitted h g in
     let reads = open_more max fed given s r x q o near in
     let slots : old.slots.items ≡ new.slots.items = ap (λ (t : State). t.kept) (sym h.state ∙ sym g.state) in
     rw g.none (record {
@@ -209,7 +220,7 @@ grows_stands max fed x given s r m old new q near h max_is held counted g =
     })
 
 -- the byte that makes the header whole
-last_byte : (s : State) (r x : List ℕ) → length r < header_size s r → header_size s (r ++ x) ≤ length (r ++ x) → length x ≡ 1 → length (r ++ x) ≡ header_size s (r ++ x)
+pub last_byte : (s : State) (r x : List ℕ) → length r < header_size s r → header_size s (r ++ x) ≤ length (r ++ x) → length x ≡ 1 → length (r ++ x) ≡ header_size s (r ++ x)
 last_byte s r x short whole one = elim (cases_lt (length r) (header_size s (r ++ x))) [
   | inl lt ↦ omega (arith, length-append r x)
   | inr le ↦ (let e = (shrunk s r x le).size in absurd (omega arith))

@@ -4,3 +4,5 @@ pub mod Stops
 pub mod Known
 pub mod Core
 pub mod Steps
+pub mod Sound
+pub mod Feeds

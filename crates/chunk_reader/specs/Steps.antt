@@ -1,5 +1,5 @@
 -- What the steps of the reader leave, by its fields
-use Rattle.std.specs.Prelude.{◌≡◌, ℕ, ◌+◌, ◌-◌, ◌<◌, ◌≤◌, ◌⊎◌, nat_eq, nat_lt, if◌then◌else◌, Bool, true, false, List, [], ◌∷◌, ◌++◌, is_some, IfSome, length, Option, Some, None, Result, Ok, Err, get_or, set}
+use Rattle.std.specs.Prelude.{◌≡◌, ℕ, ◌+◌, ◌-◌, ◌^◌, ◌<◌, ◌≤◌, ◌⊎◌, nat_eq, nat_lt, if◌then◌else◌, Bool, true, false, List, [], ◌∷◌, ◌++◌, is_some, IfSome, length, take, Option, Some, None, Result, Ok, Err, get_or, set}
 use Rattle.chunk_wire.specs.declared.kept.Kept.{Kept}
 use Rattle.chunk_wire.specs.declared.headers.Basic.{Basic}
 use Rattle.chunk_wire.specs.declared.message.Message.{Message}
@@ -141,11 +141,29 @@ pub record HeadOpens (max held : ℕ) (s : State) (r : List ℕ) (m : Option Mes
   pub passed : IsPassed mid m new
 
 -- a byte of a header was refused
-abbrev pub HeadFails : ℕ → State → List ℕ → ReadCause → Type 0
-HeadFails max s r OutOfMemory = Unit {0}
-HeadFails max s r (BadChunkSize value) = (header_size s r ≤ length r) × (has_room s r ≡ true) × ((opened s r).terms.length ≤ max) × ((mid : Core) × (IsOpened max s r mid × (mid.need ≡ 0) × (bad_size (slot_message (slot_at mid)) ≡ Some value)))
-HeadFails max s r cause = HeaderFails max s r cause
+abbrev pub HeadFails : ℕ → ℕ → State → List ℕ → ReadCause → Type 0
+HeadFails max held s r OutOfMemory = Unit {0}
+HeadFails max held s r (BadChunkSize value) = (header_size s r ≤ length r) × (has_room s r ≡ true) × ((opened s r).terms.length ≤ max) × ((mid : Core) × (IsOpened max s r mid × (mid.held ≤ held) × (mid.need ≡ 0) × (bad_size (slot_message (slot_at mid)) ≡ Some value)))
+HeadFails max held s r cause = HeaderFails max s r cause
 
 -- a byte of a header was taken
 abbrev pub HeadTaken : Core → List ℕ → Option Message → Core → Type 0
 HeadTaken old r m new = HeadGrows (the_state old) r m old new ⊎ HeadOpens old.max old.held (the_state old) r m new
+
+-- so many bytes of the piece were taken, of a header or of payload
+pub record IsTaken (old : Core) (piece : List ℕ) (most used : ℕ) (m : Option Message) (new : Core) : Type 0 where
+  pub some : 0 < used
+  pub within : used ≤ most
+  pub taken : ((old.need ≡ 0) × (used ≡ 1) × HeadTaken old (old.head.items ++ take used piece) m new) ⊎ ((0 < old.need) × PayloadTaken old (take used piece) m new)
+
+-- a byte of the piece was refused, with so many before it
+abbrev pub StepFails : Core → List ℕ → ℕ → ReadCause → ℕ → Type 0
+StepFails old piece most cause after =
+    ((old.need ≡ 0) × (after ≡ 0) × HeadFails old.max old.held (the_state old) (old.head.items ++ take 1 piece) cause)
+    ⊎ ((0 < old.need) × ((n : ℕ) × ((0 < n) × (n ≤ most) × (n ≤ old.need) × PayloadFails old (take n piece) cause after)))
+
+-- the same, or it is the byte that 2^62 stand before, and not refused else
+abbrev pub TakeFails : Core → List ℕ → ℕ → ReadCause → ℕ → Type 0
+TakeFails old piece count cause after =
+    ((most : ℕ) × ((most ≤ length piece) × StepFails old piece most cause after))
+    ⊎ ((cause ≡ TooFar) × (after ≡ 0) × (count ≡ 2 ^ 62) × ((used : ℕ) × ((m : Option Message) × ((new : Core) × IsTaken old piece 1 used m new))))

@@ -8,6 +8,8 @@ mod fields;
 mod finish;
 mod header;
 mod open;
+mod reader;
 mod take;
 
 pub use fail::{ReadCause, ReadFail};
+pub use reader::{Fed, Reader};
