@@ -4,3 +4,5 @@ pub mod Heads
 pub mod Reading
 pub mod Running
 pub mod Stopping
+pub mod Sounds
+pub mod Feeding

@@ -1,5 +1,6 @@
-ghost use Rattle.std.specs.Prelude.{◌≡◌, ◌≤◌, ◌<◌, [], ◌++◌, ◌∷◌, ℕ, length, take, true, false, is_some, IfOk, IfErr, IfSome, Some, None};
+ghost use Rattle.std.specs.Prelude.{◌≡◌, ◌≤◌, ◌<◌, [], ◌++◌, ◌∷◌, ℕ, length, take, true, false, is_some, IfOk, IfErr, IfSome, Some, None, Err};
 ghost use Rattle.chunk_reader.specs.Feeds.{IsFedTo, IsHeld, IsRefused, IsTakenTo, Stands};
+ghost use Rattle.chunk_reader.specs.Reads.{ended};
 
 use crate::fail::{ReadCause, ReadFail};
 use crate::fields::Core;
@@ -58,6 +59,16 @@ fn fresh(alloc: Global, max_message: u32) -> Core
     }
 }
 
+// Notes the message that so many bytes end.
+fn note(given: &mut Flow<Pair<u64, Message>>, end: u64, message: &Option<Message>)
+    ensures { given.new ≡ given.old ++ ended end message.now }
+{
+    match message {
+        None => {}
+        Some(whole) => given.add(&Pair::of(Snapshot::of(&end), whole)),
+    }
+}
+
 impl Reader {
     /// A reader that takes messages of at most `max_message` bytes, and holds at most 65,536 bytes more of messages in
     /// progress.
@@ -86,13 +97,7 @@ impl Reader {
                 let message = taken.message;
                 self.count += used as u64;
                 self.fed.add_all(&piece[..used]);
-                match &message {
-                    None => {}
-                    Some(whole) => {
-                        let end = Snapshot::of(&self.count);
-                        self.given.add(&Pair::of(end, whole));
-                    }
-                }
+                note(&mut self.given, self.count, &message);
                 Ok(Fed { used, message })
             }
             Err(refusal) => {
@@ -105,6 +110,34 @@ impl Reader {
                 Err(fail)
             }
         }
+    }
+
+    /// Takes a piece up to its end, or to the end of the message that it completes, where Set Chunk Size and Abort
+    /// apply. A reader that refused a byte answers the same again.
+    pub fn feed(&mut self, alloc: Global, piece: &[u8]) -> Result<Fed, ReadFail>
+        ensures again { IfSome self.old.failed (λ e. (result ≡ Err e) × (self.new ≡ self.old)) }
+        ensures ok { self.old.failed ≡ None → IfOk result (λ f. IsFedTo self.old piece.now f.used f.message self.new) }
+        ensures err { self.old.failed ≡ None → IfErr result (λ e. IsRefused self.old piece.now e self.new) }
+    {
+        if let Some(fail) = self.failed {
+            return Err(fail);
+        }
+        let mut used = 0;
+        while used < piece.len() {
+            match self.advance(alloc, &piece[used..]) {
+                Err(fail) => return Err(fail),
+                Ok(Fed { used: more, message }) => {
+                    used += more;
+                    if message.is_some() {
+                        return Ok(Fed { used, message });
+                    }
+                }
+            }
+        }
+        Ok(Fed {
+            used,
+            message: None,
+        })
     }
 
     /// The bytes held of messages in progress; none once the reader has failed.
