@@ -6,3 +6,4 @@ pub mod Running
 pub mod Stopping
 pub mod Sounds
 pub mod Feeding
+pub mod Once

@@ -79,12 +79,12 @@ chunk_more max b ms s r x q i o h =
     let whole : b ++ x ≡ concat cs ++ c = ap (λ (t : List ℕ). t ++ x) q.whole ∙ append_assoc (concat cs) r x in
     let n : 0 + length (concat cs) + length c ≡ length (b ++ x) = omega (arith, ap length whole, length-append (concat cs) c) in
     let at : messages 0 fresh_state (cs ++ c ∷ []) ≡ messages 0 fresh_state cs ++ ended (length (b ++ x)) (message_of s c) =
-        messages_more 0 fresh_state cs c ∙ ap (λ (k : ℕ). messages 0 fresh_state cs ++ ended k (message_of (state_after fresh_state cs) c)) n
-        ∙ ap (λ (t : State). messages 0 fresh_state cs ++ ended (length (b ++ x)) (message_of t c)) (sym q.state) in
+    messages_more 0 fresh_state cs c ∙ ap (λ (k : ℕ). messages 0 fresh_state cs ++ ended k (message_of (state_after fresh_state cs) c)) n
+    ∙ ap (λ (t : State). messages 0 fresh_state cs ++ ended (length (b ++ x)) (message_of t c)) (sym q.state) in
     record {
       chunks = cs ++ c ∷ [];
       are_chunks = are_chunks_more max fresh_state cs c q.are_chunks (let P : State → Type 0 = λ t. IsChunk max t c in subst P q.state i);
-      whole = whole ∙ sym (append-nil (concat cs ++ c) ) ∙ ap (λ (t : List ℕ). t ++ []) (sym (concat_more cs c));
+      whole = whole ∙ sym (append-nil (concat cs ++ c)) ∙ ap (λ (t : List ℕ). t ++ []) (sym (concat_more cs c));
       given = ap (λ t. t ++ ended (length (b ++ x)) (message_of s c)) q.given ∙ sym at;
       state = ap (λ (t : State). next t c) q.state ∙ sym (state_after_more fresh_state cs c);
       rest = o;

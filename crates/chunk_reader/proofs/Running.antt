@@ -95,7 +95,8 @@ goes_on max fed x given s r new q near u some =
     let reads = open_more max fed given s r x q o near in
     record {
       standing = record {
-        s = s; r = r ++ x;
+        s = s;
+        r = r ++ x;
         reads = rw append-nil reads;
         max_is = u.max_is;
         fields = inr (record { size = u.size; head = u.head; whole = u.whole; place = u.place; need = u.need; some = some });
@@ -121,7 +122,8 @@ finished max fed x given s r m mid new q near u zero f =
     let no_head : length new.head.items ≡ 0 = ap length f.keeps.head ∙ u.head in
     record {
       standing = record {
-        s = next s c; r = [];
+        s = next s c;
+        r = [];
         reads = rw given_is reads;
         max_is = f.keeps.max_is ∙ u.max_is;
         fields = inl (record { state = sym state; head = sym (empty_is new.head.items no_head); need = f.keeps.need ∙ zero; short = some });
@@ -160,7 +162,7 @@ fed_runs max s r x old mid max_is a p held f within =
     let g = grown s r x p.whole in
     let k = p.place.is (fresh_kept 0) in
     let more : filled s (r ++ x) ≡ filled s r ++ x =
-        (rw (← g.opened_same, ← g.size) (ap (λ (t : List ℕ). (opened s r).part ++ t) (drop-append-le (header_size s r) r x p.whole))) ∙ sym (append_assoc (opened s r).part (drop (header_size s r) r) x) in
+    (rw (← g.opened_same, ← g.size) (ap (λ (t : List ℕ). (opened s r).part ++ t) (drop-append-le (header_size s r) r x p.whole))) ∙ sym (append_assoc (opened s r).part (drop (header_size s r) r) x) in
     let now : with_part (slot_at old) ((slot_at old).part ++ x) ≡ with_part (opened s (r ++ x)) (filled s (r ++ x)) = rw (k, more, ← g.opened_same) refl in
     let n = length-append r x in
     let record_now = with_part (opened s r) (filled s r ++ x) in
@@ -209,7 +211,8 @@ grows_stands max fed x given s r m old new q near h max_is held counted g =
     let slots : old.slots.items ≡ new.slots.items = ap (λ (t : State). t.kept) (sym h.state ∙ sym g.state) in
     rw g.none (record {
       standing = record {
-        s = s; r = r ++ x;
+        s = s;
+        r = r ++ x;
         reads = rw append-nil reads;
         max_is = g.keeps_max ∙ max_is;
         fields = inl (record { state = sym g.state; head = sym g.head; need = g.keeps_need ∙ h.need; short = short });

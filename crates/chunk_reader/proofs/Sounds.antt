@@ -27,7 +27,8 @@ sound_new core fed given size slots head need held f g =
       counted = sym (ap length f);
       read = record { s = fresh_state; r = []; reads = reads };
       standing = λ _. record {
-        s = fresh_state; r = [];
+        s = fresh_state;
+        r = [];
         reads = reads;
         max_is = refl;
         fields = inl (record { state = state; head = sym head; need = need; short = some });

@@ -36,11 +36,13 @@ pub halts_stops : (max : ℕ) (fed : List ℕ) (given : List (ℕ × Message)) (
 halts_stops max fed given piece cause after lt h = elim h.cause_is [
   | inl e ↦ inl e
   | inr f ↦ inr (record {
-      ms = given; s = h.s; r = h.r;
-      reads = rw (take_past fed piece after) h.reads;
-      there = omega (arith, length-append fed piece);
-      refused = rw (get_or-append-add fed piece after 0) f;
-    })
+    ms = given;
+    s = h.s;
+    r = h.r;
+    reads = rw (take_past fed piece after) h.reads;
+    there = omega (arith, length-append fed piece);
+    refused = rw (get_or-append-add fed piece after 0) f;
+  })
 ]
 
 -- the basic header is whole before its last byte
@@ -82,7 +84,7 @@ head_refused max n s r x old (BadChunkSize v) a h held one f =
 head_refused max n s r x old OutOfMemory a h held one f = inl refl
 head_refused max n s r x old TooFar a h held one f = absurd f
 
-held_more : (s : State) (r y : List ℕ) → header_size s r ≤ length r → held_bytes s (r ++ y) ≡ held_bytes s r + length y
+pub held_more : (s : State) (r y : List ℕ) → header_size s r ≤ length r → held_bytes s (r ++ y) ≡ held_bytes s r + length y
 held_more s r y whole =
     let g = grown s r y whole in
     let n = length-append r y in
@@ -92,7 +94,7 @@ held_more s r y whole =
     let po : part_bytes (put (opened s r) s.kept) ≡ part_bytes (put (opened s (r ++ y)) s.kept) = ap (λ (t : Kept). part_bytes (put t s.kept)) g.opened_same in
     omega (arith, hr, hx, po, g.size, n, whole)
 
-size_more : (s : State) (r y : List ℕ) → header_size s r ≤ length r → chunk_size s (r ++ y) ≡ chunk_size s r
+pub size_more : (s : State) (r y : List ℕ) → header_size s r ≤ length r → chunk_size s (r ++ y) ≡ chunk_size s r
 size_more s r y whole = let g = grown s r y whole in sym (rw (g.size, g.opened_same) refl)
 
 -- payload that isn't the last of its chunk
@@ -133,7 +135,8 @@ payload_halts max fed given piece s r old n TooMuch after q p m held within need
     let g = grown s r (take (after + 1) piece) p.whole in
     let n1 = length-append r (take (after + 1) piece) in
     record {
-      s = s; r = r ++ take after piece;
+      s = s;
+      r = r ++ take after piece;
       reads = open_more max fed given s r (take after piece) q o (omega (arith, length-append fed (take after piece), len, near));
       cause_is = inr (rw (one_more r piece after (omega arith)) (omega (arith, g.size, n1, len1, p.whole), omega (arith, size1, n1, len1, p.need), omega (arith, held1, len1, limit)));
     }
@@ -145,12 +148,14 @@ payload_halts max fed given piece s r old n (BadChunkSize v) after q p m held wi
     let run = fed_runs max s r (take n piece) old mid m q.rest.admitted p held f.1.0 f.1.1 in
     let o = payload_open max s r (take after piece) old q.rest.admitted p (omega (arith, f.1.1, held, m, len, size)) (omega (arith, len)) in
     record {
-      s = s; r = r ++ take after piece;
+      s = s;
+      r = r ++ take after piece;
       reads = open_more max fed given s r (take after piece) q o (omega (arith, length-append fed (take after piece), len, near));
       cause_is = inr (rw (one_more r piece after (omega arith), last) (bad_refused max s (r ++ take n piece) mid v run f.1.2 f.1.3));
     }
 payload_halts max fed given piece s r old n OutOfMemory after q p m held within need some near f = record {
-  s = s; r = r;
+  s = s;
+  r = r;
   reads = rw (f, append-nil) q;
   cause_is = inl refl;
 }
@@ -192,7 +197,8 @@ step_halts max fed given piece old most cause after st some le near (inl f) = el
       let one : length (take 1 piece) ≡ 1 = omega (arith, length-take 1 piece) in
       let c : (cause ≡ OutOfMemory) ⊎ Refuses max st.s (st.r ++ take 1 piece) (length fed + after) cause = head_refused max (length fed + after) st.s st.r (take 1 piece) old cause st.reads.rest.admitted h st.held one f1 in
       record {
-        s = st.s; r = st.r;
+        s = st.s;
+        r = st.r;
         reads = rw (f.1, append-nil) st.reads;
         cause_is = rw (f.1) (let d = rw f.1 at c in let Q : List ℕ → Type 0 = λ t. (cause ≡ OutOfMemory) ⊎ Refuses max st.s (st.r ++ t) (length fed + 0) cause in subst Q x d);
       })
@@ -206,15 +212,15 @@ step_halts max fed given piece old most cause after st some le near (inr f) = el
 taken_admits : (max : ℕ) (fed : List ℕ) (given : List (ℕ × Message)) (piece : List ℕ) (old : Core) (used : ℕ) (m : Option Message) (new : Core) (st : IsStanding max fed given old) → 0 < length piece → IsTaken old piece 1 used m new → used ≡ 1 → IsOpen max st.s (st.r ++ take used piece) ⊎ IsChunk max st.s (st.r ++ take used piece)
 taken_admits max fed given piece old used m new st some t one = elim t.taken [
   | inl f ↦ elim st.fields [
-      | inl h ↦ (
-          let P : State → List ℕ → ℕ → Type 0 = λ s r n. HeadGrows s (r ++ take used piece) m old new ⊎ HeadOpens n old.held s (r ++ take used piece) m new in
-          taken_head max st.s st.r (take used piece) m old new st.reads.rest.admitted h st.held (omega (arith, length-take used piece, one, some)) (at_state old st.s st.r max P h st.max_is f.2))
-      | inr p ↦ absurd (omega (arith, p.some, f.0))
-    ]
+    | inl h ↦ (
+        let P : State → List ℕ → ℕ → Type 0 = λ s r n. HeadGrows s (r ++ take used piece) m old new ⊎ HeadOpens n old.held s (r ++ take used piece) m new in
+        taken_head max st.s st.r (take used piece) m old new st.reads.rest.admitted h st.held (omega (arith, length-take used piece, one, some)) (at_state old st.s st.r max P h st.max_is f.2))
+    | inr p ↦ absurd (omega (arith, p.some, f.0))
+  ]
   | inr f ↦ elim st.fields [
-      | inl h ↦ absurd (omega (arith, h.need, f.0))
-      | inr p ↦ taken_passed max st.s (st.r ++ take used piece) m f.1.mid new (fed_runs max st.s st.r (take used piece) old f.1.mid st.max_is st.reads.rest.admitted p st.held f.1.fed f.1.within) f.1.passed
-    ]
+    | inl h ↦ absurd (omega (arith, h.need, f.0))
+    | inr p ↦ taken_passed max st.s (st.r ++ take used piece) m f.1.mid new (fed_runs max st.s st.r (take used piece) old f.1.mid st.max_is st.reads.rest.admitted p st.held f.1.fed f.1.within) f.1.passed
+  ]
 ]
 
 far_halts : (max : ℕ) (fed : List ℕ) (given : List (ℕ × Message)) (piece : List ℕ) (old : Core) (used : ℕ) (m : Option Message) (new : Core) → IsStanding max fed given old → 0 < length piece → length fed ≡ 2 ^ 62 → IsTaken old piece 1 used m new → Halts max fed given piece TooFar 0
@@ -225,7 +231,8 @@ far_halts max fed given piece old used m new st some near t =
     let whole : IsOpen max st.s (st.r ++ take 1 piece) ⊎ IsChunk max st.s (st.r ++ take 1 piece) = subst (λ (k : ℕ). IsOpen max st.s (st.r ++ take k piece) ⊎ IsChunk max st.s (st.r ++ take k piece)) one (taken_admits max fed given piece old used m new st some t one) in
     let far = far_refused max (length fed + 0) st.s (st.r ++ take 1 piece) n whole in
     record {
-      s = st.s; r = st.r;
+      s = st.s;
+      r = st.r;
       reads = rw append-nil st.reads;
       cause_is = inr (let Q : List ℕ → Type 0 = λ t. Refuses max st.s (st.r ++ t) (length fed + 0) TooFar in subst Q x far);
     }

@@ -6,3 +6,4 @@ pub mod Core
 pub mod Steps
 pub mod Sound
 pub mod Feeds
+pub mod Laws

@@ -23,7 +23,12 @@ fn take_whole(slot: &mut Kept, alloc: Global) -> Option<Message>
     if slot.part.len() != slot.terms.length as usize {
         return None;
     }
-    let Terms { time, kind, stream, .. } = slot.terms;
+    let Terms {
+        time,
+        kind,
+        stream,
+        ..
+    } = slot.terms;
     let body = mem::replace(&mut slot.part, Bytes::new(alloc));
     Some(Message {
         kind,

@@ -172,7 +172,13 @@ fn whole_size(at: usize, extended: bool) -> usize
 }
 
 // The rest of a header whose message header ends at `at`.
-fn after_head(core: &Core, basic: Basic, at: usize, before: Found, head: Head) -> Result<Option<Opening>, ReadCause>
+fn after_head(
+    core: &Core,
+    basic: Basic,
+    at: usize,
+    before: Found,
+    head: Head,
+) -> Result<Option<Opening>, ReadCause>
     requires basic { basic ≡ basic_in core.now.head.items }
     requires at { at ≡ basic_size core.now.head.items + head_size (format_in core.now.head.items) }
     requires low { at < 2 ^ 32 }

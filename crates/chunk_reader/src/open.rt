@@ -26,7 +26,12 @@ fn reopen(slot: &mut Kept, held: &mut u64, alloc: Global, o: Opening)
 }
 
 // Puts what a header says into the slot of its id, or into a new one, and answers its place.
-fn put_slot(slots: &mut Vec<Kept>, held: &mut u64, alloc: Global, o: Opening) -> Result<usize, OutOfMemory>
+fn put_slot(
+    slots: &mut Vec<Kept>,
+    held: &mut u64,
+    alloc: Global,
+    o: Opening,
+) -> Result<usize, OutOfMemory>
     requires within { IfSome o.place (λ i. i < length slots.old.items) }
     requires counted { held.old ≡ part_bytes slots.old.items }
     ensures slots { IfOk result (λ i. slots.new.items ≡ put_at o.place (record { id = o.id; terms = o.terms; part = if o.drops then [] else (at_place o.id o.place slots.old.items).part }) slots.old.items) }

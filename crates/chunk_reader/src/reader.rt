@@ -102,7 +102,10 @@ impl Reader {
             }
             Err(refusal) => {
                 let at = self.count + refusal.after as u64;
-                let fail = ReadFail { cause: refusal.cause, at };
+                let fail = ReadFail {
+                    cause: refusal.cause,
+                    at,
+                };
                 self.count = at;
                 self.fed.add_all(&piece[..refusal.after]);
                 self.core = fresh(alloc, self.core.max);
@@ -126,7 +129,12 @@ impl Reader {
         while used < piece.len() {
             match self.advance(alloc, &piece[used..]) {
                 Err(fail) => return Err(fail),
-                Ok(Fed { used: more, message }) => {
+                Ok(
+                    Fed {
+                        used: more,
+                        message,
+                    },
+                ) => {
                     used += more;
                     if message.is_some() {
                         return Ok(Fed { used, message });

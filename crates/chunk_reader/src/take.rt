@@ -154,6 +154,10 @@ pub fn take_some(core: &mut Core, alloc: Global, piece: &[u8], count: u64) -> Re
         }
     }
     let room = FAR - count;
-    let most = if (piece.len() as u64) < room { piece.len() } else { room as usize };
+    let most = if (piece.len() as u64) < room {
+        piece.len()
+    } else {
+        room as usize
+    };
     step(core, alloc, piece, most)
 }
