@@ -1,15 +1,13 @@
 -- A header that was written is read back, and its id is in the shortest form
-use Rattle.std.proofs.Common.{◌≡◌, ℕ, ◌+◌, ◌-◌, ◌*◌, ◌/◌, ◌%◌, ◌<◌, ◌≤◌, ◌^◌, Bool, true, false, nat_le, List, [], ◌∷◌, ◌++◌, length, length-append, drop, slice_index, Option, Some, None, refl, sym, ap, ◌∙◌, cond, arith, append_assoc}
+use Rattle.std.proofs.Common.{◌≡◌, ℕ, ◌/◌, ◌<◌, ◌≤◌, true, false, nat_le, List, ◌++◌, length, length-append, slice_index, Option, Some, None, refl, sym, ap, ◌∙◌, arith, append_assoc}
 use Rattle.std.proofs.lemmas.Bool.{cases_lt, le-leb}
 use Rattle.std.proofs.lemmas.List.{drop_at}
 use Rattle.std.proofs.Common.{inl, inr}
 use Rattle.std.proofs.lemmas.Bool.Decides.{nat_tests}
-use Rattle.std.specs.Int.{bytes_high_first, bytes_low_first}
-use Rattle.relay_base.specs.Numbers.{be24_of, le32_of}
 use Rattle.relay_base.proofs.ReadBack.{be24_of-bytes, le32_of-bytes}
 use Rattle.chunk_wire.specs.declared.headers.Basic.{Basic}
 use Rattle.chunk_wire.specs.declared.headers.Head.{Head}
-use Rattle.chunk_wire.specs.Layout.{basic_of, basic_size, id_in, basic_in, head_of, head_in, head_size}
+use Rattle.chunk_wire.specs.Layout.{basic_of, basic_size, id_in, head_of, head_in, head_size}
 use Rattle.chunk_wire.specs.Written.{basic_bytes, field_bytes, head_bytes}
 use Rattle.chunk_wire.specs.ReadBack.{IsHead, ReadsBack, IsShortest, shown, basic_part}
 

@@ -1,13 +1,12 @@
 -- A header is determined by its own bytes, whatever follows them
-use Rattle.std.proofs.Common.{◌≡◌, ℕ, ◌+◌, ◌-◌, ◌/◌, ◌<◌, ◌≤◌, min, Bool, true, false, cond, List, [], ◌∷◌, ◌++◌, length, take, drop, slice_index, refl, sym, ap, ◌∙◌, arith}
-use Rattle.std.proofs.Common.{get_or}
+use Rattle.std.proofs.Common.{◌≡◌, ℕ, ◌+◌, ◌/◌, ◌<◌, ◌≤◌, Bool, true, false, cond, List, ◌++◌, length, take, drop, slice_index, refl, sym, ap, ◌∙◌, arith}
 use Rattle.std.proofs.lemmas.Bool.Decides.{nat_tests}
 use Rattle.std.proofs.lemmas.List.{get_or-drop, get_or_append_left, get_or-take}
 use Rattle.relay_base.specs.Numbers.{be24_of, be32_of, le32_of}
 use Rattle.chunk_wire.specs.declared.headers.Basic.{Basic}
 use Rattle.chunk_wire.specs.Layout.{basic_size, id_in, basic_in, format_in, head_in, head_size}
 use Rattle.chunk_wire.specs.State.{State}
-use Rattle.chunk_wire.specs.Chunk.{is_extended, header_size, value_in, opened, head_fields, kept_before, terms_by}
+use Rattle.chunk_wire.specs.Chunk.{is_extended, header_size, value_in, opened, head_fields}
 use Rattle.chunk_wire.proofs.Sizes.{basic_size_some}
 
 -- the first n bytes are the same
@@ -95,7 +94,7 @@ pub record HeaderSame (s : State) (a b : List ℕ) : Type 0 where
   pub size : header_size s a ≡ header_size s b
   pub opened_same : opened s a ≡ opened s b
 
-size_parts : (s : State) (a : List ℕ) → header_size s a ≡ basic_size a + head_size (format_in a) + cond (is_extended s a) 4 0
+pub size_parts : (s : State) (a : List ℕ) → header_size s a ≡ basic_size a + head_size (format_in a) + cond (is_extended s a) 4 0
 unfolding header_size
 size_parts s a = refl
 

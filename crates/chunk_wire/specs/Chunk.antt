@@ -68,7 +68,7 @@ abbrev pub is_done : State → List ℕ → Bool
 is_done s b = nat_eq (length (filled s b)) (opened s b).terms.length
 
 -- the message that the chunk completes
-abbrev pub message_of : State → List ℕ → Option Message
+unfoldable pub message_of : State → List ℕ → Option Message
 message_of s b = if is_done s b then Some (record { kind = (opened s b).terms.kind; stream = (opened s b).terms.stream; time = (opened s b).terms.time; body = filled s b }) else None
 
 -- the record of the id with this part
@@ -76,7 +76,7 @@ abbrev pub with_part : Kept → List ℕ → Kept
 with_part k part = record { id = k.id; terms = k.terms; part = part }
 
 -- the state after the chunk: nothing but the record of its id changes
-abbrev pub after_chunk : State → List ℕ → State
+unfoldable pub after_chunk : State → List ℕ → State
 after_chunk s b = record { size = s.size; kept = put (with_part (opened s b) (if is_done s b then [] else filled s b)) s.kept }
 
 -- a chunk on a fresh id has format 0 or 1

@@ -1,5 +1,5 @@
 -- What is read of a header that was written
-use Rattle.std.specs.Prelude.{◌≡◌, ℕ, ◌+◌, ◌<◌, ◌≤◌, ◌^◌, nat_lt, nat_eq, if◌then◌else◌, List, ◌++◌, length, drop, slice_index, Some}
+use Rattle.std.specs.Prelude.{◌≡◌, ℕ, ◌<◌, ◌≤◌, ◌^◌, nat_lt, nat_eq, if◌then◌else◌, List, ◌++◌, length, drop, slice_index, Some}
 use Rattle.chunk_wire.specs.declared.headers.Basic.{Basic}
 use Rattle.chunk_wire.specs.declared.headers.Head.{Head}
 use Rattle.chunk_wire.specs.Layout.{basic_of, head_of}

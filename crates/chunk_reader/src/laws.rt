@@ -1,0 +1,10 @@
+ghost use Rattle.std.specs.Prelude.{ℕ, List};
+ghost use Rattle.chunk_wire.specs.declared.message.Message.{Message};
+ghost use Rattle.chunk_wire.specs.State.{State};
+ghost use Rattle.chunk_reader.specs.Laws.{SameReading};
+ghost use Rattle.chunk_reader.specs.Reads.{Reads};
+
+/// Two readings of the same bytes are one, so the cutting into pieces can't matter.
+pub fn one_reading()
+    ensures { (max : ℕ) (b : List ℕ) (ms ns : List (ℕ × Message)) (s t : State) (q r : List ℕ) → Reads max b ms s q → Reads max b ns t r → SameReading ms ns s t q r }
+{}
