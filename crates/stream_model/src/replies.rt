@@ -8,29 +8,53 @@ use av_unit::Item;
 #[derive(Drop)]
 pub enum Reply {
     /// The broadcast has begun, with item `n`.
-    Began { n: u64 },
+    Began {
+        n: u64,
+    },
     /// Somebody else publishes here.
-    InUse { by: u64 },
+    InUse {
+        by: u64,
+    },
     /// The unit is item `n`.
-    Pushed { n: u64 },
+    Pushed {
+        n: u64,
+    },
     /// The caller isn't the publisher; `live` is, if there is one.
-    NotPublisher { live: Option<u64> },
+    NotPublisher {
+        live: Option<u64>,
+    },
     /// The broadcast has ended, with item `n`.
-    Ended { n: u64 },
+    Ended {
+        n: u64,
+    },
     /// The caller has that place, and its cursor stands at `from`.
-    Joined { player: u32, from: u64 },
+    Joined {
+        player: u32,
+        from: u64,
+    },
     /// All places are taken.
     Full,
     /// The caller doesn't have that place.
     NotPlayer,
     /// Item `n`, taken with the cursor at `from`.
-    Sent { from: u64, n: u64, item: Item },
+    Sent {
+        from: u64,
+        n: u64,
+        item: Item,
+    },
     /// The window had passed the cursor, which went on from `from` to `to`.
-    Skip { from: u64, to: u64 },
+    Skip {
+        from: u64,
+        to: u64,
+    },
     /// Nothing for the player up to `end`, the number of items.
-    NotYet { end: u64 },
+    NotYet {
+        end: u64,
+    },
     /// The place is free again.
-    Left { player: u32 },
+    Left {
+        player: u32,
+    },
     /// How many calls before this one were answered so. A count stands still at 2^64 - 1.
     Counts {
         began: u64,
