@@ -7,3 +7,4 @@ pub mod Stopping
 pub mod Sounds
 pub mod Feeding
 pub mod Once
+pub mod Parts

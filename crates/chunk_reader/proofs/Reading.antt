@@ -31,7 +31,7 @@ open_empty max s h =
     let a = basic_size_some [] in
     let b = header_some s [] in
     record {
-      admitted = record { room = λ le. absurd (omega arith); length = λ le. absurd (omega arith); held = rw (held_short s [] b) h };
+      admitted = record { room = λ le. absurd (omega arith); length = λ le. absurd (omega arith); held = rw (held_short s [] b) h; before = h };
       short = omega arith;
     }
 

@@ -44,10 +44,11 @@ pub record Running (max : ℕ) (s : State) (r : List ℕ) (mid : Core) : Type 0 
   pub need : mid.need + length r ≡ chunk_size s r
   pub held : mid.held ≡ held_bytes s r
   pub limit : mid.held ≤ part_limit max
+  pub before : part_bytes s.kept ≤ part_limit max
   pub counted : mid.held ≡ part_bytes mid.slots.items
 
 pub admits_running : (max : ℕ) (s : State) (r : List ℕ) (mid : Core) → Running max s r mid → Admits max s r
-admits_running max s r mid u = record { room = λ _. u.room; length = λ _. u.fits; held = rw (← u.held) u.limit }
+admits_running max s r mid u = record { room = λ _. u.room; length = λ _. u.fits; held = rw (← u.held) u.limit; before = u.before }
 
 -- the slot is the record of the chunk
 pub slot_is : (max : ℕ) (s : State) (r : List ℕ) (mid : Core) → Running max s r mid → slot_at mid ≡ with_part (opened s r) (filled s r)
@@ -138,8 +139,8 @@ passed max fed x given s r m mid new q near u (inl p) = rw (p.1, p.2) (goes_on m
 passed max fed x given s r m mid new q near u (inr p) = finished max fed x given s r m mid new q near u p.0 p.1
 
 -- a whole header opens the chunk
-pub opens_run : (max : ℕ) (s : State) (r : List ℕ) (old mid : Core) → length r ≡ header_size s r → has_room s r ≡ true → (opened s r).terms.length ≤ max → IsOpened max s r mid → mid.held ≤ part_limit max → Running max s r mid
-opens_run max s r old mid size room fits o limit =
+pub opens_run : (max : ℕ) (s : State) (r : List ℕ) (old mid : Core) → length r ≡ header_size s r → has_room s r ≡ true → (opened s r).terms.length ≤ max → IsOpened max s r mid → mid.held ≤ part_limit max → part_bytes s.kept ≤ part_limit max → Running max s r mid
+opens_run max s r old mid size room fits o limit before =
     let none : filled s r ≡ (opened s r).part = ap (λ (t : List ℕ). (opened s r).part ++ t) (no_more r (header_size s r) size) ∙ append-nil (opened s r).part in
     let k : with_part (opened s r) (filled s r) ≡ opened s r = ap (λ (t : List ℕ). with_part (opened s r) t) none in
     record {
@@ -153,6 +154,7 @@ opens_run max s r old mid size room fits o limit =
       need = omega (arith, o.need, size);
       held = o.counted ∙ ap part_bytes o.place.slots_are ∙ sym (held_whole s r (omega arith) ∙ (omega (arith, size)));
       limit = limit;
+      before = before;
       counted = o.counted;
     }
 
@@ -190,6 +192,7 @@ fed_runs max s r x old mid max_is a p held f within =
       need = omega (arith, sizes, f.need, p.need, n);
       held = omega (arith, f.held, held, hr, hx, po, g.size, n, p.whole);
       limit = rw (← max_is) (omega (arith, f.held, within));
+      before = a.before;
       counted = f.counted;
     }
 
@@ -197,7 +200,7 @@ pub grows_open : (max : ℕ) (s : State) (r x : List ℕ) (m : Option Message) (
 grows_open max s r x m old new a h g =
     let short = g.short.short in
     record {
-      admitted = record { room = g.short.room; length = λ le. absurd (omega (arith, short)); held = rw (held_short s (r ++ x) short, ← held_short s r h.short) a.held };
+      admitted = record { room = g.short.room; length = λ le. absurd (omega (arith, short)); held = rw (held_short s (r ++ x) short, ← held_short s r h.short) a.held; before = a.before };
       short = omega (arith, short);
     }
 
@@ -234,7 +237,7 @@ opens_stands : (max : ℕ) (fed x : List ℕ) (given : List (ℕ × Message)) (s
 opens_stands max fed x given s r m old new q near one h held t =
     let size = last_byte s r x h.short t.whole one in
     let limit : t.mid.held ≤ part_limit max = omega (arith, t.less, held, q.rest.admitted.held) in
-    passed max fed x given s r m t.mid new q near (opens_run max s (r ++ x) old t.mid size t.room t.fits t.opens limit) t.passed
+    passed max fed x given s r m t.mid new q near (opens_run max s (r ++ x) old t.mid size t.room t.fits t.opens limit q.rest.admitted.before) t.passed
 
 -- what a byte of a header leaves
 pub head_stands : (max : ℕ) (fed x : List ℕ) (given : List (ℕ × Message)) (m : Option Message) (old new : Core) → IsStanding max fed given old → length (fed ++ x) ≤ 2 ^ 62 → length x ≡ 1 → old.need ≡ 0 → HeadTaken old (old.head.items ++ x) m new → Stood max (fed ++ x) given m new

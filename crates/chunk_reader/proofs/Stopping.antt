@@ -28,7 +28,7 @@ pub record Halts (max : ℕ) (fed : List ℕ) (given : List (ℕ × Message)) (p
   pub reads : Reads max (fed ++ take after piece) given s r
   pub cause_is : (cause ≡ OutOfMemory) ⊎ Refuses max s (r ++ slice_index piece after ∷ []) (length fed + after) cause
 
-take_past : (xs ys : List ℕ) (n : ℕ) → take (length xs + n) (xs ++ ys) ≡ xs ++ take n ys
+pub take_past : (xs ys : List ℕ) (n : ℕ) → take (length xs + n) (xs ++ ys) ≡ xs ++ take n ys
 take_past [] ys n = ap (λ (k : ℕ). take k ys) (omega arith)
 take_past (x ∷ xs) ys n = let e : length (x ∷ xs) + n ≡ suc (length xs + n) = omega arith in rw e (ap (λ (t : List ℕ). x ∷ t) (take_past xs ys n))
 
@@ -53,7 +53,7 @@ basic_back r x le =
     let one = same_less 1 (length r) (r ++ x) r (omega arith) same in
     (basic_size_same (r ++ x) r one, format_same (r ++ x) r one, id_same (r ++ x) r (same_less (basic_size (r ++ x)) (length r) (r ++ x) r le same))
 
-no_room : (k : Bool) (f n : ℕ) → k ≡ false → (2 ≤ f) ⊎ (64 ≤ n) → (k || (nat_lt f 2 && nat_lt n 64)) ≡ true → ⊥
+pub no_room : (k : Bool) (f n : ℕ) → k ≡ false → (2 ≤ f) ⊎ (64 ≤ n) → (k || (nat_lt f 2 && nat_lt n 64)) ≡ true → ⊥
 no_room k f n e h t = grind (arith, nat_tests)
 
 -- a basic header that isn't taken was not whole before
@@ -79,7 +79,7 @@ head_refused max n s r x old (TooLong k) a h held one f = inr (last_byte s r x h
 head_refused max n s r x old TooMuch a h held one f = absurd f
 head_refused max n s r x old (BadChunkSize v) a h held one f =
     let mid = f.3.0 in
-    let run = opens_run max s (r ++ x) old mid (last_byte s r x h.short f.0 one) f.1 f.2 f.3.1.0 (omega (arith, f.3.1.1, held, a.held)) in
+    let run = opens_run max s (r ++ x) old mid (last_byte s r x h.short f.0 one) f.1 f.2 f.3.1.0 (omega (arith, f.3.1.1, held, a.held)) a.before in
     inr (bad_refused max s (r ++ x) mid v run f.3.1.2 f.3.1.3)
 head_refused max n s r x old OutOfMemory a h held one f = inl refl
 head_refused max n s r x old TooFar a h held one f = absurd f
@@ -109,6 +109,7 @@ payload_open max s r y old a p limit short =
         room = λ _. rw (← g.id, ← g.format) (a.room (omega (arith, basic_in_header s r, p.whole)));
         length = λ _. rw (← g.opened_same) (a.length p.whole);
         held = rw held limit;
+        before = a.before;
       };
       short = omega (arith, size, n, p.need);
     }
@@ -169,7 +170,7 @@ taken_passed max s r m mid new run (inr p) = inr (running_chunk max s r mid run 
 taken_head : (max : ℕ) (s : State) (r x : List ℕ) (m : Option Message) (old new : Core) → Admits max s r → AtHead s r old → old.held ≡ held_bytes s r → length x ≡ 1 → HeadGrows s (r ++ x) m old new ⊎ HeadOpens max old.held s (r ++ x) m new → IsOpen max s (r ++ x) ⊎ IsChunk max s (r ++ x)
 taken_head max s r x m old new a h held one (inl g) = inl (grows_open max s r x m old new a h g)
 taken_head max s r x m old new a h held one (inr t) =
-    taken_passed max s (r ++ x) m t.mid new (opens_run max s (r ++ x) old t.mid (last_byte s r x h.short t.whole one) t.room t.fits t.opens (omega (arith, t.less, held, a.held))) t.passed
+    taken_passed max s (r ++ x) m t.mid new (opens_run max s (r ++ x) old t.mid (last_byte s r x h.short t.whole one) t.room t.fits t.opens (omega (arith, t.less, held, a.held)) a.before) t.passed
 
 -- a byte that isn't refused, though it is too far
 far_refused : (max n : ℕ) (s : State) (r : List ℕ) → n ≡ 2 ^ 62 → IsOpen max s r ⊎ IsChunk max s r → Refuses max s r n TooFar

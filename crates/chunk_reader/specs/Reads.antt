@@ -21,11 +21,12 @@ held_bytes s r =
 abbrev pub has_room : State → List ℕ → Bool
 has_room s r = is_known s r || (nat_lt (format_in r) 2 && nat_lt (length s.kept) 64)
 
--- nothing in the bytes r of a chunk from s is refused
+-- nothing in the bytes r of a chunk from s is refused, and what was held before it is within the limit
 pub record Admits (max : ℕ) (s : State) (r : List ℕ) : Type 0 where
   pub room : basic_size r ≤ length r → has_room s r ≡ true
   pub length : header_size s r ≤ length r → (opened s r).terms.length ≤ max
   pub held : held_bytes s r ≤ part_limit max
+  pub before : part_bytes s.kept ≤ part_limit max
 
 -- less than a chunk
 pub record IsOpen (max : ℕ) (s : State) (r : List ℕ) : Type 0 where

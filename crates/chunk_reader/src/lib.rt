@@ -13,7 +13,7 @@ mod reader;
 mod take;
 
 pub use fail::{ReadCause, ReadFail};
-pub use laws::one_reading;
+pub use laws::{beginnings_are_read, one_reading};
 pub use reader::{Fed, Reader};
 
 #[cfg(test)]
