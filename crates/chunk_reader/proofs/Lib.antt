@@ -8,3 +8,4 @@ pub mod Sounds
 pub mod Feeding
 pub mod Once
 pub mod Parts
+pub mod Apart

@@ -25,7 +25,7 @@ grown s r x w = header_same s (length r) r (r ++ x) (same_back (length r) (r ++ 
 pub shrunk : (s : State) (r x : List ℕ) → header_size s (r ++ x) ≤ length r → HeaderSame s (r ++ x) r
 shrunk s r x w = header_same s (length r) (r ++ x) r (same_append r x) w
 
-empty_is : (xs : List ℕ) → length xs ≡ 0 → xs ≡ []
+pub empty_is : (xs : List ℕ) → length xs ≡ 0 → xs ≡ []
 empty_is [] e = refl
 empty_is (y ∷ ys) e = absurd (omega arith)
 
