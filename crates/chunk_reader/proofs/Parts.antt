@@ -61,7 +61,9 @@ part_rest max n m s r o =
     let Q : List ℕ → Type 0 = λ t. length (take n r) < chunk_size s t in
     let short : length (take n r) < chunk_size s r = omega (arith, length-take n r, o.short) in
     record {
-      ds = []; q = take n r; are = tt;
+      ds = [];
+      q = take n r;
+      are = tt;
       opens = open_part max s (take n r) (drop n r) (subst P (sym e) o.admitted) (subst Q (sym e) short);
       is = refl;
       later = [];
@@ -76,7 +78,9 @@ part_first max n m s c cs r i less =
     let w = i.chunk.whole in
     let short : length (take n c) < chunk_size s c = omega (arith, length-take n c, w, less) in
     record {
-      ds = []; q = take n c; are = tt;
+      ds = [];
+      q = take n c;
+      are = tt;
       opens = open_part max s (take n c) (drop n c) (subst P (sym e) i.admitted) (subst Q (sym e) short);
       is = ap (take n) (append_assoc c (concat cs) r) ∙ take-append-le n c (concat cs ++ r) (omega arith);
       later = messages m s (c ∷ cs);
@@ -85,7 +89,9 @@ part_first max n m s c cs r i less =
 
 part_more : (max k m : ℕ) (s : State) (c : List ℕ) (cs : List (List ℕ)) (r : List ℕ) → IsChunk max s c → Part max k (m + length c) (next s c) cs r → Part max (length c + k) m s (c ∷ cs) r
 part_more max k m s c cs r i p = record {
-  ds = c ∷ p.ds; q = p.q; are = (i, p.are);
+  ds = c ∷ p.ds;
+  q = p.q;
+  are = (i, p.are);
   opens = p.opens;
   is = ap (take (length c + k)) (append_assoc c (concat cs) r) ∙ take_past c (concat cs ++ r) k ∙ ap (λ (t : List ℕ). c ++ t) p.is ∙ sym (append_assoc c (concat p.ds) p.q);
   later = p.later;
