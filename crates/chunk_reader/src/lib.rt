@@ -34,7 +34,10 @@ mod tests {
         seen: &mut Vec<Seen>,
     ) -> Result<Option<ReadFail>, AllocError> {
         let mut rest = piece;
-        while !rest.is_empty() {
+        for _ in 0..piece.len() {
+            if rest.is_empty() {
+                break;
+            }
             match reader.feed(alloc, rest) {
                 Err(fail) => return Ok(Some(fail)),
                 Ok(Fed { used, message }) => {
