@@ -1,0 +1,11 @@
+pub mod Headers
+pub mod Places
+pub mod Heads
+pub mod Reading
+pub mod Running
+pub mod Stopping
+pub mod Sounds
+pub mod Feeding
+pub mod Once
+pub mod Parts
+pub mod Apart

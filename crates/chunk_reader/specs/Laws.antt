@@ -1,0 +1,20 @@
+-- Laws of reading
+use Rattle.std.specs.Prelude.{◌≡◌, ℕ, List, ◌++◌, take}
+use Rattle.chunk_wire.specs.declared.message.Message.{Message}
+use Rattle.chunk_wire.specs.State.{State}
+use Rattle.chunk_reader.specs.Reads.{Reads}
+
+-- two readings give the same messages and leave the same state and the same rest
+pub record SameReading (ms ns : List (ℕ × Message)) (s t : State) (q r : List ℕ) : Type 0 where
+  pub messages_same : ms ≡ ns
+  pub state_same : s ≡ t
+  pub rest_same : q ≡ r
+
+-- the first n bytes read too, as the first of the messages
+pub record ReadsPart (max : ℕ) (b : List ℕ) (n : ℕ) (ms : List (ℕ × Message)) : Type 0 where
+  pub first : List (ℕ × Message)
+  pub later : List (ℕ × Message)
+  pub s : State
+  pub r : List ℕ
+  pub reads : Reads max (take n b) first s r
+  pub begins : ms ≡ first ++ later

@@ -1,0 +1,22 @@
+ghost use Rattle.std.specs.Prelude.{ℕ, ◌+◌, List, ◌++◌, take};
+ghost use Rattle.chunk_wire.specs.declared.message.Message.{Message};
+ghost use Rattle.chunk_wire.specs.State.{State};
+ghost use Rattle.chunk_reader.specs.Laws.{ReadsPart, SameReading};
+ghost use Rattle.chunk_reader.specs.Reads.{Reads};
+ghost use Rattle.chunk_reader.specs.Stops.{Stops};
+ghost use Rattle.chunk_reader.specs.declared.fail.ReadCause.{ReadCause};
+
+/// Two readings of the same bytes are one, so the cutting into pieces can't matter.
+pub fn one_reading()
+    ensures { (max : ℕ) (b : List ℕ) (ms ns : List (ℕ × Message)) (s t : State) (q r : List ℕ) → Reads max b ms s q → Reads max b ns t r → SameReading ms ns s t q r }
+{}
+
+/// The first bytes of what is read are read too, as the first of its messages.
+pub fn beginnings_are_read()
+    ensures { (max : ℕ) (b : List ℕ) (n : ℕ) (ms : List (ℕ × Message)) (s : State) (r : List ℕ) → Reads max b ms s r → ReadsPart max b n ms }
+{}
+
+/// Where a byte is refused, no list that begins with the bytes up to it and with it is read.
+pub fn refused_bytes_are_not_read()
+    ensures { (max : ℕ) (b more : List ℕ) (cause : ReadCause) (place : ℕ) (ms : List (ℕ × Message)) (s : State) (r : List ℕ) → Stops max b cause place → Reads max (take (place + 1) b ++ more) ms s r → ⊥ }
+{}

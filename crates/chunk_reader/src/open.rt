@@ -1,0 +1,83 @@
+ghost use Rattle.std.specs.Prelude.{◌≡◌, ◌≤◌, ◌<◌, ◌+◌, ◌-◌, length, min, OnOk, IfOk, IfSome, if◌then◌else◌, [], slice_get, Some};
+ghost use Rattle.chunk_wire.specs.Chunk.{header_size, payload_size};
+ghost use Rattle.chunk_wire.specs.State.{at_place, part_bytes, put_at};
+ghost use Rattle.chunk_reader.specs.Core.{the_state};
+ghost use Rattle.chunk_reader.specs.Steps.{IsOpened, IsOpening, IsPutAt};
+
+use crate::fields::Core;
+use crate::header::Opening;
+use av_unit::{Bytes, OutOfMemory};
+use chunk_wire::Kept;
+use std::alloc::Global;
+
+// Puts what a header says into a slot.
+fn reopen(slot: &mut Kept, held: &mut u64, alloc: Global, o: Opening)
+    requires { length slot.old.part ≤ held.old }
+    ensures slot { slot.new ≡ record { id = o.id; terms = o.terms; part = if o.drops then [] else slot.old.part } }
+    ensures held { held.new + length slot.old.part ≡ held.old + length slot.new.part }
+    ensures less { held.new ≤ held.old }
+{
+    slot.id = o.id;
+    slot.terms = o.terms;
+    if o.drops {
+        *held -= slot.part.len() as u64;
+        slot.part = Bytes::new(alloc);
+    }
+}
+
+// Puts what a header says into the slot of its id, or into a new one, and answers its place.
+fn put_slot(
+    slots: &mut Vec<Kept>,
+    held: &mut u64,
+    alloc: Global,
+    o: Opening,
+) -> Result<usize, OutOfMemory>
+    requires within { IfSome o.place (λ i. i < length slots.old.items) }
+    requires counted { held.old ≡ part_bytes slots.old.items }
+    ensures slots { IfOk result (λ i. slots.new.items ≡ put_at o.place (record { id = o.id; terms = o.terms; part = if o.drops then [] else (at_place o.id o.place slots.old.items).part }) slots.old.items) }
+    ensures place { IfOk result (λ i. IsPutAt o.place (length slots.old.items) i) }
+    ensures counted { OnOk result (held.new ≡ part_bytes slots.new.items) }
+    ensures less { held.new ≤ held.old }
+{
+    match o.place {
+        Some(i) => {
+            reopen(&mut slots[i], held, alloc, o);
+            Ok(i)
+        }
+        None => {
+            let i = slots.len();
+            slots.push(Kept {
+                id: o.id,
+                terms: o.terms,
+                part: Bytes::new(alloc),
+            })?;
+            Ok(i)
+        }
+    }
+}
+
+// The payload bytes of the chunk whose slot this is.
+fn payload(size: u32, slot: &Kept) -> u32
+    ensures { result ≡ min size (slot.now.terms.length - length slot.now.part) }
+{
+    let part = slot.part.len();
+    let length = slot.terms.length;
+    if part >= length as usize {
+        return 0;
+    }
+    size.min(length - part as u32)
+}
+
+// Begins what a whole header says.
+pub fn open(core: &mut Core, alloc: Global, o: Opening) -> Result<(), OutOfMemory>
+    requires opening { IsOpening core.old.max (the_state core.old) core.old.head.items o }
+    requires counted { core.old.held ≡ part_bytes core.old.slots.items }
+    ensures opened { OnOk result (IsOpened core.old.max (the_state core.old) core.old.head.items core.new) }
+    ensures less { core.new.held ≤ core.old.held }
+    ensures max { core.new.max ≡ core.old.max }
+{
+    core.place = put_slot(&mut core.slots, &mut core.held, alloc, o)?;
+    core.head.clear();
+    core.need = payload(core.size, &core.slots[core.place]);
+    Ok(())
+}

@@ -1,0 +1,5 @@
+pub mod Layout
+pub mod Written
+pub mod State
+pub mod Chunk
+pub mod ReadBack

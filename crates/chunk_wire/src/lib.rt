@@ -1,0 +1,18 @@
+//! The headers of RTMP chunks, what a chunk means, and the messages that chunks carry.
+//!
+//! The section numbers are those of Adobe's RTMP 1.0.
+#![tactic(auto)]
+
+mod headers;
+mod kept;
+mod laws;
+mod message;
+mod read;
+mod write;
+
+pub use headers::{Basic, Head};
+pub use kept::{Kept, Terms};
+pub use laws::{heads_are_read_back, ids_are_written_shortest};
+pub use message::Message;
+pub use read::{read_basic, read_head};
+pub use write::write_head;
