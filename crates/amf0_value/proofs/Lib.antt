@@ -9,3 +9,4 @@ pub mod Again
 pub mod Split
 pub mod Within
 pub mod Placed
+pub mod Patterns

@@ -23,7 +23,10 @@ pub fn whole_of(bits: u64) -> Option<u64>
         return Some(0);
     }
     let exponent = bits >> 52;
-    if !(1023..=1075).contains(&exponent) {
+    if exponent < 1023 {
+        return None;
+    }
+    if exponent > 1075 {
         return None;
     }
     let whole = ((1u64 << 52) + bits % (1u64 << 52)) >> (1075 - exponent);
