@@ -10,3 +10,6 @@ pub mod Split
 pub mod Within
 pub mod Placed
 pub mod Patterns
+pub mod Written
+pub mod Encoded
+pub mod Stays

@@ -25,7 +25,7 @@ pub record ItemsFront (vs : Items) (bytes rest : List ℕ) : Type 0 where
 two_parts : (a b x : List ℕ) → (a ++ b) ++ x ≡ a ++ (b ++ x)
 two_parts a b x = append_assoc a b x
 
-string_parts : (w : Width) (t b x : List ℕ) → string w t b ++ x ≡ string w t (b ++ x)
+pub string_parts : (w : Width) (t b x : List ℕ) → string w t b ++ x ≡ string w t (b ++ x)
 string_parts w t b x = append_assoc (be w (length t)) (t ++ b) x ∙ ap (λ (y : List ℕ). be w (length t) ++ y) (append_assoc t b x)
 
 string_nil : (w : Width) (t x : List ℕ) → string w t [] ++ x ≡ string w t x

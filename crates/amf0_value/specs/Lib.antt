@@ -4,3 +4,5 @@ pub mod Spelling
 pub mod Refusal
 pub mod Reading
 pub mod Pattern
+pub mod Encoding
+pub mod Laws

@@ -5,11 +5,14 @@ mod amf;
 mod decoding;
 mod fail;
 mod fields;
+pub mod laws;
 mod marker;
 mod number;
 mod reading;
+mod writing;
 
 pub use amf::{Amf, AmfList, Pairs};
 pub use decoding::{decode, decode_all};
 pub use fail::AmfFail;
+pub use writing::encode;
 pub use number::{bits_of, whole_of};
