@@ -1,10 +1,10 @@
-ghost use Rattle.std.specs.Prelude.{◌≡◌, ◌<◌, ◌^◌, ◌++◌, length, codes, IfOk, OnOk};
-ghost use Rattle.amf0_value.specs.Tree.{Items, number, text as a_text, object, null, member, no_members, item, no_items};
+ghost use Rattle.std.specs.Prelude.{◌≡◌, ◌<◌, ◌^◌, ◌++◌, ℕ, length, IfOk, OnOk};
+ghost use Rattle.amf0_value.specs.Tree.{Items, number, text as a_text, object, null};
 ghost use Rattle.amf0_value.specs.View.{tree, members_of, seen_pairs};
-ghost use Rattle.amf0_value.specs.Spelling.{HasLengths, Fits};
+ghost use Rattle.amf0_value.specs.Spelling.{Fits};
 ghost use Rattle.amf0_value.specs.Encoding.{spelling, items_spelling};
 ghost use Rattle.amf0_value.specs.Pattern.{IsPattern};
-ghost use Rattle.rtmp_command.specs.Answers.{info, IsStatus, Carries, description_of};
+ghost use Rattle.rtmp_command.specs.Answers.{info_list, IsStatus, Carries, description_of, server, success};
 
 use amf0_value::{Amf, Pairs, bits_of, encode};
 use av_unit::{Bytes, OutOfMemory};
@@ -91,8 +91,10 @@ fn connected(alloc: Global, transaction: u64) -> Result<Bytes, OutOfMemory>
     let mut out = Bytes::new(alloc);
     put_text(alloc, "_result", &mut out)?;
     put_number(transaction, &mut out)?;
-    put_server(alloc, &mut out)?;
-    put_success(alloc, &mut out)?;
+    let server = server_pairs(alloc, bits_of(31))?;
+    put_object(server, &mut out)?;
+    let success = success_pairs(alloc, bits_of(0))?;
+    put_object(success, &mut out)?;
     Ok(out)
 }
 
@@ -178,7 +180,7 @@ fn info_pairs(
     code: &str,
     description: &str,
 ) -> Result<Vec<(Bytes, Amf)>, OutOfMemory>
-    ensures { IfOk result (λ list. members_of (seen_pairs list.items) ≡ info level.now code.now description.now no_members) }
+    ensures { IfOk result (λ list. seen_pairs list.items ≡ info_list level.now code.now description.now) }
 {
     let mut list = Vec::new(alloc);
     list.push(pair(alloc, "level", text_of(alloc, level)?)?)?;
@@ -187,19 +189,19 @@ fn info_pairs(
     Ok(list)
 }
 
-/// The object that names the server's version and abilities.
-fn put_server(alloc: Global, out: &mut Bytes) -> Result<(), OutOfMemory>
-    ensures { OnOk result (out.new ≡ out.old) }
+/// The pairs of the object that names the server's version and abilities.
+fn server_pairs(alloc: Global, capabilities: u64) -> Result<Vec<(Bytes, Amf)>, OutOfMemory>
+    ensures { IfOk result (λ list. members_of (seen_pairs list.items) ≡ server capabilities) }
 {
     let mut list = Vec::new(alloc);
     list.push(pair(alloc, "fmsVer", text_of(alloc, "FMS/3,0,1,123")?)?)?;
-    list.push(pair(alloc, "capabilities", Amf::Number(bits_of(31)))?)?;
-    put_object(list, out)
+    list.push(pair(alloc, "capabilities", Amf::Number(capabilities))?)?;
+    Ok(list)
 }
 
-/// The object that tells of a connection.
-fn put_success(alloc: Global, out: &mut Bytes) -> Result<(), OutOfMemory>
-    ensures { OnOk result (out.new ≡ out.old) }
+/// The pairs of the object that tells of a connection.
+fn success_pairs(alloc: Global, encoding: u64) -> Result<Vec<(Bytes, Amf)>, OutOfMemory>
+    ensures { IfOk result (λ list. members_of (seen_pairs list.items) ≡ success encoding) }
 {
     let mut list = info_pairs(
         alloc,
@@ -207,6 +209,6 @@ fn put_success(alloc: Global, out: &mut Bytes) -> Result<(), OutOfMemory>
         "NetConnection.Connect.Success",
         "Connection succeeded.",
     )?;
-    list.push(pair(alloc, "objectEncoding", Amf::Number(bits_of(0)))?)?;
-    put_object(list, out)
+    list.push(pair(alloc, "objectEncoding", Amf::Number(encoding))?)?;
+    Ok(list)
 }
