@@ -26,16 +26,24 @@ mutual
   encoded (long t) rest l h = (l, ap (λ (y : List ℕ). 12 ∷ y) (append_assoc (be w32 (length t)) t rest))
   encoded unsupported rest l h = refl
   encoded (xml t) rest l h = (l, ap (λ (y : List ℕ). 15 ∷ y) (append_assoc (be w32 (length t)) t rest))
-  encoded (typed name ms) rest l h =
-      (members_spelling ms ++ 0 ∷ 0 ∷ 9 ∷ rest, l.0, ap (λ (y : List ℕ). 16 ∷ y) (three (be w16 (length name)) name (members_spelling ms ++ 0 ∷ 0 ∷ 9 ∷ []) rest
-      ∙ ap (λ (y : List ℕ). be w16 (length name) ++ (name ++ y)) (append_assoc (members_spelling ms) (0 ∷ 0 ∷ 9 ∷ []) rest)), members_encoded ms (0 ∷ 0 ∷ 9 ∷ rest) l.1 h)
+  encoded (typed name ms) rest l h = (
+    members_spelling ms ++ 0 ∷ 0 ∷ 9 ∷ rest,
+    l.0,
+    ap (λ (y : List ℕ). 16 ∷ y) (three (be w16 (length name)) name (members_spelling ms ++ 0 ∷ 0 ∷ 9 ∷ []) rest
+        ∙ ap (λ (y : List ℕ). be w16 (length name) ++ (name ++ y)) (append_assoc (members_spelling ms) (0 ∷ 0 ∷ 9 ∷ []) rest)),
+    members_encoded ms (0 ∷ 0 ∷ 9 ∷ rest) l.1 h,
+  )
 
   members_encoded : (ms : Members) (rest : List ℕ) → MembersHaveLengths ms → MembersHaveNumbers ms → MembersSpelled ms (members_spelling ms ++ rest) rest
   members_encoded no_members rest l h = refl
-  members_encoded (member k v ms) rest l h =
-      (spelling v ++ (members_spelling ms ++ rest), members_spelling ms ++ rest, l.0,
-      three (be w16 (length k)) k (spelling v ++ members_spelling ms) rest ∙ ap (λ (y : List ℕ). be w16 (length k) ++ (k ++ y)) (append_assoc (spelling v) (members_spelling ms) rest),
-      encoded v (members_spelling ms ++ rest) l.1 h.0, members_encoded ms rest l.2 h.1)
+  members_encoded (member k v ms) rest l h = (
+    spelling v ++ (members_spelling ms ++ rest),
+    members_spelling ms ++ rest,
+    l.0,
+    three (be w16 (length k)) k (spelling v ++ members_spelling ms) rest ∙ ap (λ (y : List ℕ). be w16 (length k) ++ (k ++ y)) (append_assoc (spelling v) (members_spelling ms) rest),
+    encoded v (members_spelling ms ++ rest) l.1 h.0,
+    members_encoded ms rest l.2 h.1,
+  )
 
   items_encoded : (vs : Items) (rest : List ℕ) → ItemsHaveLengths vs → ItemsHaveNumbers vs → ItemsSpelled vs (items_spelling vs ++ rest) rest
   items_encoded no_items rest l h = refl

@@ -46,11 +46,11 @@ one_pattern n a b p q =
     elim p [
       | inl x ↦ elim q [ inl y ↦ x.1 ∙ sym y.1 | inr y ↦ absurd (omega (arith, x.0, y.low, pow_pos y.e)) ]
       | inr x ↦ elim q [
-          | inl y ↦ absurd (omega (arith, y.0, x.low, pow_pos x.e))
-          | inr y ↦
-              let same : x.e ≡ y.e = omega (arith, one_power x.e y.e n x.low x.high y.low y.high, one_power y.e x.e n y.low y.high x.low x.high) in
-              x.bits_are ∙ ap (λ (k : ℕ). (1023 + k) * 2 ^ 52 + (n - 2 ^ k) * 2 ^ (52 - k)) same ∙ sym y.bits_are
-        ]
+        | inl y ↦ absurd (omega (arith, y.0, x.low, pow_pos x.e))
+        | inr y ↦
+            let same : x.e ≡ y.e = omega (arith, one_power x.e y.e n x.low x.high y.low y.high, one_power y.e x.e n y.low y.high x.low x.high) in
+            x.bits_are ∙ ap (λ (k : ℕ). (1023 + k) * 2 ^ 52 + (n - 2 ^ k) * 2 ^ (52 - k)) same ∙ sym y.bits_are
+      ]
     ]
 
 -- ---- the highest bit of a number

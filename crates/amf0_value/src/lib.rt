@@ -14,5 +14,8 @@ mod writing;
 pub use amf::{Amf, AmfList, Pairs};
 pub use decoding::{decode, decode_all};
 pub use fail::AmfFail;
-pub use writing::encode;
 pub use number::{bits_of, whole_of};
+pub use writing::encode;
+
+#[cfg(test)]
+mod tests;

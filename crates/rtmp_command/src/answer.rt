@@ -109,12 +109,7 @@ fn created(alloc: Global, transaction: u64, id: u32) -> Result<Bytes, OutOfMemor
     Ok(out)
 }
 
-fn status(
-    alloc: Global,
-    level: &str,
-    code: &str,
-    description: &str,
-) -> Result<Bytes, OutOfMemory>
+fn status(alloc: Global, level: &str, code: &str, description: &str) -> Result<Bytes, OutOfMemory>
     requires level { length level.now < 2 ^ 16 }
     requires code { length code.now < 2 ^ 16 }
     requires description { length description.now < 2 ^ 16 }

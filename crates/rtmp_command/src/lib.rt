@@ -6,3 +6,6 @@ mod command;
 
 pub use answer::{Answer, Why, answer_body};
 pub use command::{Command, CommandFail, command_of};
+
+#[cfg(test)]
+mod tests;

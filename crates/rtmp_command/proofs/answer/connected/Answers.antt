@@ -15,5 +15,5 @@ returns c =
       item (text (codes "_result")) (item (number c.args.transaction) (item (object (server c.bits_of.result)) (item (object (success c.bits_of-2.result)) no_items))),
       (c.bits_of.result, c.bits_of-2.result, c.bits_of.ensures, c.bits_of-2.ensures, refl),
       four_parts c.new-out.result c.put_text.new.out c.put_number.new.out c.put_object.new.out c.put_object-2.new.out (spelling (text (codes "_result"))) (spelling (number c.args.transaction))
-        (spelling (object (server c.bits_of.result))) (spelling (object (success c.bits_of-2.result))) c.new-out.ensures c.in_ok-put_text.ensures c.in_ok-put_number.ensures third fourth,
+          (spelling (object (server c.bits_of.result))) (spelling (object (success c.bits_of-2.result))) c.new-out.ensures c.in_ok-put_text.ensures c.in_ok-put_number.ensures third fourth,
     )

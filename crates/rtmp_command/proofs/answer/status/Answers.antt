@@ -15,5 +15,5 @@ returns c =
       item (text (codes "onStatus")) (item (number c.bits_of.result) (item null (item (object told) no_items))),
       (c.bits_of.result, c.bits_of.ensures, refl),
       four_parts c.new-out.result c.put_text.new.out c.put_number.new.out c.put_null.new.out c.put_object.new.out (spelling (text (codes "onStatus"))) (spelling (number c.bits_of.result)) (spelling null) (spelling (object told))
-        c.new-out.ensures c.in_ok-put_text.ensures c.in_ok-put_number.ensures c.in_ok-put_null.ensures last,
+          c.new-out.ensures c.in_ok-put_text.ensures c.in_ok-put_number.ensures c.in_ok-put_null.ensures last,
     )
