@@ -1,6 +1,7 @@
 use crate::Kind;
 
-/// A kind of configuration: metadata, the video decoder's or the audio decoder's.
+/// The configurations of a stream, of which one each is in effect at a time: its metadata, the
+/// video decoder's and the audio decoder's.
 #[derive(Clone, Copy, Debug, PartialEq, Eq)]
 pub enum Slot {
     Meta,
@@ -8,14 +9,14 @@ pub enum Slot {
     Audio,
 }
 
-/// A player's switches at one Take: whether it wants sound and whether it wants pictures.
+/// A player's switches: whether it wants sound and whether it wants pictures.
 #[derive(Clone, Copy, Debug, PartialEq, Eq)]
 pub struct Want {
     pub audio: bool,
     pub video: bool,
 }
 
-/// What decides whether a player takes an item: a marker, or the kind of a unit.
+/// What an item is, without its unit: a marker, or a unit of a kind.
 #[derive(Clone, Copy, Debug, PartialEq, Eq)]
 pub enum Head {
     Begin,

@@ -1,0 +1,20 @@
+/// What a relay takes at most.
+///
+/// `max_message` is the longest message that a reader takes, in bytes. `ring_bytes` and `ring_items` bound what a
+/// stream keeps, and `players` how many it serves at once. `window` is the number of bytes after which a peer is
+/// sent an acknowledgement.
+#[derive(Clone, Copy, Debug, PartialEq, Eq)]
+pub struct Limits {
+    pub max_message: u32,
+    pub ring_bytes: u64,
+    pub ring_items: u32,
+    pub players: u32,
+    pub window: u32,
+}
+
+/// How a program ended: its exit status, and the place in its input that decided this, or 0.
+#[derive(Clone, Copy, Debug, PartialEq, Eq)]
+pub struct Status {
+    pub code: u8,
+    pub place: u64,
+}

@@ -1,0 +1,10 @@
+pub mod Digits
+pub mod Known
+pub mod Past
+pub mod Says
+pub mod Script
+pub mod Steps
+pub mod Ahead
+pub mod Stops
+pub mod Words
+pub mod OneLine

@@ -1,0 +1,7 @@
+pub mod Lines
+pub mod Texts
+pub mod Script
+pub mod Parts
+pub mod Ends
+pub mod Words
+pub mod OneLine

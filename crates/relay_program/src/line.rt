@@ -1,0 +1,312 @@
+ghost use Rattle.std.specs.Prelude.{◌≡◌, ◌^◌, ◌<◌, ◌≤◌, ◌+◌, ℕ, MatchResult, Some, None, length, IfOk, Ok};
+ghost use Rattle.std.specs.Prelude.{position, ◌==◌, codes, false};
+ghost use Rattle.std.specs.Option.{option_copied, option_map, IfSome};
+ghost use Rattle.stream_model.specs.declared.calls.Call.{Call};
+ghost use Rattle.av_unit.specs.Fits.{most_bytes};
+ghost use Rattle.relay_program.specs.Lines.{digits_from, below, number, first_word, kind_of, want_of, who_of, push_step, push_line, take_line, leave_line, who_line, last, step, meaning, call_line, is_text};
+
+use av_unit::{Bytes, Kind, OutOfMemory, Unit, UnitArc, Want};
+use std::alloc::Global;
+use stream_model::{Call, Entry};
+
+/// What a line of a drill's script says.
+#[derive(Drop)]
+pub enum DrillLine {
+    /// An empty line or a comment.
+    Nothing,
+    /// A call at the stream.
+    Step(Entry),
+}
+
+/// Why a line gives nothing.
+#[derive(Clone, Copy, Debug, PartialEq, Eq)]
+pub enum LineFail {
+    /// The line is outside the grammar.
+    Outside,
+    OutOfMemory,
+}
+
+impl From<OutOfMemory> for LineFail {
+    fn from(_: OutOfMemory) -> Self {
+        LineFail::OutOfMemory
+    }
+}
+
+// The value of the digits, if it is below the bound.
+#[tactic(auto, using(crate::proofs::Digits::too_large))]
+fn digits(word: &[u8], bound: u64) -> Option<u32>
+    requires some { 0 < bound }
+    requires fits { bound ≤ 2 ^ 32 }
+    ensures { result ≡ below bound (digits_from 0 word.now) }
+{
+    let mut value: u64 = 0;
+    let mut left = word;
+    while let [c, rest @ ..] = left {
+        if !(48 <= *c && *c <= 57) {
+            return None;
+        }
+        value = 10 * value + u64::from(*c - 48);
+        if value >= bound {
+            return None;
+        }
+        left = rest;
+    }
+    Some(value as u32)
+}
+
+// The number below the bound that the word spells.
+fn number(word: &[u8], bound: u64) -> Option<u32>
+    requires some { 0 < bound }
+    requires fits { bound ≤ 2 ^ 32 }
+    ensures { result ≡ number bound word.now }
+{
+    match word {
+        [] => None,
+        [first, _, ..] if *first == 48 => None,
+        _ => digits(word, bound),
+    }
+}
+
+fn who_of(word: &[u8]) -> Option<u32>
+    ensures { result ≡ who_of word.now }
+{
+    number(word, 1 << 32)
+}
+
+fn first_space(text: &[u8]) -> Option<usize>
+    ensures { result ≡ position (λ c. c == 32) text.now }
+{
+    text.iter().position(|c| *c == 32)
+}
+
+// The first word, and what follows the space after it.
+fn first_word(text: &[u8]) -> (&[u8], Option<&[u8]>)
+    ensures word { result.0.now ≡ (first_word text.now).word }
+    ensures rest { option_copied result.1 ≡ (first_word text.now).rest }
+{
+    match first_space(text) {
+        None => (text, None),
+        Some(i) => (&text[..i], Some(&text[i + 1..])),
+    }
+}
+
+fn kind_of(word: &[u8]) -> Option<Kind>
+    ensures { result ≡ kind_of word.now }
+{
+    if word == b"meta".as_slice() {
+        Some(Kind::Meta)
+    } else if word == b"vconfig".as_slice() {
+        Some(Kind::VConfig)
+    } else if word == b"aconfig".as_slice() {
+        Some(Kind::AConfig)
+    } else if word == b"key".as_slice() {
+        Some(Kind::Key)
+    } else if word == b"inter".as_slice() {
+        Some(Kind::Inter)
+    } else if word == b"audio".as_slice() {
+        Some(Kind::Audio)
+    } else if word == b"data".as_slice() {
+        Some(Kind::Data)
+    } else {
+        None
+    }
+}
+
+fn want_of(word: &[u8]) -> Option<Want>
+    ensures { result ≡ want_of word.now }
+{
+    let (audio, video) = if word == b"av".as_slice() {
+        (true, true)
+    } else if word == b"a".as_slice() {
+        (true, false)
+    } else if word == b"v".as_slice() {
+        (false, true)
+    } else if word == b"n".as_slice() {
+        (false, false)
+    } else {
+        return None;
+    };
+    Some(Want { audio, video })
+}
+
+fn most_bytes(kind: Kind) -> u64
+    ensures { result ≡ most_bytes kind }
+{
+    match kind {
+        Kind::Meta | Kind::VConfig | Kind::AConfig => 65536,
+        _ => 4194304,
+    }
+}
+
+// A pushed unit, before its body is made.
+#[derive(Clone, Copy)]
+struct Pushed {
+    who: u32,
+    kind: Kind,
+    time: u32,
+    len: u32,
+}
+
+// WHO KIND TIME LEN
+fn read_push(words: Option<&[u8]>) -> Option<Pushed>
+    ensures meaning { push_line (option_copied words.entry) ≡ option_map (λ p. push_step p.who p.kind p.time p.len) result }
+    ensures fits { IfSome result (λ p. p.len ≤ most_bytes p.kind) }
+{
+    let (who, rest) = first_word(words?);
+    let who = who_of(who)?;
+    let (kind, rest) = first_word(rest?);
+    let kind = kind_of(kind)?;
+    let (time, rest) = first_word(rest?);
+    let time = number(time, 1 << 32)?;
+    let (len, rest) = first_word(rest?);
+    let len = number(len, most_bytes(kind) + 1)?;
+    match rest {
+        Some(_) => None,
+        None => Some(Pushed {
+            who,
+            kind,
+            time,
+            len,
+        }),
+    }
+}
+
+fn push_step(alloc: Global, pushed: Pushed) -> Result<DrillLine, OutOfMemory>
+    requires { pushed.len ≤ most_bytes pushed.kind }
+    ensures { IfOk result (λ line. line ≡ push_step pushed.who pushed.kind pushed.time pushed.len) }
+{
+    let body = Bytes::from_vec(vec![in alloc; 0; pushed.len as usize]?);
+    let unit = Unit {
+        kind: pushed.kind,
+        time: pushed.time,
+        body,
+    };
+    let call = Call::Push(UnitArc::new(alloc, unit)?);
+    Ok(step(pushed.who, call))
+}
+
+// The caller has been fed no byte.
+fn step(who: u32, call: Call) -> DrillLine
+    ensures { result ≡ step who call }
+{
+    DrillLine::Step(Entry {
+        who: u64::from(who),
+        at: 0,
+        call,
+    })
+}
+
+fn push_line(alloc: Global, words: Option<&[u8]>) -> Result<DrillLine, LineFail>
+    ensures { MatchResult result (λ l. push_line (option_copied words.entry) ≡ Some l) (λ e. e ≡ LineFail.Outside → push_line (option_copied words.entry) ≡ None) }
+{
+    let Some(pushed) = read_push(words) else {
+        return Err(LineFail::Outside);
+    };
+    match push_step(alloc, pushed) {
+        Ok(line) => Ok(line),
+        Err(_) => Err(LineFail::OutOfMemory),
+    }
+}
+
+// WHO
+fn who_line(call: Call, words: Option<&[u8]>) -> Option<DrillLine>
+    ensures { result ≡ who_line call (option_copied words.entry) }
+{
+    let (who, rest) = first_word(words?);
+    let who = who_of(who)?;
+    match rest {
+        Some(_) => None,
+        None => Some(step(who, call)),
+    }
+}
+
+// WHO PLAYER WANT
+fn take_line(words: Option<&[u8]>) -> Option<DrillLine>
+    ensures { result ≡ take_line (option_copied words.entry) }
+{
+    let (who, rest) = first_word(words?);
+    let who = who_of(who)?;
+    let (player, rest) = first_word(rest?);
+    let player = number(player, 256)?;
+    let (want, rest) = first_word(rest?);
+    let want = want_of(want)?;
+    match rest {
+        Some(_) => None,
+        None => Some(step(who, Call::Take { player, want })),
+    }
+}
+
+// WHO PLAYER
+fn leave_line(words: Option<&[u8]>) -> Option<DrillLine>
+    ensures { result ≡ leave_line (option_copied words.entry) }
+{
+    let (who, rest) = first_word(words?);
+    let who = who_of(who)?;
+    let (player, rest) = first_word(rest?);
+    let player = number(player, 256)?;
+    match rest {
+        Some(_) => None,
+        None => Some(step(who, Call::Leave { player })),
+    }
+}
+
+fn count_line(words: Option<&[u8]>) -> Option<DrillLine>
+    ensures { result ≡ last (option_copied words.entry) (step 0 Call.Count) }
+{
+    match words {
+        Some(_) => None,
+        None => Some(step(0, Call::Count)),
+    }
+}
+
+// A call other than a push.
+fn plain_line(word: &[u8], rest: Option<&[u8]>) -> Option<DrillLine>
+    requires { is_text word.now (codes "push") ≡ false }
+    ensures { result ≡ call_line word.now (option_copied rest.entry) }
+{
+    if word == b"begin".as_slice() {
+        who_line(Call::Begin, rest)
+    } else if word == b"end".as_slice() {
+        who_line(Call::End, rest)
+    } else if word == b"join".as_slice() {
+        who_line(Call::Join, rest)
+    } else if word == b"take".as_slice() {
+        take_line(rest)
+    } else if word == b"leave".as_slice() {
+        leave_line(rest)
+    } else if word == b"count".as_slice() {
+        count_line(rest)
+    } else {
+        None
+    }
+}
+
+// A line whose first word names a call.
+fn call_line(alloc: Global, word: &[u8], rest: Option<&[u8]>) -> Result<DrillLine, LineFail>
+    ensures { MatchResult result (λ l. call_line word.now (option_copied rest.entry) ≡ Some l) (λ e. e ≡ LineFail.Outside → call_line word.now (option_copied rest.entry) ≡ None) }
+{
+    if word == b"push".as_slice() {
+        return push_line(alloc, rest);
+    }
+    match plain_line(word, rest) {
+        Some(line) => Ok(line),
+        None => Err(LineFail::Outside),
+    }
+}
+
+/// What a line says, its LF left out.
+pub fn drill_line(alloc: Global, line: &[u8]) -> Result<DrillLine, LineFail>
+    ensures { MatchResult result (λ l. meaning line.now ≡ Some l) (λ e. e ≡ LineFail.Outside → meaning line.now ≡ None) }
+{
+    if line.len() > 65536 {
+        return Err(LineFail::Outside);
+    }
+    match line {
+        [] => Ok(DrillLine::Nothing),
+        [35, ..] => Ok(DrillLine::Nothing),
+        _ => {
+            let (word, rest) = first_word(line);
+            call_line(alloc, word, rest)
+        }
+    }
+}

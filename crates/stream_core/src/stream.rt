@@ -1,0 +1,265 @@
+ghost use Rattle.std.specs.Prelude.{◌≡◌, ℕ, ◌<◌, ◌^◌, [], ◌∷◌, length, vec_len, IfOk, OnErr, slice_index_or};
+ghost use Rattle.std.specs.Option.{IfSome};
+ghost use Rattle.stream_model.specs.Answer.{free_place, reply};
+ghost use Rattle.stream_model.specs.History.{items_of};
+ghost use Rattle.stream_model.specs.Known.{Known, answered, IsLawful};
+ghost use Rattle.stream_model.specs.Legal.{Legal};
+ghost use Rattle.stream_core.specs.Seat.{free_seat};
+ghost use Rattle.stream_core.specs.Tally.{tally_after};
+
+use crate::place::Place;
+use crate::take::answer;
+use crate::tally::Tally;
+use crate::walks::join_place;
+use av_unit::{Item, OutOfMemory, UnitArc, Want};
+use past::{History, Pair};
+use std::alloc::Global;
+use std::marker::Model;
+use std::snapshot::Snapshot;
+use stream_law::viewers_law;
+use stream_model::{Call, Entry, Reply, StreamLimits};
+
+/// One stream: what is published on it, and the players that take from it.
+///
+/// This body keeps all its items, and computes the window, the configurations in effect, the join
+/// place and whole chains by walks over them.
+#[derive(Drop)]
+pub struct Stream {
+    limits: StreamLimits,
+    items: Vec<Item>,
+    publisher: Option<u64>,
+    places: Vec<Place>,
+    tally: Tally,
+    past: History<Pair<Entry, Reply>>,
+}
+
+impl Model for Stream {
+    ghost use Rattle.stream_model.specs.Known.{Known};
+    ghost use Rattle.stream_core.specs.IsPast.{IsPast};
+
+    ghost Value = { Known };
+
+    ghost view = { λ s. record { limits = s.limits; past = s.past } };
+
+    ghost invariant = { λ s. IsPast s.limits s.items.items s.publisher s.places.items s.tally s.past };
+}
+
+impl Stream {
+    /// A stream that has had no call. It takes the places of all its players.
+    pub fn new(alloc: Global, limits: StreamLimits) -> Result<Stream, OutOfMemory>
+        ensures { IfOk result (λ stream. stream ≡ record { limits = limits; past = [] }) }
+    {
+        Ok(Stream {
+            limits,
+            items: Vec::new(alloc),
+            publisher: None,
+            places: free_places(alloc, limits.players)?,
+            tally: Tally::new(),
+            past: History::new(),
+        })
+    }
+
+    /// Answers the call by the rules of one stream, or nothing is done for want of memory. Whatever
+    /// the calls so far, what each player was sent since its Join keeps the viewer's law.
+    pub fn apply(&mut self, entry: Entry) -> Result<Reply, OutOfMemory>
+        requires { length (items_of self.old.past) < 2 ^ 62 }
+        ensures ok { IfOk result (λ r. (r ≡ reply self.old.limits self.old.past entry) × (self.new ≡ answered self.old entry r)) }
+        ensures err { OnErr result (self.new ≡ self.old) }
+        ensures viewers { (place : ℕ) → Legal self.new.limits self.new.past place }
+    {
+        let reply = self.answer(entry);
+        self.lawful();
+        reply
+    }
+
+    /// Each call so far was answered by the rules, and what each player was sent keeps the viewer's
+    /// law.
+    pub fn lawful(&self)
+        ensures rules { IsLawful self.now.limits self.now.past }
+        ensures viewers { (place : ℕ) → Legal self.now.limits self.now.past place }
+    {
+        let _ = &self.limits;
+        viewers_law();
+    }
+
+    fn answer(&mut self, entry: Entry) -> Result<Reply, OutOfMemory>
+        ensures ok { IfOk result (λ r. (r ≡ reply self.old.limits self.old.past entry) × (self.new ≡ answered self.old entry r)) }
+        ensures err { OnErr result (self.new ≡ self.old) }
+    {
+        let seen = Snapshot::of(&entry);
+        let Entry { who, at: _, call } = entry;
+        match call {
+            Call::Begin => self.begin(seen, who),
+            Call::Push(unit) => self.push(seen, who, unit),
+            Call::End => self.end(seen, who),
+            Call::Join => Ok(self.join(seen, who)),
+            Call::Take { player, want } => self.take(seen, who, player, want),
+            Call::Leave { player } => Ok(self.leave(seen, who, player)),
+            Call::Count => Ok(self.count(seen)),
+        }
+    }
+
+    fn begin(&mut self, seen: Snapshot<Entry>, who: u64) -> Result<Reply, OutOfMemory>
+        requires { (seen.value.who ≡ who) × (seen.value.call ≡ Call.Begin) }
+        ensures ok { IfOk result (λ r. (r ≡ reply self.old.limits self.old.past seen.value) × (self.new ≡ answered self.old seen.value r)) }
+        ensures err { OnErr result (self.new ≡ self.old) }
+    {
+        if let Some(by) = self.publisher {
+            return Ok(noted(&mut self.past, &mut self.tally, seen, Reply::InUse { by }));
+        }
+        let n = self.items.len() as u64;
+        self.items.push(Item::Begin)?;
+        self.publisher = Some(who);
+        Ok(noted(&mut self.past, &mut self.tally, seen, Reply::Began { n }))
+    }
+
+    fn push(&mut self, seen: Snapshot<Entry>, who: u64, unit: UnitArc) -> Result<Reply, OutOfMemory>
+        requires { (seen.value.who ≡ who) × (seen.value.call ≡ Call.Push unit) }
+        ensures ok { IfOk result (λ r. (r ≡ reply self.old.limits self.old.past seen.value) × (self.new ≡ answered self.old seen.value r)) }
+        ensures err { OnErr result (self.new ≡ self.old) }
+    {
+        if self.publisher != Some(who) {
+            let live = self.publisher;
+            return Ok(noted(
+                &mut self.past,
+                &mut self.tally,
+                seen,
+                Reply::NotPublisher { live },
+            ));
+        }
+        let n = self.items.len() as u64;
+        self.items.push(Item::Unit(unit))?;
+        Ok(noted(&mut self.past, &mut self.tally, seen, Reply::Pushed { n }))
+    }
+
+    fn end(&mut self, seen: Snapshot<Entry>, who: u64) -> Result<Reply, OutOfMemory>
+        requires { (seen.value.who ≡ who) × (seen.value.call ≡ Call.End) }
+        ensures ok { IfOk result (λ r. (r ≡ reply self.old.limits self.old.past seen.value) × (self.new ≡ answered self.old seen.value r)) }
+        ensures err { OnErr result (self.new ≡ self.old) }
+    {
+        if self.publisher != Some(who) {
+            let live = self.publisher;
+            return Ok(noted(
+                &mut self.past,
+                &mut self.tally,
+                seen,
+                Reply::NotPublisher { live },
+            ));
+        }
+        let n = self.items.len() as u64;
+        self.items.push(Item::End)?;
+        self.publisher = None;
+        Ok(noted(&mut self.past, &mut self.tally, seen, Reply::Ended { n }))
+    }
+
+    fn join(&mut self, seen: Snapshot<Entry>, who: u64) -> Reply
+        requires { (seen.value.who ≡ who) × (seen.value.call ≡ Call.Join) }
+        ensures { (result ≡ reply self.old.limits self.old.past seen.value) × (self.new ≡ answered self.old seen.value result) }
+    {
+        match free_place(&self.places) {
+            None => noted(&mut self.past, &mut self.tally, seen, Reply::Full),
+            Some(place) => {
+                let from = join_place(&self.limits, &self.items);
+                self.places[place].join(who, from);
+                let player = place as u32;
+                noted(
+                    &mut self.past,
+                    &mut self.tally,
+                    seen,
+                    Reply::Joined { player, from },
+                )
+            }
+        }
+    }
+
+    fn take(
+        &mut self,
+        seen: Snapshot<Entry>,
+        who: u64,
+        player: u32,
+        want: Want,
+    ) -> Result<Reply, OutOfMemory>
+        requires { (seen.value.who ≡ who) × (seen.value.call ≡ Call.Take player want) }
+        ensures ok { IfOk result (λ r. (r ≡ reply self.old.limits self.old.past seen.value) × (self.new ≡ answered self.old seen.value r)) }
+        ensures err { OnErr result (self.new ≡ self.old) }
+    {
+        let place = player as usize;
+        if place >= self.places.len() {
+            return Ok(noted(&mut self.past, &mut self.tally, seen, Reply::NotPlayer));
+        }
+        let seat = &mut self.places[place];
+        if !seat.is_held_by(who) {
+            return Ok(noted(&mut self.past, &mut self.tally, seen, Reply::NotPlayer));
+        }
+        let taken = answer(&self.limits, &self.items, seat, want)?;
+        Ok(noted(&mut self.past, &mut self.tally, seen, taken.into_reply()))
+    }
+
+    fn leave(&mut self, seen: Snapshot<Entry>, who: u64, player: u32) -> Reply
+        requires { (seen.value.who ≡ who) × (seen.value.call ≡ Call.Leave player) }
+        ensures { (result ≡ reply self.old.limits self.old.past seen.value) × (self.new ≡ answered self.old seen.value result) }
+    {
+        let place = player as usize;
+        if place >= self.places.len() {
+            return noted(&mut self.past, &mut self.tally, seen, Reply::NotPlayer);
+        }
+        let seat = &mut self.places[place];
+        if !seat.is_held_by(who) {
+            return noted(&mut self.past, &mut self.tally, seen, Reply::NotPlayer);
+        }
+        seat.leave();
+        noted(
+            &mut self.past,
+            &mut self.tally,
+            seen,
+            Reply::Left { player },
+        )
+    }
+
+    fn count(&mut self, seen: Snapshot<Entry>) -> Reply
+        requires { seen.value.call ≡ Call.Count }
+        ensures { (result ≡ reply self.old.limits self.old.past seen.value) × (self.new ≡ answered self.old seen.value result) }
+    {
+        let reply = self.tally.reply();
+        noted(&mut self.past, &mut self.tally, seen, reply)
+    }
+}
+
+// The reply, which is counted, and which the past has from then on.
+fn noted(
+    past: &mut History<Pair<Entry, Reply>>,
+    tally: &mut Tally,
+    seen: Snapshot<Entry>,
+    reply: Reply,
+) -> Reply
+    ensures { (result ≡ reply) × (past.new ≡ (seen.value, reply) ∷ past.old) × (tally.new ≡ tally_after reply tally.old) }
+{
+    tally.note(&reply);
+    past.add(&Pair::of(seen, &reply));
+    reply
+}
+
+fn free_places(alloc: Global, count: u32) -> Result<Vec<Place>, OutOfMemory>
+    ensures count { IfOk result (λ places. vec_len places ≡ count) }
+    ensures free { IfOk result (λ places. (p : ℕ) → slice_index_or places.items p free_seat ≡ free_seat) }
+{
+    let mut places = Vec::new(alloc);
+    for _ in 0..count {
+        places.push(Place::free(alloc))?;
+    }
+    Ok(places)
+}
+
+// The least place that nobody holds.
+fn free_place(places: &[Place]) -> Option<usize>
+    ensures place { result ≡ free_place (λ p. (slice_index_or places.now p free_seat).holder) (length places.now) }
+    ensures within { IfSome result (λ p. p < length places.now) }
+{
+    let mut free = None;
+    for (p, place) in places.iter().enumerate() {
+        if free.is_none() && place.holder().is_none() {
+            free = Some(p);
+        }
+    }
+    free
+}

@@ -1,0 +1,10 @@
+pub mod Items
+pub mod Window
+pub mod Chain
+pub mod History
+pub mod Spell
+pub mod Take
+pub mod Counts
+pub mod Answer
+pub mod Known
+pub mod Legal

@@ -1,0 +1,41 @@
+use av_unit::{UnitArc, Want};
+
+/// What the window of a stream has at most, and how many players it has.
+#[derive(Clone, Copy, Debug, PartialEq, Eq)]
+pub struct StreamLimits {
+    /// The costs of the items in the window together, in bytes.
+    pub bytes: u64,
+    /// The items in the window.
+    pub items: u32,
+    /// The places for players, recorders among them.
+    pub players: u32,
+}
+
+/// A call at a stream.
+#[derive(Drop)]
+pub enum Call {
+    /// Begins a broadcast.
+    Begin,
+    /// Publishes a unit.
+    Push(UnitArc),
+    /// Ends the broadcast.
+    End,
+    /// Asks for a place for a player.
+    Join,
+    /// Asks for the player's next item.
+    Take { player: u32, want: Want },
+    /// Gives the player's place back.
+    Leave { player: u32 },
+    /// Asks how often the stream has answered so far.
+    Count,
+}
+
+/// A call with its caller.
+#[derive(Drop)]
+pub struct Entry {
+    /// The name of the caller.
+    pub who: u64,
+    /// How many bytes of input the caller had been fed.
+    pub at: u64,
+    pub call: Call,
+}

@@ -1,0 +1,13 @@
+//! What one stream is asked and what it answers, and the rules of a stream as definitions.
+//!
+//! The definitions stand in `specs/`: the items that a history has published, the window that the
+//! limits leave of them, the configurations in effect, the join place, whole chains of frames,
+//! the reply to each call after a history, and what one player is sent. Everything that keeps or
+//! serves a stream cites them; the code here is the types alone.
+#![tactic(auto)]
+
+mod calls;
+mod replies;
+
+pub use calls::{Call, Entry, StreamLimits};
+pub use replies::{Reply, Taken};
