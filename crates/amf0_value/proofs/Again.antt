@@ -1,8 +1,8 @@
 -- Reading as a function on lists. A spelling is what it gives, and a refusal is what it answers: so no two of these stand in
 -- the same bytes.
-use Rattle.std.proofs.Common.{◌≡◌, ℕ, zero, suc, ◌+◌, ◌-◌, ◌^◌, ◌<◌, ◌≤◌, ◌⊎◌, inl, inr, Bool, true, false, not, cond, ltb, leb, eqb, max, List, [], ◌∷◌, ◌++◌, length, get_or, take, drop, Option, Some, None, Result, Ok, Err, refl, sym, ap, subst, ◌∙◌, arith, length-append}
+use Rattle.std.proofs.Common.{◌≡◌, ℕ, zero, suc, ◌+◌, ◌^◌, ◌<◌, ◌≤◌, inl, inr, true, false, not, cond, eqb, List, [], ◌∷◌, ◌++◌, length, get_or, take, drop, Option, Some, None, Result, Ok, Err, refl, sym, ap, subst, ◌∙◌, arith, length-append}
 use Rattle.std.specs.Int.{Width, w16, w32, w64, byte_len}
-use Rattle.std.proofs.lemmas.Bool.{le-ltb, lt-ltb, le-leb, lt-leb, ne_eqb}
+use Rattle.std.proofs.lemmas.Bool.{le-ltb, lt-leb, ne_eqb}
 use Rattle.std.proofs.lemmas.List.{drop_at, take_at}
 use Rattle.amf0_value.specs.declared.marker.Scalar.{Scalar}
 use Rattle.amf0_value.specs.declared.marker.Scalar.TheVariants as scalar
@@ -13,7 +13,7 @@ use Rattle.amf0_value.specs.declared.marker.Marker.TheVariants as marker
 use Rattle.amf0_value.specs.declared.fail.Cause.TheVariants as cause
 use Rattle.amf0_value.specs.Tree.{Tree, number, boolean, text, object, null, undefined, reference, ecma, strict, date, long, unsupported, xml, typed, Members, no_members, member, Items, no_items, item}
 use Rattle.amf0_value.specs.Spelling.{be, front, string, marker_at, count, IsKey, Spelled, MembersSpelled, ItemsSpelled, depth, members_depth, items_depth}
-use Rattle.amf0_value.specs.Refusal.{Refusal, with_length, scalar_needs, container_needs, marker_refusal, value_refusal, key_refusal, end_refusal, Head, object_head, ecma_head, typed_head, Opens, Enters, StopsIn, Stops}
+use Rattle.amf0_value.specs.Refusal.{Refusal, with_length, scalar_needs, container_needs, marker_refusal, value_refusal, key_refusal, Head, object_head, ecma_head, typed_head, Opens, StopsIn, Stops}
 use Rattle.amf0_value.specs.Reading.{scalar_byte, container_byte}
 use Rattle.amf0_value.proofs.Numbers.{IsWide, wide16, wide32, wide64, with_length_is}
 use Rattle.amf0_value.proofs.Keys.{key_stands, two_zeros, key_refusal_of}

@@ -1,26 +1,24 @@
 -- A value by its marker, and where it stops.
-use Rattle.std.proofs.Common.{◌≡◌, ℕ, suc, ◌+◌, ◌-◌, ◌^◌, ◌<◌, ◌≤◌, ◌⊎◌, inl, inr, true, false, cond, ltb, leb, List, [], ◌∷◌, ◌++◌, length, get_or, take, drop, Option, Some, None, refl, sym, ap, subst, ◌∙◌, arith, length-append}
+use Rattle.std.proofs.Common.{◌≡◌, ℕ, suc, ◌+◌, ◌^◌, ◌<◌, ◌≤◌, inl, inr, List, [], ◌∷◌, ◌++◌, length, Some, None, refl, sym, ap, subst, ◌∙◌, arith, length-append}
 use Rattle.std.specs.Prelude.{Result}
 use Rattle.std.specs.Borrow.{Bor}
-use Rattle.std.specs.Int.{Width, w16, w32, byte_len}
-use Rattle.std.proofs.lemmas.Bool.{le-ltb, lt-ltb, le-leb, lt-leb, ne_eqb}
+use Rattle.std.specs.Int.{w32}
+use Rattle.std.proofs.lemmas.Bool.{lt-ltb, le-leb, lt-leb}
 use Rattle.std.proofs.lemmas.List.{nil_from_length}
 use Rattle.amf0_value.specs.declared.amf.Amf.{Amf}
 use Rattle.amf0_value.specs.declared.marker.Scalar.{Scalar}
 use Rattle.amf0_value.specs.declared.marker.Scalar.TheVariants as scalar
 use Rattle.amf0_value.specs.declared.marker.Container.{Container}
 use Rattle.amf0_value.specs.declared.marker.Container.TheVariants as container
-use Rattle.amf0_value.specs.declared.marker.Marker.{Marker}
 use Rattle.amf0_value.specs.declared.marker.Marker.TheVariants as marker
 use Rattle.amf0_value.specs.declared.fail.Cause.{Cause}
 use Rattle.amf0_value.specs.declared.fail.Cause.TheVariants as cause
 use Rattle.amf0_value.specs.declared.fail.Stop.{Stop}
-use Rattle.amf0_value.specs.Tree.{Tree, Members, Items}
 use Rattle.amf0_value.specs.View.{tree}
-use Rattle.amf0_value.specs.Spelling.{be, front, string, marker_at, count, IsKey, Spelled, MembersSpelled, ItemsSpelled, depth, members_depth, items_depth}
-use Rattle.amf0_value.specs.Refusal.{Refusal, with_length, scalar_needs, container_needs, marker_refusal, value_refusal, key_refusal, Head, Opens, Enters, StopsIn, Stops}
-use Rattle.amf0_value.specs.Reading.{Fails, Gives, IsShort, Left, ReadsScalar, ReadsValue, ReadsMembers, ReadsItems, PairsStop, ItemsStop, scalar_byte, container_byte, marker_byte}
-use Rattle.amf0_value.proofs.Numbers.{wide16, wide32, with_length_is, short_length}
+use Rattle.amf0_value.specs.Spelling.{be, marker_at}
+use Rattle.amf0_value.specs.Refusal.{Refusal, with_length, scalar_needs, container_needs, marker_refusal, value_refusal, Head, Opens, Enters, Stops}
+use Rattle.amf0_value.specs.Reading.{Gives, IsShort, Left, ReadsScalar, ReadsValue, PairsStop, ItemsStop, scalar_byte, container_byte}
+use Rattle.amf0_value.proofs.Numbers.{wide32, with_length_is}
 use Rattle.amf0_value.proofs.Exits.{gives_weaker}
 
 pub marker_of_scalar : (k : Scalar) → marker_at (scalar_byte k) ≡ Some (marker.Scalar k)
