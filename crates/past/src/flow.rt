@@ -1,0 +1,40 @@
+ghost use Rattle.std.specs.Prelude.{◌≡◌, [], ◌∷◌, ◌++◌};
+
+use crate::History;
+use std::marker::Model;
+
+/// A history in the order in which it came, of no bytes.
+#[derive(Drop)]
+pub struct Flow<E> {
+    at: History<E>,
+}
+
+impl<E> Model for Flow<E> {
+    ghost use Rattle.std.specs.Prelude.{List, reverse};
+
+    ghost Value = { List E };
+
+    ghost view = { λ f. reverse f.at };
+}
+
+impl<E> Flow<E> {
+    pub fn new() -> Flow<E>
+        ensures { result ≡ [] }
+    {
+        Flow { at: History::new() }
+    }
+
+    /// One member more at the end, which nothing keeps.
+    pub fn add(&mut self, x: &E)
+        ensures { self.new ≡ self.old ++ x.now ∷ [] }
+    {
+        self.at.add(x);
+    }
+
+    /// More members at the end, which nothing keeps.
+    pub fn add_all(&mut self, xs: &[E])
+        ensures { self.new ≡ self.old ++ xs.now }
+    {
+        self.at.add_all(xs);
+    }
+}

@@ -1,0 +1,20 @@
+ghost use Rattle.std.specs.Prelude.{◌≡◌, ℕ, ◌+◌, ◌%◌, ◌≤◌, ◌<◌, [], List, ◌++◌, length, take};
+ghost use Rattle.std.specs.List.{concat, slice_index};
+ghost use Rattle.rtmp_handshake.specs.Answer.{answer_of, answered};
+ghost use Rattle.rtmp_handshake.specs.Feeds.{all_out, all_read, out_of, read_of};
+
+/// The answer has 3,073 bytes, and hangs on the client's first 1,537 alone.
+pub fn answer_law()
+    ensures length { (client : List ℕ) → 1537 ≤ length client → length (answer_of client) ≡ 3073 }
+    ensures alone { (client later : List ℕ) → 1537 ≤ length client → answer_of (client ++ later) ≡ answer_of client }
+    ensures random { (client : List ℕ) (i : ℕ) → i < 1528 → slice_index (answer_of client) (9 + i) ≡ i % 251 }
+    ensures time { (client : List ℕ) (i : ℕ) → 1537 ≤ length client → i < 4 → slice_index (answer_of client) (1537 + i) ≡ slice_index client (1 + i) }
+    ensures echo { (client : List ℕ) (i : ℕ) → 1537 ≤ length client → 8 ≤ i → i < 1536 → slice_index (answer_of client) (1537 + i) ≡ slice_index client (1 + i) }
+{}
+
+/// However a client's bytes are cut into pieces, the feeds of these pieces read the first 3,073 bytes of them, and put
+/// out in all what these bytes call for: the answer where there are 1,537 or more, else nothing.
+pub fn cutting_law()
+    ensures read { (pieces : List (List ℕ)) → all_read [] pieces ≡ take 3073 (concat pieces) }
+    ensures out { (pieces : List (List ℕ)) → all_out [] pieces ≡ answered (concat pieces) }
+{}
