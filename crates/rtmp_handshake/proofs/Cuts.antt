@@ -39,14 +39,14 @@ out_from fed (piece ∷ pieces) =
 -- the bytes after C2 call for nothing
 answered_front : (xs : List ℕ) → answered (take 3073 xs) ≡ answered xs
 answered_front xs = elim (cases_lt (length xs) 1537) [
-      inl lt ↦ ap answered (take_all 3073 xs (omega arith))
-    | inr le ↦
-        let there : 1537 ≤ length (take 3073 xs) = rw length-take (omega arith) in
-        answered_all (take 3073 xs) there
-        ∙ sym (answer_alone (take 3073 xs) (drop 3073 xs) there)
-        ∙ ap answer_of (take-append-drop 3073 xs)
-        ∙ sym (answered_all xs le)
-    ]
+  | inl lt ↦ ap answered (take_all 3073 xs (omega arith))
+  | inr le ↦
+      let there : 1537 ≤ length (take 3073 xs) = rw length-take (omega arith) in
+      answered_all (take 3073 xs) there
+      ∙ sym (answer_alone (take 3073 xs) (drop 3073 xs) there)
+      ∙ ap answer_of (take-append-drop 3073 xs)
+      ∙ sym (answered_all xs le)
+]
 
 pub out_all : (pieces : List (List ℕ)) → all_out [] pieces ≡ answered (concat pieces)
 out_all pieces =

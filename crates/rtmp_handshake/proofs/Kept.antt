@@ -26,8 +26,8 @@ pub kept_more : (xs ys : List ℕ) → kept_of 0 (xs ++ ys) ≡ kept_of 0 xs ++ 
 kept_more xs ys =
     rw (part_more 1 5 xs ys, part_more 9 1537 xs ys)
     (elim (cases_lt (length xs) 9) [
-      inl lt ↦ rw (part_past 9 1537 xs (omega arith), append-nil (part_of 0 1 5 xs))
+      | inl lt ↦ rw (part_past 9 1537 xs (omega arith), append-nil (part_of 0 1 5 xs))
           (append_assoc (part_of 0 1 5 xs) (part_of (length xs) 1 5 ys) (part_of (length xs) 9 1537 ys))
-    | inr le ↦ rw (part_before (length xs) 1 5 ys (omega arith), append-nil (part_of 0 1 5 xs))
+      | inr le ↦ rw (part_before (length xs) 1 5 ys (omega arith), append-nil (part_of 0 1 5 xs))
           (sym (append_assoc (part_of 0 1 5 xs) (part_of 0 9 1537 xs) (part_of (length xs) 9 1537 ys)))
     ])

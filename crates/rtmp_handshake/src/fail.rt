@@ -9,9 +9,7 @@ use std::fmt;
 #[derive(Clone, Copy, Debug, PartialEq, Eq)]
 pub enum HandFail {
     /// The client's first byte, its version, isn't 3 (RTMP 1.0, 5.2.2).
-    BadVersion {
-        byte: u8,
-    },
+    BadVersion { byte: u8 },
     /// Memory was refused.
     OutOfMemory,
 }
