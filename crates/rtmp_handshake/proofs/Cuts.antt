@@ -1,5 +1,5 @@
 -- What is read and put out however the bytes are cut.
-use Rattle.std.proofs.Common.{ℕ, List, [], ◌∷◌, ◌++◌, length, take, drop, ◌-◌, ◌+◌, ◌<◌, ◌≤◌, ◌≡◌, ◌∙◌, refl, sym, ap, arith, append_assoc, inl, inr, min}
+use Rattle.std.proofs.Common.{ℕ, List, [], ◌∷◌, ◌++◌, length, take, drop, ◌-◌, ◌≤◌, ◌≡◌, ◌∙◌, refl, sym, ap, arith, append_assoc, inl, inr, min}
 use Rattle.std.proofs.lemmas.List.{append-nil, take_all, take-take, take-append-drop, length-take, length-append}
 use Rattle.std.proofs.lemmas.Bool.{cases_lt}
 use Rattle.std.specs.List.{concat}

@@ -1,10 +1,9 @@
 -- What is kept of C1, piece by piece, and the answer by it.
-use Rattle.std.proofs.Common.{ℕ, List, [], ◌∷◌, ◌++◌, length, take, drop, ◌-◌, ◌+◌, ◌<◌, ◌≤◌, ◌≡◌, ◌∙◌, refl, sym, ap, append_assoc, arith, length-drop, length-append}
-use Rattle.std.proofs.lemmas.List.{append-nil, take_all, drop_all, take-take, drop-take, drop-drop, take_at, drop_at, length-take-le}
+use Rattle.std.proofs.Common.{ℕ, List, [], ◌++◌, length, drop, ◌-◌, ◌≤◌, ◌≡◌, refl, sym, append_assoc, arith, length-drop}
+use Rattle.std.proofs.lemmas.List.{append-nil, take_all, drop_all}
 use Rattle.std.proofs.lemmas.Bool.{cases_lt}
 use Rattle.std.proofs.Common.{inl, inr}
-use Rattle.rtmp_handshake.specs.Answer.{answer_of}
-use Rattle.rtmp_handshake.specs.Echo.{part_of, kept_of, answer_by}
+use Rattle.rtmp_handshake.specs.Echo.{part_of, kept_of}
 use Rattle.rtmp_handshake.proofs.Lists.{take_over, drop_over}
 
 -- the places `from .. to` of a text of two pieces

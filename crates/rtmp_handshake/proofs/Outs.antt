@@ -1,6 +1,6 @@
 -- What is put out with a piece.
-use Rattle.std.proofs.Common.{ℕ, List, [], ◌∷◌, ◌++◌, length, take, drop, ◌-◌, ◌+◌, ◌<◌, ◌≤◌, ◌≡◌, ◌∙◌, refl, sym, ap, arith, append_assoc, inl, inr, Option, Some, None, min}
-use Rattle.std.proofs.lemmas.List.{append-nil, take_all, take-append-drop, length-append, length-take, nil_from_length}
+use Rattle.std.proofs.Common.{ℕ, List, [], ◌∷◌, ◌++◌, length, drop, ◌-◌, ◌+◌, ◌<◌, ◌≤◌, ◌≡◌, ◌∙◌, refl, sym, ap, arith, append_assoc, inl, inr, None, min}
+use Rattle.std.proofs.lemmas.List.{append-nil, take-append-drop, length-append, length-take}
 use Rattle.std.proofs.lemmas.Bool.{cases_lt}
 use Rattle.std.proofs.lemmas.Bool.Decides.{nat_tests}
 use Rattle.rtmp_handshake.specs.Answer.{answer_of, answered, bad_version}

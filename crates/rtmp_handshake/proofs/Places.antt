@@ -1,6 +1,6 @@
 -- The answer's length, and its bytes by their places.
-use Rattle.std.proofs.Common.{ℕ, List, [], ◌∷◌, ◌++◌, length, take, drop, get_or, ◌-◌, ◌+◌, ◌%◌, ◌<◌, ◌≤◌, ◌≡◌, ◌∙◌, refl, sym, ap, arith, append_assoc}
-use Rattle.std.proofs.lemmas.List.{length-take, length-take-le, length-drop, length-append, get_or_append_left, get_or-append-add, get_or-append_right, get_or-take, get_or-drop}
+use Rattle.std.proofs.Common.{ℕ, List, ◌++◌, length, take, drop, get_or, ◌-◌, ◌+◌, ◌%◌, ◌<◌, ◌≤◌, ◌≡◌, ◌∙◌, refl, sym, ap, arith, append_assoc}
+use Rattle.std.proofs.lemmas.List.{length-take-le, length-drop, length-append, get_or_append_left, get_or-append-add, get_or-append_right, get_or-take, get_or-drop, get_or-replicate}
 use Rattle.std.proofs.lemmas.List.FromFn.{get_or-map-range_with_len}
 use Rattle.std.specs.List.{slice_index}
 use Rattle.rtmp_handshake.specs.Answer.{answer_of, c1, s0, s1, s2, zeros, random_bytes}
@@ -37,6 +37,17 @@ answer_length client h =
     let sum : length (s0 ++ s1) + length (s2 (c1 client)) ≡ 3073 = omega arith in
     ap length e ∙ length-append (s0 ++ s1) (s2 (c1 client)) ∙ sum
 
+pub answer_version : (client : List ℕ) → slice_index (answer_of client) 0 ≡ 3
+unfolding answer_of
+answer_version client = refl
+
+pub answer_zeros : (client : List ℕ) (i : ℕ) → i < 8 → slice_index (answer_of client) (1 + i) ≡ 0
+unfolding answer_of
+answer_zeros client i h =
+    get_or-append-add s0 ((zeros ++ zeros) ++ (random_bytes 1528 ++ s2 (c1 client))) i 0
+    ∙ get_or_append_left (zeros ++ zeros) (random_bytes 1528 ++ s2 (c1 client)) 0 i h
+    ∙ get_or-replicate 8 i 0 0 h
+
 pub answer_random : (client : List ℕ) (i : ℕ) → i < 1528 → slice_index (answer_of client) (9 + i) ≡ i % 251
 unfolding answer_of
 answer_random client i h =
@@ -62,6 +73,14 @@ answer_time client i h k =
     ∙ get_or_append_left (take 4 (c1 client)) (zeros ++ drop 8 (c1 client)) 0 i (omega arith)
     ∙ get_or-take 4 (c1 client) i 0 k
     ∙ c1_at client i (omega arith)
+
+pub answer_when_read : (client : List ℕ) (i : ℕ) → 1537 ≤ length client → 4 ≤ i → i < 8 → slice_index (answer_of client) (1537 + i) ≡ 0
+answer_when_read client i h low high =
+    let four : length (take 4 (c1 client)) ≡ 4 = length-take-le 4 (c1 client) (let e = c1_length client h in omega arith) in
+    answer_s2 client i
+    ∙ get_or-append_right (take 4 (c1 client)) (zeros ++ drop 8 (c1 client)) 4 i 0 four low
+    ∙ get_or_append_left zeros (drop 8 (c1 client)) 0 (i - 4) (omega arith)
+    ∙ get_or-replicate 4 (i - 4) 0 0 (omega arith)
 
 pub answer_echo : (client : List ℕ) (i : ℕ) → 1537 ≤ length client → 8 ≤ i → i < 1536 → slice_index (answer_of client) (1537 + i) ≡ slice_index client (1 + i)
 answer_echo client i h low high =

@@ -1,5 +1,5 @@
 -- The server's random bytes, one by one.
-use Rattle.std.proofs.Common.{ℕ, List, [], ◌∷◌, ◌++◌, length, ◌+◌, ◌%◌, ◌≡◌, refl, arith}
+use Rattle.std.proofs.Common.{ℕ, [], ◌∷◌, ◌++◌, length, ◌+◌, ◌%◌, ◌≡◌, refl, arith}
 use Rattle.std.proofs.lemmas.List.FromFn.{map-range_with_len_more, length-map-range_with_len}
 use Rattle.rtmp_handshake.specs.Answer.{random_bytes}
 

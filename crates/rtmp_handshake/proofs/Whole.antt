@@ -1,8 +1,8 @@
 -- The answer by the client's first 1,537 bytes, and by what was kept of them.
-use Rattle.std.proofs.Common.{ℕ, List, [], ◌∷◌, ◌++◌, length, take, drop, ◌-◌, ◌+◌, ◌<◌, ◌≤◌, ◌≡◌, ◌∙◌, refl, sym, ap, arith}
-use Rattle.std.proofs.lemmas.List.{take-take, drop-take, drop-drop, take_at, drop_at, length-take-le, length-drop, length-append, take-append-le, drop-append-le}
+use Rattle.std.proofs.Common.{ℕ, List, [], ◌++◌, length, take, drop, ◌<◌, ◌≤◌, ◌≡◌, ◌∙◌, refl, ap, arith}
+use Rattle.std.proofs.lemmas.List.{take-take, drop-take, drop-drop, take_at, drop_at, length-take-le, length-drop, take-append-le, drop-append-le}
 use Rattle.std.proofs.lemmas.Bool.Decides.{nat_tests}
-use Rattle.rtmp_handshake.specs.Answer.{answer_of, answered, c1, s0, s1, s2, zeros}
+use Rattle.rtmp_handshake.specs.Answer.{answer_of, answered, c1, s0, s1, s2}
 use Rattle.rtmp_handshake.specs.Echo.{kept_of, answer_by}
 
 -- C1 stands in the first 1,537 bytes

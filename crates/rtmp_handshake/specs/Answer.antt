@@ -16,7 +16,7 @@ c1 client = take 1536 (drop 1 client)
 abbrev pub time : List ℕ → List ℕ
 time part = take 4 part
 
--- its random bytes: the 1,528 after the time and 4 more, which are to be zero and which nothing depends on (own)
+-- its random bytes: the 1,528 after the time and 4 more, which are to be zero and which nothing depends on here (own)
 abbrev pub random : List ℕ → List ℕ
 random part = drop 8 part
 

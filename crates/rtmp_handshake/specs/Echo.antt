@@ -1,5 +1,5 @@
 -- What is kept of C1 until it is complete: the bytes of it that S2 gives back.
-use Rattle.std.specs.Prelude.{ℕ, ◌-◌, List, [], ◌∷◌, ◌++◌, take, drop, replicate}
+use Rattle.std.specs.Prelude.{ℕ, ◌-◌, List, ◌++◌, take, drop}
 use Rattle.rtmp_handshake.specs.Answer.{s0, s1, zeros}
 
 -- what stands in a piece at the places `from .. to` of a text in which so many bytes stand before the piece

@@ -1,4 +1,4 @@
-use Rattle.std.proofs.Common.{◌≡◌, ◌++◌, ◌%◌, [], ◌∷◌, sym, append_assoc}
+use Rattle.std.proofs.Common.{◌%◌, [], ◌∷◌, sym, append_assoc}
 use Rattle.std.proofs.lemmas.List.{append-nil}
 use Rattle.rtmp_handshake.specs.Answer.{random_bytes}
 use Rattle.rtmp_handshake.proofs.Randoms.{random_more, random_none}

@@ -1,5 +1,5 @@
 use Rattle.rtmp_handshake.proofs.Whole.{answer_alone}
-use Rattle.rtmp_handshake.proofs.Places.{answer_length, answer_random, answer_time, answer_echo}
+use Rattle.rtmp_handshake.proofs.Places.{answer_length, answer_version, answer_zeros, answer_random, answer_time, answer_when_read, answer_echo}
 use Rattle.rtmp_handshake.proofs.laws.answer_law.Goals as goal
 
 pub returns-clause-length : goal.returns-clause-length
@@ -16,3 +16,12 @@ returns-clause-time c = answer_time
 
 pub returns-clause-echo : goal.returns-clause-echo
 returns-clause-echo c = answer_echo
+
+pub returns-clause-version : goal.returns-clause-version
+returns-clause-version c = answer_version
+
+pub returns-clause-zeros : goal.returns-clause-zeros
+returns-clause-zeros c = answer_zeros
+
+pub returns-clause-when_read : goal.returns-clause-when_read
+returns-clause-when_read c = answer_when_read
