@@ -1,7 +1,3 @@
-ghost use Rattle.std.specs.Prelude.{◌≡◌};
-ghost use Rattle.rtmp_handshake.specs.declared.fail.HandFail.TheVariants.{OutOfMemory as NoMemory};
-
-use av_unit::OutOfMemory;
 use std::error::Error;
 use std::fmt;
 
@@ -24,11 +20,3 @@ impl fmt::Display for HandFail {
 }
 
 impl Error for HandFail {}
-
-impl From<OutOfMemory> for HandFail {
-    ghost from_gives = { λ _ e. e ≡ NoMemory };
-
-    fn from(_: OutOfMemory) -> HandFail {
-        HandFail::OutOfMemory
-    }
-}

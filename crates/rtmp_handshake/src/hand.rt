@@ -1,7 +1,7 @@
-ghost use Rattle.std.specs.Prelude.{◌≡◌, ◌+◌, ◌≤◌, ◌<◌, ◌↔◌, [], ◌++◌, length, take, IsTrue, IsOk, IfOk, IfErr, OnErr, Some, None, Err};
+ghost use Rattle.std.specs.Prelude.{◌≡◌, ◌+◌, ◌≤◌, ◌<◌, ◌↔◌, [], ◌++◌, length, IsTrue, IsOk, IfOk, IfErr, Some, None, Err};
 ghost use Rattle.rtmp_handshake.specs.declared.fail.HandFail.{HandFail};
 ghost use Rattle.rtmp_handshake.specs.Answer.{bad_version, answered};
-ghost use Rattle.rtmp_handshake.specs.Handshake.{Handshake, refused_version};
+ghost use Rattle.rtmp_handshake.specs.Handshake.{refused_version};
 ghost use Rattle.rtmp_handshake.specs.Feeds.{used_of, read_of, out_of};
 ghost use Rattle.rtmp_handshake.specs.Echo.{answer_by, kept_of};
 
@@ -14,7 +14,7 @@ use past::Flow;
 use std::alloc::Global;
 use std::marker::Model;
 
-// The bytes of C0 and C1, and those of C0, C1 and C2.
+// How many bytes C0 and C1 have, and C0, C1 and C2.
 const TO_C1: usize = 1_537;
 
 const TO_C2: usize = 3_073;
@@ -101,9 +101,16 @@ impl Hand {
     /// It fails with `BadVersion` exactly where the client's first byte isn't 3. A failed one read nothing of the
     /// piece, and answers the same to each later one. A handshake that has answered takes no memory.
     pub fn feed(&mut self, alloc: Global, piece: &[u8]) -> Result<HandFed, HandFail>
+        // One that has failed answers the same again.
         ensures again { (e : HandFail) → self.old.failed ≡ Some e → result ≡ Err e }
+
+        // Of one that hasn't failed, the version is refused exactly where the client's first byte isn't 3.
         ensures version { self.old.failed ≡ None → refused_version result ≡ bad_version (self.old.fed ++ piece.now) }
+
+        // Once it has answered it takes no memory.
         ensures memory { self.old.failed ≡ None → 1537 ≤ length self.old.fed → IsOk result }
+
+        // A feed that fails reads nothing.
         ensures err { IfErr result (λ e. self.new ≡ record { fed = self.old.fed; failed = Some e }) }
         ensures ok { IfOk result (λ f. self.new ≡ record { fed = self.old.fed ++ read_of self.old.fed piece.now; failed = None }) }
         ensures used { IfOk result (λ f. f.used ≡ used_of self.old.fed piece.now) }

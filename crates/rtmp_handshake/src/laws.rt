@@ -1,7 +1,7 @@
 ghost use Rattle.std.specs.Prelude.{◌≡◌, ℕ, ◌+◌, ◌%◌, ◌≤◌, ◌<◌, [], List, ◌++◌, length, take};
 ghost use Rattle.std.specs.List.{concat, slice_index};
 ghost use Rattle.rtmp_handshake.specs.Answer.{answer_of, answered};
-ghost use Rattle.rtmp_handshake.specs.Feeds.{all_out, all_read, out_of, read_of};
+ghost use Rattle.rtmp_handshake.specs.Feeds.{all_out, all_read};
 
 /// The answer has 3,073 bytes, and depends on the client's first 1,537 bytes alone. Each byte of it by its place:
 /// S0 is 3; S1 is eight zeros and 1,528 bytes of which byte i is i modulo 251; S2 is the time of C1, four zeros, and
