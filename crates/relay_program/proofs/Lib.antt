@@ -6,5 +6,6 @@ pub mod Script
 pub mod Steps
 pub mod Ahead
 pub mod Stops
+pub mod Whole
 pub mod Words
 pub mod OneLine

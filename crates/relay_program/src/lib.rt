@@ -22,7 +22,7 @@ mod text;
 pub use drills::drill;
 pub use line::{DrillLine, LineFail, drill_line};
 pub use runs::run;
-pub use text::{reply_lines_stand_alone, reply_text};
+pub use text::{reply_line_law, reply_text};
 
 #[cfg(test)]
 mod tests;
