@@ -9,3 +9,6 @@ pub mod Stops
 pub mod Whole
 pub mod Words
 pub mod OneLine
+pub mod NumberLaw
+pub mod KindLaw
+pub mod LinesLaw

@@ -6,3 +6,4 @@ pub mod Parts
 pub mod Ends
 pub mod Words
 pub mod OneLine
+pub mod Laws
