@@ -100,7 +100,7 @@ struct Drilling {
 fn first_line_feed(text: &[u8]) -> Option<usize>
     ensures { result ≡ position (λ c. c == 10) text.now }
 {
-    text.iter().position(|c| *c == 10)
+    text.iter().position(|c| *c == b'\n')
 }
 
 impl Drilling {
@@ -261,9 +261,19 @@ fn is_drill(words: &[Vec<u8>]) -> bool
 /// Answers a script of calls at one stream: it puts the reply line of each call as it goes.
 ///
 /// The one word is `drill`. The stream has the default limits: 33,554,432 bytes, 16,384 items and 256
-/// players. The code is 0 where the script was read to its end, and 4 where line `place`, counted from
-/// 1, is the first outside the grammar; then the replies to the lines before it are written. With code
-/// 3, 5 or 6 a first part of the reply lines is written.
+/// players. A line is outside the grammar where [`drill_line`](crate::drill_line) says so, or where it
+/// has a byte past the script's first 2^28. The code of the answer tells how the drill ended:
+///
+/// | Code | Comes | Written |
+/// |---|---|---|
+/// | 0 | the script was read to its end, and no line is outside the grammar | all replies |
+/// | 2 | exactly where the words aren't `drill` alone; nothing is read | nothing |
+/// | 3 | only where the source's faults rose | the replies to all whole lines that were read, and nothing of the line that was begun |
+/// | 4 | line `place`, counted from 1, is the first outside the grammar | the replies to the lines before it |
+/// | 5 | only where the sink's faults rose | a first part of the replies to what was read |
+/// | 6 | for want of memory | a first part of the replies to what was read |
+///
+/// `place` is 0 but for code 4.
 pub fn drill<S: Source, K: Sink>(
     alloc: Global,
     words: &[Vec<u8>],

@@ -21,8 +21,17 @@ fn first_word_is(words: &[Vec<u8>], name: &[u8]) -> bool
 
 /// Runs the command that the first of the words names.
 ///
-/// The words are those after the program's name. The code is 2 where they aren't those of a command;
-/// then nothing is read or written. The one command is [`drill`].
+/// The words are those after the program's name. The one command is [`drill`], and what it writes by
+/// each code is told there. The code is
+///
+/// - 0 where the input was read to its end;
+/// - 2 exactly where the words aren't those of a command: nothing is read or written;
+/// - 3 only where the input's faults rose;
+/// - 4 where the line `place` of the input, counted from 1, is the first outside the grammar;
+/// - 5 only where the output's faults rose;
+/// - 6 for want of memory.
+///
+/// `place` is 0 but for code 4.
 pub fn run<S: Source, K: Sink>(
     alloc: Global,
     words: &[Vec<u8>],
