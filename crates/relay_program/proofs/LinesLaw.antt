@@ -1,10 +1,10 @@
 -- The lines of a script, an LF after each, are the script.
-use Rattle.std.proofs.Common.{◌≡◌, ◌⊎◌, inl, inr, ℕ, ◌+◌, ◌==◌, if◌then◌else◌, Bool, true, false, List, [], ◌∷◌, ◌++◌, refl, ap, sym, ◌∙◌, subst, append_assoc, arith}
+use Rattle.std.proofs.Common.{◌≡◌, ◌⊎◌, inl, inr, ℕ, ◌+◌, ◌==◌, if◌then◌else◌, Bool, true, false, List, [], ◌∷◌, ◌++◌, length, refl, ap, sym, ◌∙◌, subst, append_assoc, arith}
 use Rattle.std.proofs.lemmas.Bool.{eqb-true}
-use Rattle.std.proofs.lemmas.List.{append-nil}
+use Rattle.std.proofs.lemmas.List.{append-nil, length-append}
 use Rattle.relay_program.specs.Script.{Line, line_at, last_line, lines_from, lines}
 use Rattle.relay_program.specs.Outcome.{NoLineFeed}
-use Rattle.relay_program.specs.Laws.{with_feeds, EndsWithBytes, AreLines}
+use Rattle.relay_program.specs.Laws.{with_feeds, EndsWithBytes, AreLines, EndFrom}
 use Rattle.relay_program.proofs.OneLine.{both}
 
 last_are : (place : ℕ) (line : List ℕ) → NoLineFeed line → AreLines (line ++ []) (last_line place line)
@@ -42,3 +42,25 @@ from (c ∷ cs) place line clean = cases (c == 10) c place line cs refl clean (f
 
 pub lines_law : (script : List ℕ) → AreLines script (lines script)
 lines_law script = from script 0 [] tt
+
+-- ---- where a line ends
+
+last_ends : (total start place : ℕ) (line : List ℕ) → total ≡ place → place ≡ start + length line → EndFrom total start (last_line place line)
+last_ends total start place [] all here = tt
+last_ends total start place (c ∷ cs) all here = (omega (arith, all, here), tt)
+
+end_cases : (b : Bool) (total start c place : ℕ) (line cs : List ℕ) → total ≡ place + length (c ∷ cs) → place ≡ start + length line →
+    EndFrom total (start + length line + 1) (lines_from (place + 1) [] cs) → EndFrom total start (lines_from (place + 1) (line ++ c ∷ []) cs) →
+    EndFrom total start (if b then line_at line (place + 1) ∷ lines_from (place + 1) [] cs else lines_from (place + 1) (line ++ c ∷ []) cs)
+end_cases true total start c place line cs all here ends more = (omega (arith, all, here), ends)
+end_cases false total start c place line cs all here ends more = more
+
+end_from : (script : List ℕ) (total start place : ℕ) (line : List ℕ) → total ≡ place + length script → place ≡ start + length line → EndFrom total start (lines_from place line script)
+end_from [] total start place line all here = last_ends total start place line (omega (arith, all)) here
+end_from (c ∷ cs) total start place line all here =
+    end_cases (c == 10) total start c place line cs all here
+    (end_from cs total (start + length line + 1) (place + 1) [] (omega (arith, all)) (omega (arith, here)))
+    (end_from cs total start (place + 1) (line ++ c ∷ []) (omega (arith, all)) (omega (arith, here, length-append line (c ∷ []))))
+
+pub ends_law : (script : List ℕ) → EndFrom (length script) 0 (lines script)
+ends_law script = end_from script (length script) 0 0 [] (omega arith) (omega arith)

@@ -1,5 +1,5 @@
 -- The lines of a script, without a word on how they are read.
-use Rattle.std.specs.Prelude.{◌≡◌, ◌⊎◌, ℕ, ◌<◌, List, [], ◌∷◌, ◌++◌, length}
+use Rattle.std.specs.Prelude.{◌≡◌, ◌⊎◌, ℕ, ◌+◌, ◌<◌, min, List, [], ◌∷◌, ◌++◌, length}
 use Rattle.relay_program.specs.Outcome.{NoLineFeed}
 use Rattle.relay_program.specs.Script.{Line}
 
@@ -24,3 +24,8 @@ pub record EndsWithBytes (lines : List Line) : Type 0 where
 pub record AreLines (script : List ℕ) (lines : List Line) : Type 0 where
   pub clean : EachWithoutFeed lines
   pub joined : (with_feeds lines ≡ script) ⊎ ((with_feeds lines ≡ script ++ 10 ∷ []) × EndsWithBytes lines)
+
+-- each line ends, its LF included, after so many of the script's `total` bytes, where the first of the lines begins after `start` of them
+abbrev pub EndFrom : ℕ → ℕ → List Line → Type 0
+EndFrom total start [] = Unit {0}
+EndFrom total start (line ∷ lines) = (line.end ≡ min (start + length line.text + 1) total) × EndFrom total (start + length line.text + 1) lines

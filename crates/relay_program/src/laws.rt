@@ -1,9 +1,9 @@
-ghost use Rattle.std.specs.Prelude.{◌≡◌, ◌↔◌, ◌<◌, ◌≤◌, ◌^◌, ℕ, List, Some};
+ghost use Rattle.std.specs.Prelude.{◌≡◌, ◌↔◌, ◌<◌, ◌≤◌, ◌^◌, ℕ, List, length, Some};
 ghost use Rattle.std.specs.Fmt.{decimal};
 ghost use Rattle.relay_program.specs.Lines.{number, kind_of};
 ghost use Rattle.relay_program.specs.Texts.{kind_text};
 ghost use Rattle.relay_program.specs.Script.{lines};
-ghost use Rattle.relay_program.specs.Laws.{AreLines};
+ghost use Rattle.relay_program.specs.Laws.{AreLines, EndFrom};
 
 use av_unit::Kind;
 
@@ -21,8 +21,10 @@ pub fn kind_law()
 {}
 
 /// No line of a script has an LF in it, and the lines with an LF after each are the script, but that the
-/// LF may lack after a last line that isn't empty.
-#[tactic(auto, using(crate::proofs::LinesLaw::lines_law))]
+/// LF may lack after a last line that isn't empty. A line's end is the number of the script's bytes up to
+/// it, its LF included.
+#[tactic(auto, using(crate::proofs::LinesLaw::lines_law, crate::proofs::LinesLaw::ends_law))]
 pub fn lines_law()
-    ensures { (script : List ℕ) → AreLines script (lines script) }
+    ensures joined { (script : List ℕ) → AreLines script (lines script) }
+    ensures ends { (script : List ℕ) → EndFrom (length script) 0 (lines script) }
 {}
