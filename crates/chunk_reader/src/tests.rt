@@ -3,10 +3,12 @@ use chunk_wire::Message;
 use std::alloc::{AllocError, Global};
 use std::test::Fail;
 
-// A video message of 200 bytes on id 6 at 40 ms, and a Set Chunk Size of 4,096.
+// A video message of 200 bytes on id 6 at 40 ms, a Set Chunk Size of 4,096, and an Abort of id 6.
 const VIDEO: &[u8; 12] = b"\x06\x00\x00\x28\x00\x00\xc8\x09\x01\x00\x00\x00";
 
 const SIZE: &[u8; 16] = b"\x02\x00\x00\x00\x00\x00\x04\x01\x00\x00\x00\x00\x00\x00\x10\x00";
+
+const ABORT: &[u8; 16] = b"\x02\x00\x00\x00\x00\x00\x04\x02\x00\x00\x00\x00\x00\x00\x00\x06";
 
 // Appends a header and so many bytes of payload.
 fn add(bytes: &mut Vec<u8>, head: &[u8], payload: usize) -> Result<(), AllocError> {
@@ -193,9 +195,8 @@ fn an_abort_drops_the_part_and_keeps_the_header(rt: HostRuntime) -> Result<(), F
     let alloc = rt.alloc();
     let video = chunk(alloc, VIDEO, 128)?;
     let again = chunk(alloc, b"\xc6", 128)?;
-    let abort = b"\x02\x00\x00\x00\x00\x00\x04\x02\x00\x00\x00\x00\x00\x00\x00\x06";
     for cut in 0..16 {
-        let (early, late) = abort.as_slice().split_at(cut);
+        let (early, late) = ABORT.as_slice().split_at(cut);
         let text = given(alloc, &[video.as_slice(), early, late])?;
         assert_eq!(rt; text.as_str(), "2 0 0 4, held 0");
         let text = given(alloc, &[video.as_slice(), early, late, again.as_slice()])?;
@@ -204,7 +205,12 @@ fn an_abort_drops_the_part_and_keeps_the_header(rt: HostRuntime) -> Result<(), F
     let rest = chunk(alloc, b"\xc6", 72)?;
     let text = given(
         alloc,
-        &[video.as_slice(), abort, again.as_slice(), rest.as_slice()],
+        &[
+            video.as_slice(),
+            ABORT.as_slice(),
+            again.as_slice(),
+            rest.as_slice(),
+        ],
     )?;
     assert_eq!(rt; text.as_str(), "2 0 0 4, 9 1 80 200, held 0");
     Ok(())
@@ -261,35 +267,45 @@ fn short_headers_go_on_from_the_last(rt: HostRuntime) -> Result<(), Fail> {
 // All that ffmpeg 5.1.9 sends after its handshake to play a stream, up to its deleteStream.
 #[test]
 fn what_ffmpeg_sends_to_play_is_read(rt: HostRuntime) -> Result<(), Fail> {
-    let mut connect: Vec<u8> = Vec::from_slice(
-        rt.alloc(),
+    let alloc = rt.alloc();
+    let mut bytes = Vec::from_slice(
+        alloc,
         b"\x03\x00\x00\x00\x00\x00\xc5\x14\x00\x00\x00\x00\x02\x00\x07connect\x00?\xf0\x00\x00\x00\x00\x00\x00\x03\x00\x03app\x02\x00\x04live\x00\x08flashVer\x02\x00\x0dLNX 9,0,124,2\x00\x05tcUrl\x02\x00\x1brtmp://127.0.0.1:19510/live\x00\x04fpad\x01\x00\x00\x0ccapabilities\x00@.\x00\x00\x00\x00\x00\x00\x00\x0b",
     )?;
-    connect.extend_from_slice(
+    bytes.extend_from_slice(
         b"\xc3audioCodecs\x00@\xaf\xce\x00\x00\x00\x00\x00\x00\x0bvideoCodecs\x00@o\x80\x00\x00\x00\x00\x00\x00\x0dvideoFunction\x00?\xf0\x00\x00\x00\x00\x00\x00\x00\x00\x09",
     )?;
-    let window = b"\x02\x00\x00\x00\x00\x00\x04\x05\x00\x00\x00\x00\x00&%\xa0";
-    let create =
-        b"C\x00\x00\x00\x00\x00\x19\x14\x02\x00\x0ccreateStream\x00@\x00\x00\x00\x00\x00\x00\x00\x05";
-    let length =
-        b"\x08\x00\x00\x00\x00\x00#\x14\x00\x00\x00\x00\x02\x00\x0fgetStreamLength\x00@\x08\x00\x00\x00\x00\x00\x00\x05\x02\x00\x04long";
-    let play =
-        b"\x08\x00\x00\x00\x00\x00!\x14\x01\x00\x00\x00\x02\x00\x04play\x00@\x10\x00\x00\x00\x00\x00\x00\x05\x02\x00\x04long\x00\xc0\x9f@\x00\x00\x00\x00\x00";
-    let buffer = b"B\x00\x00\x01\x00\x00\x0a\x04\x00\x03\x00\x00\x00\x01\x00\x00\x0b\xb8";
-    let delete =
-        b"C\x00\x00\x00\x00\x00\x22\x14\x02\x00\x0cdeleteStream\x00@\x14\x00\x00\x00\x00\x00\x00\x05\x00?\xf0\x00\x00\x00\x00\x00\x00";
-    let text = given(
-        rt.alloc(),
-        &[
-            connect.as_slice(),
-            window,
-            create,
-            length,
-            play,
-            buffer,
-            delete,
-        ],
+    add(
+        &mut bytes,
+        b"\x02\x00\x00\x00\x00\x00\x04\x05\x00\x00\x00\x00\x00&%\xa0",
+        0,
     )?;
+    add(
+        &mut bytes,
+        b"C\x00\x00\x00\x00\x00\x19\x14\x02\x00\x0ccreateStream\x00@\x00\x00\x00\x00\x00\x00\x00\x05",
+        0,
+    )?;
+    add(
+        &mut bytes,
+        b"\x08\x00\x00\x00\x00\x00#\x14\x00\x00\x00\x00\x02\x00\x0fgetStreamLength\x00@\x08\x00\x00\x00\x00\x00\x00\x05\x02\x00\x04long",
+        0,
+    )?;
+    add(
+        &mut bytes,
+        b"\x08\x00\x00\x00\x00\x00!\x14\x01\x00\x00\x00\x02\x00\x04play\x00@\x10\x00\x00\x00\x00\x00\x00\x05\x02\x00\x04long\x00\xc0\x9f@\x00\x00\x00\x00\x00",
+        0,
+    )?;
+    add(
+        &mut bytes,
+        b"B\x00\x00\x01\x00\x00\x0a\x04\x00\x03\x00\x00\x00\x01\x00\x00\x0b\xb8",
+        0,
+    )?;
+    add(
+        &mut bytes,
+        b"C\x00\x00\x00\x00\x00\x22\x14\x02\x00\x0cdeleteStream\x00@\x14\x00\x00\x00\x00\x00\x00\x05\x00?\xf0\x00\x00\x00\x00\x00\x00",
+        0,
+    )?;
+    let text = given(alloc, &[bytes.as_slice()])?;
     assert_eq!(rt;
         text.as_str(),
         "20 0 0 197, 5 0 0 4, 20 0 0 25, 20 0 0 35, 20 1 0 33, 4 0 1 10, 20 0 0 34, held 0"
