@@ -13,7 +13,7 @@ mod reader;
 mod take;
 
 pub use fail::{ReadCause, ReadFail};
-pub use laws::{beginnings_are_read, one_reading, refused_bytes_are_not_read};
+pub use laws::{beginnings_are_read, one_reading, one_refusal, refused_bytes_are_not_read};
 pub use reader::{Fed, Reader};
 
 #[cfg(test)]
