@@ -1,0 +1,21 @@
+//! AMF0 values: reading them from bytes and writing them.
+#![tactic(auto)]
+
+mod amf;
+mod decoding;
+mod fail;
+mod fields;
+pub mod laws;
+mod marker;
+mod number;
+mod reading;
+mod writing;
+
+pub use amf::{Amf, AmfList, Pairs};
+pub use decoding::{decode, decode_all};
+pub use fail::AmfFail;
+pub use number::{bits_of, whole_of};
+pub use writing::encode;
+
+#[cfg(test)]
+mod tests;

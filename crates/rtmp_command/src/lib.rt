@@ -1,0 +1,11 @@
+//! Commands of RTMP: what a peer asks in a message of AMF0 values, and the bodies of the answers.
+#![tactic(auto)]
+
+mod answer;
+mod command;
+
+pub use answer::{Answer, Why, answer_body};
+pub use command::{Command, CommandFail, command_of};
+
+#[cfg(test)]
+mod tests;

@@ -1,0 +1,5 @@
+pub mod Answer
+pub mod Handshake
+pub mod Feeds
+pub mod Echo
+pub mod Sound
