@@ -65,14 +65,13 @@ fn read(alloc: Global, bytes: &[u8]) -> u64 {
     ended
 }
 
-// Copies the bytes of each message, a chunk's at a time, into a list of its own.
+// Copies so many bytes as a message has at once, into a list that is used again.
 fn copy(alloc: Global, bytes: &[u8]) -> Result<u64, AllocError> {
+    let mut list = Vec::new(alloc);
     let mut lists = 0u64;
     for message in bytes.chunks(MESSAGE) {
-        let mut list = Vec::new(alloc);
-        for piece in message.chunks(CHUNK) {
-            list.extend_from_slice(piece)?;
-        }
+        list.clear();
+        list.extend_from_slice(message)?;
         if list.len() == MESSAGE {
             lists = lists.saturating_add(1);
         }
@@ -88,6 +87,7 @@ fn rate(bytes: usize, micros: u128) -> u128 {
         .unwrap_or(0)
 }
 
+/// Prints the bytes a second of the reader and of the copy.
 pub fn measure<R: Clock + Print>(rt: &R, alloc: Global) -> io::Result<()> {
     let bytes = video(alloc)?;
     let start = Instant::now(rt)?;
