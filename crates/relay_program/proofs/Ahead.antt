@@ -1,24 +1,31 @@
 -- A drill in the middle of its script.
-use Rattle.std.proofs.Common.{◌≡◌, ℕ, List, [], ◌++◌, Option, None, Some, Result, Ok, Err, MatchResult, refl, ap, sym, ◌∙◌, subst}
+use Rattle.std.proofs.Common.{◌≡◌, ℕ, List, [], ◌++◌, Option, None, Some, Result, Ok, Err, MatchResult, refl, ap, sym, ◌∙◌, subst, append_assoc, length, ◌+◌}
+use Rattle.std.proofs.lemmas.List.{append-nil, append_cancel_right}
 use Rattle.std.specs.Io.KnownBytes.{prepend_known, IsAtEnd}
 use Rattle.relay_program.specs.declared.drills.Drilling.{Drilling}
 use Rattle.relay_program.specs.declared.drills.Stop.{Stop}
 use Rattle.relay_program.specs.declared.drills.Stop.TheVariants.{Outside, SourceFault, SinkFault, OutOfMemory}
 use Rattle.stream_model.specs.History.{History}
-use Rattle.relay_program.specs.Script.{lines_from, lines, first_outside, entries, reply_lines, drill_text, outside_line}
-use Rattle.relay_program.specs.Parts.{Writes, WritesPart, text_ahead, outside_ahead, Goes, StopsAt, Stops}
+use Rattle.relay_program.specs.Script.{Line, lines_from, lines, first_outside, entries, reply_lines, drill_text, outside_line}
+use Rattle.relay_program.specs.Outcome.{Writes, WritesPart}
+use Rattle.relay_program.specs.Parts.{lines_ahead, text_ahead, outside_ahead, Advances, StopsAt, Stops}
 use Rattle.relay_program.specs.Ends.{Ahead}
 use Rattle.relay_program.proofs.Known.{nothing_written, write_then, write_part_then}
+use Rattle.relay_program.proofs.Stops.{stop_part, result_part}
 
 pub start : (d : Drilling) (left held : Option (List ℕ)) (text : List ℕ) → left ≡ Some text → d.stream.past ≡ [] → d.line ≡ [] → d.place ≡ 0 → d.number ≡ 1 → Ahead d left held text held
 start d left held text e past line place number =
-    let same = ap (λ (n : ℕ). lines_from n d.line text) place ∙ ap (λ (l : List ℕ). lines_from 0 l text) line in
-    let all : text_ahead d text ≡ drill_text text = ap (λ l. reply_lines d.stream.past (entries l)) same ∙ ap (λ (h : History). reply_lines h (entries (lines text))) past in
+    let same : (more : List ℕ) → lines_ahead d more ≡ lines more = λ more. ap (λ (n : ℕ). lines_from n d.line more) place ∙ ap (λ (l : List ℕ). lines_from 0 l more) line in
+    let all : (more : List ℕ) → text_ahead d more ≡ drill_text more =
+    λ more. ap (λ l. reply_lines d.stream.past (entries l)) (same more) ∙ ap (λ (h : History). reply_lines h (entries (lines more))) past in
     record {
+      read = [];
       rest = text;
+      script_is = refl;
       left_is = e;
-      writes = subst (λ (l : List ℕ). Writes (drill_text text) l held held) (sym all) (nothing_written (drill_text text) held);
-      outside = ap (first_outside d.number) same ∙ ap (λ (n : ℕ). first_outside n (lines text)) number;
+      writes = λ more. subst (λ (l : List ℕ). Writes (drill_text more) l held held) (sym (all more)) (nothing_written (drill_text more) held);
+      outside = λ more. ap (first_outside d.number) (same more) ∙ ap (λ (n : ℕ). first_outside n (lines more)) number;
+      counted = λ more. ap (λ (n : ℕ). n + length (lines_ahead d more)) number ∙ ap (λ (l : List Line). 1 + length l) (same more);
     }
 
 -- the bytes that were read stood first of what was left
@@ -38,40 +45,94 @@ stops_ahead SourceFault d rest text outside before held now w o p = write_part_t
 stops_ahead SinkFault d rest text outside before held now w o p = write_part_then text (text_ahead d rest) before held now w p
 stops_ahead OutOfMemory d rest text outside before held now w o p = write_part_then text (text_ahead d rest) before held now w p
 
+-- more was read
+read_more : (read bytes next rest : List ℕ) → rest ≡ bytes ++ next → read ++ rest ≡ (read ++ bytes) ++ next
+read_more read bytes next rest e = ap (λ (l : List ℕ). read ++ l) e ∙ sym (append_assoc read bytes next)
+
 pub piece_ahead : (d new : Drilling) (bytes : List ℕ) (left now held after : Option (List ℕ)) (text : List ℕ) (before : Option (List ℕ)) → Ahead d left held text before →
-    left ≡ prepend_known bytes now → ((rest : List ℕ) → Goes d (bytes ++ rest) new rest held after) → Ahead new now after text before
+    left ≡ prepend_known bytes now → ((rest : List ℕ) → Advances d (bytes ++ rest) new rest held after) → Ahead new now after text before
 piece_ahead d new bytes left now held after text before a read goes =
     let f = front bytes now a.rest (sym read ∙ a.left_is) in
-    let g = subst (λ (l : List ℕ). Goes d l new f.next held after) (sym f.rest_is) (goes f.next) in
+    let same : (more : List ℕ) → a.read ++ (bytes ++ more) ≡ (a.read ++ bytes) ++ more = λ more. sym (append_assoc a.read bytes more) in
     record {
+      read = a.read ++ bytes;
       rest = f.next;
+      script_is = a.script_is ∙ read_more a.read bytes f.next a.rest f.rest_is;
       left_is = f.now_is;
-      writes = write_then (drill_text text) (text_ahead d a.rest) (text_ahead new f.next) before held after a.writes g.writes;
-      outside = g.outside ∙ a.outside;
+      writes = λ more. subst (λ (l : List ℕ). Writes (drill_text l) (text_ahead new more) before after) (same more)
+          (write_then (drill_text (a.read ++ (bytes ++ more))) (text_ahead d (bytes ++ more)) (text_ahead new more) before held after (a.writes (bytes ++ more)) (goes more).writes);
+      outside = λ more. (goes more).outside ∙ a.outside (bytes ++ more) ∙ ap outside_line (same more);
+      counted = λ more. (goes more).counted ∙ a.counted (bytes ++ more) ∙ ap (λ (l : List ℕ). 1 + length (lines l)) (same more);
     }
+
+-- whatever follows the piece
+stops_for : (stop : Stop) (d : Drilling) (bytes : List ℕ) (left held after : Option (List ℕ)) (text : List ℕ) (before : Option (List ℕ)) → (a : Ahead d left held text before) →
+    ((rest : List ℕ) → Stops stop d (bytes ++ rest) held after) → (more : List ℕ) → StopsAt stop (drill_text (a.read ++ (bytes ++ more))) (outside_line (a.read ++ (bytes ++ more))) before after
+stops_for stop d bytes left held after text before a stops more =
+    stops_ahead stop d (bytes ++ more) (drill_text (a.read ++ (bytes ++ more))) (outside_line (a.read ++ (bytes ++ more))) before held after (a.writes (bytes ++ more)) (a.outside (bytes ++ more)) (stops more)
 
 pub piece_stops : (stop : Stop) (d : Drilling) (bytes : List ℕ) (left now held after : Option (List ℕ)) (text : List ℕ) (before : Option (List ℕ)) → Ahead d left held text before →
     left ≡ prepend_known bytes now → ((rest : List ℕ) → Stops stop d (bytes ++ rest) held after) → StopsAt stop (drill_text text) (outside_line text) before after
 piece_stops stop d bytes left now held after text before a read stops =
     let f = front bytes now a.rest (sym read ∙ a.left_is) in
-    stops_ahead stop d a.rest (drill_text text) (outside_line text) before held after a.writes a.outside (subst (λ (l : List ℕ). Stops stop d l held after) (sym f.rest_is) (stops f.next))
+    let whole : a.read ++ (bytes ++ f.next) ≡ text = ap (λ (l : List ℕ). a.read ++ l) (sym f.rest_is) ∙ sym a.script_is in
+    subst (λ (l : List ℕ). StopsAt stop (drill_text l) (outside_line l) before after) whole (stops_for stop d bytes left held after text before a stops f.next)
 
 -- at the end nothing is left
 empty : (left : Option (List ℕ)) (rest : List ℕ) → left ≡ Some rest → IsAtEnd left → rest ≡ []
 empty None rest e h = absurd (cc)
 empty (Some xs) rest e h = cc
 
+-- ---- what was read
+
+some_same : (xs ys : List ℕ) → Some xs ≡ Some ys → xs ≡ ys
+some_same xs ys e = cc
+
+-- what was read is told by the script and by what is left of it
+pub read_is : (read rest other next : List ℕ) (left : Option (List ℕ)) → read ++ rest ≡ other ++ next → left ≡ Some rest → left ≡ Some next → read ≡ other
+read_is read rest other next left e p q =
+    let same : rest ≡ next = some_same rest next (sym p ∙ q) in
+    append_cancel_right read other next (ap (λ (l : List ℕ). read ++ l) (sym same) ∙ e)
+
+-- a source that didn't give leaves what was read as it was
+pub stays_read : (d : Drilling) (left now held : Option (List ℕ)) (read rest : List ℕ) (before : Option (List ℕ)) → Ahead d left held (read ++ rest) before → now ≡ left → now ≡ Some rest →
+    WritesPart (drill_text read) before held
+stays_read d left now held read rest before a same p =
+    let e = read_is read rest a.read a.rest now a.script_is p (same ∙ a.left_is) in
+    subst (λ (l : List ℕ). WritesPart (drill_text l) before held) (append-nil a.read ∙ sym e) (text_ahead d [], a.writes [])
+
+pub piece_read : (stop : Stop) (d : Drilling) (bytes : List ℕ) (left now held after : Option (List ℕ)) (read rest : List ℕ) (before : Option (List ℕ)) → Ahead d left held (read ++ rest) before →
+    left ≡ prepend_known bytes now → now ≡ Some rest → ((rest : List ℕ) → Stops stop d (bytes ++ rest) held after) → WritesPart (drill_text read) before after
+piece_read stop d bytes left now held after read rest before a gave p stops =
+    let f = front bytes now a.rest (sym gave ∙ a.left_is) in
+    let e = read_is read rest (a.read ++ bytes) f.next now (a.script_is ∙ read_more a.read bytes f.next a.rest f.rest_is) p f.now_is in
+    let same : a.read ++ (bytes ++ []) ≡ read = ap (λ (l : List ℕ). a.read ++ l) (append-nil bytes) ∙ sym e in
+    subst (λ (l : List ℕ). WritesPart (drill_text l) before after) same
+    (stop_part stop (drill_text (a.read ++ (bytes ++ []))) (outside_line (a.read ++ (bytes ++ []))) before after (stops_for stop d bytes left held after (read ++ rest) before a stops []))
+
+-- of a script that was read to its end
+pub end_read : (r : Result (Unit {0}) Stop) (left now : Option (List ℕ)) (read rest : List ℕ) (before after : Option (List ℕ)) → now ≡ left → IsAtEnd left → now ≡ Some rest →
+    MatchResult r (λ _. Writes (drill_text (read ++ rest)) [] before after × (outside_line (read ++ rest) ≡ None))
+    (λ stop. StopsAt stop (drill_text (read ++ rest)) (outside_line (read ++ rest)) before after) → WritesPart (drill_text read) before after
+end_read r left now read rest before after same h p ends =
+    let none = empty left rest (sym same ∙ p) h in
+    let whole : read ++ rest ≡ read = ap (λ (l : List ℕ). read ++ l) none ∙ append-nil read in
+    subst (λ (l : List ℕ). WritesPart (drill_text l) before after) whole (result_part r (drill_text (read ++ rest)) (outside_line (read ++ rest)) before after ends)
+
+at_end : (d : Drilling) (left held : Option (List ℕ)) (text : List ℕ) (before : Option (List ℕ)) → (a : Ahead d left held text before) → IsAtEnd left → a.read ++ [] ≡ text
+at_end d left held text before a h = ap (λ (l : List ℕ). a.read ++ l) (sym (empty left a.rest a.left_is h)) ∙ sym a.script_is
+
 pub script_ends : (r : Result (Unit {0}) Stop) (d : Drilling) (left held after : Option (List ℕ)) (text : List ℕ) (before : Option (List ℕ)) → Ahead d left held text before → IsAtEnd left →
     MatchResult r (λ _. Writes (text_ahead d []) [] held after × (outside_ahead d [] ≡ None)) (λ stop. Stops stop d [] held after) →
     MatchResult r (λ _. Writes (drill_text text) [] before after × (outside_line text ≡ None)) (λ stop. StopsAt stop (drill_text text) (outside_line text) before after)
 script_ends (Ok x) d left held after text before a h p =
-    let none = empty left a.rest a.left_is h in
-    let writes = subst (λ (l : List ℕ). Writes (drill_text text) (text_ahead d l) before held) none a.writes in
-    (write_then (drill_text text) (text_ahead d []) [] before held after writes p.0, sym a.outside ∙ ap (outside_ahead d) none ∙ p.1)
+    let whole = at_end d left held text before a h in
+    subst (λ (l : List ℕ). Writes (drill_text l) [] before after × (outside_line l ≡ None)) whole
+    (write_then (drill_text (a.read ++ [])) (text_ahead d []) [] before held after (a.writes []) p.0, sym (a.outside []) ∙ p.1)
 script_ends (Err stop) d left held after text before a h p =
-    let none = empty left a.rest a.left_is h in
-    let writes = subst (λ (l : List ℕ). Writes (drill_text text) (text_ahead d l) before held) none a.writes in
-    stops_ahead stop d [] (drill_text text) (outside_line text) before held after writes (sym (ap (outside_ahead d) none) ∙ a.outside) p
+    let whole = at_end d left held text before a h in
+    subst (λ (l : List ℕ). StopsAt stop (drill_text l) (outside_line l) before after) whole
+    (stops_ahead stop d [] (drill_text (a.read ++ [])) (outside_line (a.read ++ [])) before held after (a.writes []) (a.outside []) p)
 
 pub part_written : (d : Drilling) (left held : Option (List ℕ)) (text : List ℕ) (before : Option (List ℕ)) → Ahead d left held text before → WritesPart (drill_text text) before held
-part_written d left held text before a = (text_ahead d a.rest, a.writes)
+part_written d left held text before a = subst (λ (l : List ℕ). WritesPart (drill_text l) before held) (sym a.script_is) (text_ahead d a.rest, a.writes a.rest)

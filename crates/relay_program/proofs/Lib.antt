@@ -6,5 +6,9 @@ pub mod Script
 pub mod Steps
 pub mod Ahead
 pub mod Stops
+pub mod Whole
 pub mod Words
 pub mod OneLine
+pub mod NumberLaw
+pub mod KindLaw
+pub mod LinesLaw

@@ -10,14 +10,14 @@ use Rattle.av_unit.specs.declared.item.Item.{Item}
 use Rattle.av_unit.specs.declared.item.Item.TheVariants as item
 use Rattle.stream_model.specs.declared.replies.Reply.{Reply}
 use Rattle.stream_model.specs.declared.replies.Reply.TheVariants.{Began, InUse, Pushed, NotPublisher, Ended, Joined, Full, NotPlayer, Sent, Skip, NotYet, Left, Counts}
-use Rattle.relay_program.specs.Parts.{NoFeed}
 use Rattle.relay_program.specs.Texts.{line_of, item_text, kind_text, live_text}
 use Rattle.relay_program.specs.OneLine.{IsOneLine, IsU64, IsLive, IsItem, IsReply}
+use Rattle.relay_program.specs.Outcome.{NoLineFeed}
 
 record Clean (text : List ℕ) : Type 0 where
-  clean : NoFeed text
+  clean : NoLineFeed text
 
-both : (xs ys : List ℕ) → NoFeed xs → NoFeed ys → NoFeed (xs ++ ys)
+pub both : (xs ys : List ℕ) → NoLineFeed xs → NoLineFeed ys → NoLineFeed (xs ++ ys)
 both [] ys p q = q
 both (x ∷ xs) ys p q = (p.0, both xs ys p.1 q)
 
@@ -38,11 +38,11 @@ abbrev is_clean : List ℕ → Bool
 is_clean [] = true
 is_clean (c ∷ cs) = cond (not (c == 10)) (is_clean cs) false
 
-clean_cases : (b : Bool) (c : ℕ) (cs : List ℕ) → (c == 10) ≡ b → cond (not b) (is_clean cs) false ≡ true → (is_clean cs ≡ true → NoFeed cs) → NoFeed (c ∷ cs)
+clean_cases : (b : Bool) (c : ℕ) (cs : List ℕ) → (c == 10) ≡ b → cond (not b) (is_clean cs) false ≡ true → (is_clean cs ≡ true → NoLineFeed cs) → NoLineFeed (c ∷ cs)
 clean_cases true c cs e h more = absurd (cc)
 clean_cases false c cs e h more = (e, more h)
 
-by_test : (text : List ℕ) → is_clean text ≡ true → NoFeed text
+by_test : (text : List ℕ) → is_clean text ≡ true → NoLineFeed text
 by_test [] e = tt
 by_test (c ∷ cs) e = clean_cases (c == 10) c cs refl e (by_test cs)
 

@@ -10,11 +10,12 @@ use Rattle.relay_program.specs.declared.line.DrillLine.{DrillLine}
 use Rattle.relay_program.specs.declared.line.DrillLine.TheVariants.{Nothing, Step}
 use Rattle.relay_program.specs.Lines.{meaning}
 use Rattle.relay_program.specs.Script.{Line, line_at, lines_from, line_meaning, first_outside, entries, entries_then, reply_lines}
-use Rattle.relay_program.specs.Parts.{NoFeed, IsOver, after_line, said_by}
+use Rattle.relay_program.specs.Outcome.{NoLineFeed}
+use Rattle.relay_program.specs.Parts.{IsOver, after_line, said_by}
 
 -- ---- bytes without an LF
 
-pub lines_of_run : (run rest : List ℕ) (place : ℕ) (line : List ℕ) → NoFeed run → lines_from place line (run ++ rest) ≡ lines_from (place + length run) (line ++ run) rest
+pub lines_of_run : (run rest : List ℕ) (place : ℕ) (line : List ℕ) → NoLineFeed run → lines_from place line (run ++ rest) ≡ lines_from (place + length run) (line ++ run) rest
 lines_of_run [] rest place line h = ap (λ (l : List ℕ). lines_from place l rest) (sym (append-nil line)) ∙ ap (λ (n : ℕ). lines_from n (line ++ []) rest) (omega arith)
 lines_of_run (c ∷ run) rest place line h =
     let one : lines_from place line (c ∷ (run ++ rest)) ≡ lines_from (place + 1) (line ++ c ∷ []) (run ++ rest) = rw h.0 refl in
@@ -84,7 +85,7 @@ inside_text past line lines said e = rw e (said_first past said (entries lines))
 
 -- a text with an LF in it
 pub record HasFeed (text : List ℕ) (i : ℕ) : Type 0 where
-  pub clean : NoFeed (take i text)
+  pub clean : NoLineFeed (take i text)
   pub parts : text ≡ take i text ++ 10 ∷ drop (suc i) text
   pub within : i < length text
 
@@ -109,11 +110,11 @@ feed_at : (text : List ℕ) → before_feed text < length text → HasFeed text 
 feed_at [] h = absurd (omega arith)
 feed_at (c ∷ cs) h = feed_cases (c == 10) c cs (before_feed cs) refl h (feed_at cs)
 
-clean_cases : (b : Bool) (c : ℕ) (cs : List ℕ) (i : ℕ) → (c == 10) ≡ b → length (c ∷ cs) ≤ cond (not b) (1 + i) 0 → (length cs ≤ i → NoFeed cs) → NoFeed (c ∷ cs)
+clean_cases : (b : Bool) (c : ℕ) (cs : List ℕ) (i : ℕ) → (c == 10) ≡ b → length (c ∷ cs) ≤ cond (not b) (1 + i) 0 → (length cs ≤ i → NoLineFeed cs) → NoLineFeed (c ∷ cs)
 clean_cases true c cs i e h more = absurd (omega arith)
 clean_cases false c cs i e h more = (e, more (omega (arith, h)))
 
-clean_to_end : (text : List ℕ) → length text ≤ before_feed text → NoFeed text
+clean_to_end : (text : List ℕ) → length text ≤ before_feed text → NoLineFeed text
 clean_to_end [] h = tt
 clean_to_end (c ∷ cs) h = clean_cases (c == 10) c cs (before_feed cs) refl h (clean_to_end cs)
 
@@ -130,5 +131,5 @@ none_before : (b : Bool) (n len : ℕ) → nat_lt n len ≡ b → cond b (Some n
 none_before true n len e none = absurd (cc)
 none_before false n len e none = grind (arith, nat_tests)
 
-pub no_feed : (text : List ℕ) → position (λ c. c == 10) text ≡ None → NoFeed text
+pub no_feed : (text : List ℕ) → position (λ c. c == 10) text ≡ None → NoLineFeed text
 no_feed text e = clean_to_end text (none_before (nat_lt (before_feed text) (length text)) (before_feed text) (length text) refl e)

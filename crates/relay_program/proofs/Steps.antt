@@ -13,26 +13,28 @@ use Rattle.relay_program.specs.declared.line.DrillLine.{DrillLine}
 use Rattle.relay_program.specs.declared.line.DrillLine.TheVariants.{Nothing, Step}
 use Rattle.relay_program.specs.Lines.{meaning}
 use Rattle.relay_program.specs.Script.{Line, line_at, last_line, lines_from, line_meaning, first_outside, entries, entries_then, reply_lines, defaults}
-use Rattle.relay_program.specs.Parts.{Writes, WritesPart, Answered, AnswerStops, Fit, lines_ahead, text_ahead, outside_ahead, Goes, Stops, NoFeed, Extended, IsOver, ExtendStops, after_line, said_by}
+use Rattle.relay_program.specs.Outcome.{Writes, WritesPart, NoLineFeed}
+use Rattle.relay_program.specs.Parts.{Answered, AnswerStops, Fit, lines_ahead, text_ahead, outside_ahead, Advances, Stops, Extended, IsOver, ExtendStops, after_line, said_by}
 use Rattle.relay_program.proofs.Known.{append_known_nil, no_part_written, write_then, write_part_then, part_of_more}
 use Rattle.relay_program.proofs.Script.{HasFeed, lines_of_run, IsFirstOutside, over, outside_first, outside_ends, inside_first, inside_text}
 
 -- ---- one part after another
 
-pub goes_then : (old mid new : Drilling) (a b c : List ℕ) (before between now : Option (List ℕ)) → Goes old a mid b before between → Goes mid b new c between now → Goes old a new c before now
+pub goes_then : (old mid new : Drilling) (a b c : List ℕ) (before between now : Option (List ℕ)) → Advances old a mid b before between → Advances mid b new c between now → Advances old a new c before now
 goes_then old mid new a b c before between now p q = record {
   writes = write_then (text_ahead old a) (text_ahead mid b) (text_ahead new c) before between now p.writes q.writes;
   outside = q.outside ∙ p.outside;
+  counted = q.counted ∙ p.counted;
 }
 
-pub stops_then : (stop : Stop) (old mid : Drilling) (a b : List ℕ) (before between now : Option (List ℕ)) → Goes old a mid b before between → Stops stop mid b between now → Stops stop old a before now
+pub stops_then : (stop : Stop) (old mid : Drilling) (a b : List ℕ) (before between now : Option (List ℕ)) → Advances old a mid b before between → Stops stop mid b between now → Stops stop old a before now
 stops_then (Outside n) old mid a b before between now p q = (write_then (text_ahead old a) (text_ahead mid b) [] before between now p.writes q.0, sym p.outside ∙ q.1)
 stops_then SourceFault old mid a b before between now p q = write_part_then (text_ahead old a) (text_ahead mid b) before between now p.writes q
 stops_then SinkFault old mid a b before between now p q = write_part_then (text_ahead old a) (text_ahead mid b) before between now p.writes q
 stops_then OutOfMemory old mid a b before between now p q = write_part_then (text_ahead old a) (text_ahead mid b) before between now p.writes q
 
-pub result_then : (r : Result (Unit {0}) Stop) (old mid new : Drilling) (a b c : List ℕ) (before between now : Option (List ℕ)) → Goes old a mid b before between →
-    MatchResult r (λ _. Goes mid b new c between now) (λ stop. Stops stop mid b between now) → MatchResult r (λ _. Goes old a new c before now) (λ stop. Stops stop old a before now)
+pub result_then : (r : Result (Unit {0}) Stop) (old mid new : Drilling) (a b c : List ℕ) (before between now : Option (List ℕ)) → Advances old a mid b before between →
+    MatchResult r (λ _. Advances mid b new c between now) (λ stop. Stops stop mid b between now) → MatchResult r (λ _. Advances old a new c before now) (λ stop. Stops stop old a before now)
 result_then (Ok x) old mid new a b c before between now p q = goes_then old mid new a b c before between now p q
 result_then (Err stop) old mid new a b c before between now p q = stops_then stop old mid a b before between now p q
 
@@ -47,7 +49,7 @@ first_stops n d ahead before now first number kept = (
 
 -- ---- bytes without an LF
 
-pub run_goes : (old new : Drilling) (run rest : List ℕ) (before : Option (List ℕ)) → NoFeed run → Extended old run new → Goes old (run ++ rest) new rest before before
+pub run_goes : (old new : Drilling) (run rest : List ℕ) (before : Option (List ℕ)) → NoLineFeed run → Extended old run new → Advances old (run ++ rest) new rest before before
 run_goes old new run rest before clean e =
     let lines : lines_ahead old (run ++ rest) ≡ lines_ahead new rest =
     lines_of_run run rest old.place old.line clean ∙ ap (λ (l : List ℕ). lines_from (old.place + length run) l rest) (sym e.line) ∙ ap (λ (n : ℕ). lines_from n new.line rest) (sym e.place) in
@@ -56,6 +58,7 @@ run_goes old new run rest before clean e =
     record {
       writes = record { wrote = []; parts = text; grown = sym (append_known_nil before) };
       outside = ap (first_outside new.number) (sym lines) ∙ ap (λ (n : ℕ). first_outside n (lines_ahead old (run ++ rest))) e.number;
+      counted = ap (λ (n : ℕ). n + length (lines_ahead new rest)) e.number ∙ ap (λ (l : List Line). old.number + length l) (sym lines);
     }
 
 some_bytes : (d : Drilling) (run : List ℕ) → Fit d → IsOver (length d.line + length run) (d.place + length run) → 0 < length (d.line ++ run)
@@ -64,7 +67,7 @@ some_bytes d run fit h = omega (arith, length-append d.line run, fit.line, fit.p
 over_appended : (line run : List ℕ) (place : ℕ) → IsOver (length line + length run) place → IsOver (length (line ++ run)) place
 over_appended line run place h = subst (λ (n : ℕ). IsOver n place) (sym (length-append line run)) h
 
-pub run_stops : (stop : Stop) (d : Drilling) (run rest : List ℕ) (before : Option (List ℕ)) → Fit d → NoFeed run → ExtendStops stop d run → Stops stop d (run ++ rest) before before
+pub run_stops : (stop : Stop) (d : Drilling) (run rest : List ℕ) (before : Option (List ℕ)) → Fit d → NoLineFeed run → ExtendStops stop d run → Stops stop d (run ++ rest) before before
 run_stops (Outside n) d run rest before fit clean e =
     let first = over rest d.number (d.place + length run) (d.line ++ run) (some_bytes d run fit e.1) (over_appended d.line run (d.place + length run) e.1) in
     first_stops n d (run ++ rest) before before (subst (λ (l : List Line). IsFirstOutside d.number l) (sym (lines_of_run run rest d.place d.line clean)) first) e.0 refl
@@ -143,7 +146,7 @@ feed_stops stop d more before now h p = answer_stops stop d (10 ∷ more) (line_
 
 -- ---- at the script's end
 
-one_left : (place : ℕ) (line : List ℕ) → 0 < length line → last_line place line ≡ line_at line place ∷ []
+pub one_left : (place : ℕ) (line : List ℕ) → 0 < length line → last_line place line ≡ line_at line place ∷ []
 one_left place [] h = absurd (omega arith)
 one_left place (c ∷ cs) h = refl
 
@@ -180,15 +183,15 @@ feed_parts left rest i f =
     ∙ ap (λ (l : List ℕ). take i left ++ 10 ∷ (l ++ rest)) (sym (after_feed_is left i f.within))
 
 pub line_goes : (old new : Drilling) (left rest : List ℕ) (i : ℕ) (before now : Option (List ℕ)) → HasFeed left i →
-    Goes old (take i left ++ 10 ∷ (after_feed left i ++ rest)) new (after_feed left i ++ rest) before now → Goes old (left ++ rest) new (after_feed left i ++ rest) before now
-line_goes old new left rest i before now f p = subst (λ (l : List ℕ). Goes old l new (after_feed left i ++ rest) before now) (sym (feed_parts left rest i f)) p
+    Advances old (take i left ++ 10 ∷ (after_feed left i ++ rest)) new (after_feed left i ++ rest) before now → Advances old (left ++ rest) new (after_feed left i ++ rest) before now
+line_goes old new left rest i before now f p = subst (λ (l : List ℕ). Advances old l new (after_feed left i ++ rest) before now) (sym (feed_parts left rest i f)) p
 
 pub line_stops : (stop : Stop) (old : Drilling) (left rest : List ℕ) (i : ℕ) (before now : Option (List ℕ)) → HasFeed left i →
     Stops stop old (take i left ++ 10 ∷ (after_feed left i ++ rest)) before now → Stops stop old (left ++ rest) before now
 line_stops stop old left rest i before now f p = subst (λ (l : List ℕ). Stops stop old l before now) (sym (feed_parts left rest i f)) p
 
-pub rest_ends : (r : Result (Unit {0}) Stop) (old new : Drilling) (left rest : List ℕ) (before : Option (List ℕ)) → Fit old → NoFeed left →
-    MatchResult r (λ _. Extended old left new) (λ stop. ExtendStops stop old left) → MatchResult r (λ _. Goes old (left ++ rest) new rest before before) (λ stop. Stops stop old (left ++ rest) before before)
+pub rest_ends : (r : Result (Unit {0}) Stop) (old new : Drilling) (left rest : List ℕ) (before : Option (List ℕ)) → Fit old → NoLineFeed left →
+    MatchResult r (λ _. Extended old left new) (λ stop. ExtendStops stop old left) → MatchResult r (λ _. Advances old (left ++ rest) new rest before before) (λ stop. Stops stop old (left ++ rest) before before)
 rest_ends (Ok x) old new left rest before fit clean e = run_goes old new left rest before clean e
 rest_ends (Err stop) old new left rest before fit clean e = run_stops stop old left rest before fit clean e
 

@@ -1,9 +1,10 @@
 -- What a stop says of the faults and of the status.
-use Rattle.std.proofs.Common.{◌≡◌, ◌⊎◌, inl, inr, ℕ, List, [], Option, Result, Ok, Err, MatchResult, ◌∙◌, arith}
+use Rattle.std.proofs.Common.{◌≡◌, ◌⊎◌, inl, inr, ℕ, List, [], Option, None, Result, Ok, Err, MatchResult, ◌∙◌, arith}
 use Rattle.std.specs.Io.KnownBytes.{append_known}
 use Rattle.relay_program.specs.declared.drills.Stop.{Stop}
 use Rattle.relay_program.specs.declared.drills.Stop.TheVariants.{Outside, SourceFault, SinkFault, OutOfMemory}
-use Rattle.relay_program.specs.Parts.{WritesPart, StopsAt, SinkCause, SinkFaults, SourceFaults}
+use Rattle.relay_program.specs.Outcome.{Writes, WritesPart, WritesWholeLines}
+use Rattle.relay_program.specs.Parts.{AfterFault, ResultAfterFault, StopsAt, SinkCause, SinkFaults, SourceFaults}
 use Rattle.relay_program.specs.Ends.{status_of}
 use Rattle.relay_program.proofs.Known.{wrote_all}
 
@@ -37,6 +38,33 @@ stop_part (Outside n) text outside before now h = ([], h.0)
 stop_part SourceFault text outside before now h = h
 stop_part SinkFault text outside before now h = h
 stop_part OutOfMemory text outside before now h = h
+
+pub result_part : (r : Result (Unit {0}) Stop) (text : List ℕ) (outside : Option ℕ) (before now : Option (List ℕ)) →
+    MatchResult r (λ _. Writes text [] before now × (outside ≡ None)) (λ stop. StopsAt stop text outside before now) → WritesPart text before now
+result_part (Ok x) text outside before now h = ([], h.0)
+result_part (Err stop) text outside before now h = stop_part stop text outside before now h
+
+-- ---- after a fault of the source
+
+-- a part that has a sink alone stops for no fault of the source
+pub no_source_fault : (stop : Stop) (rose held : ℕ) (script left before now : Option (List ℕ)) → SinkCause stop rose held → AfterFault stop script left before now
+no_source_fault (Outside n) rose held script left before now h = tt
+no_source_fault SourceFault rose held script left before now h = absurd h
+no_source_fault SinkFault rose held script left before now h = tt
+no_source_fault OutOfMemory rose held script left before now h = tt
+
+pub no_source_fault_by : (r : Result (Unit {0}) Stop) (rose held : ℕ) (script left before now : Option (List ℕ)) → MatchResult r (λ _. held ≡ rose) (λ stop. SinkCause stop rose held) →
+    ResultAfterFault r script left before now
+no_source_fault_by (Ok x) rose held script left before now h = tt
+no_source_fault_by (Err stop) rose held script left before now h = no_source_fault stop rose held script left before now h
+
+pub stop_whole_lines : (stop : Stop) (script left before now : Option (List ℕ)) → AfterFault stop script left before now → (status_of stop).code ≡ 3 → WritesWholeLines script left before now
+stop_whole_lines (Outside n) script left before now h e = absurd (omega (arith, e))
+stop_whole_lines SourceFault script left before now h e = h
+stop_whole_lines SinkFault script left before now h e = absurd (omega (arith, e))
+stop_whole_lines OutOfMemory script left before now h e = absurd (omega (arith, e))
+
+-- ---- what a stop has written
 
 pub stop_written : (stop : Stop) (text : List ℕ) (outside : Option ℕ) (before now : Option (List ℕ)) → StopsAt stop text outside before now →
     ((status_of stop).code ≡ 0) ⊎ ((status_of stop).code ≡ 4) → now ≡ append_known before text

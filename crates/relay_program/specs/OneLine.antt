@@ -5,13 +5,13 @@ use Rattle.av_unit.specs.declared.item.Item.{Item}
 use Rattle.av_unit.specs.declared.item.Item.TheVariants as item
 use Rattle.stream_model.specs.declared.replies.Reply.{Reply}
 use Rattle.stream_model.specs.declared.replies.Reply.TheVariants.{Began, InUse, Pushed, NotPublisher, Ended, Joined, Full, NotPlayer, Sent, Skip, NotYet, Left, Counts}
-use Rattle.relay_program.specs.Parts.{NoFeed}
+use Rattle.relay_program.specs.Outcome.{NoLineFeed}
 
 -- an LF stands at its end, and nowhere else
 pub record IsOneLine (text : List ℕ) : Type 0 where
   pub line : List ℕ
   pub ends : text ≡ line ++ 10 ∷ []
-  pub clean : NoFeed line
+  pub clean : NoLineFeed line
 
 -- the numbers are those of a u64
 abbrev pub IsU64 : ℕ → Type 0

@@ -1,6 +1,7 @@
 -- What the parts of a drill do.
-use Rattle.std.specs.Prelude.{◌≡◌, ◌⊎◌, ℕ, ◌+◌, ◌≤◌, ◌<◌, ◌^◌, true, false, ◌==◌, List, [], ◌∷◌, ◌++◌, length, None, Some}
+use Rattle.std.specs.Prelude.{◌≡◌, ◌⊎◌, ℕ, ◌+◌, ◌≤◌, ◌<◌, ◌^◌, true, List, [], ◌∷◌, ◌++◌, length, None, Some, Ok, Err}
 use Rattle.std.specs.declared.option.Option.{Option}
+use Rattle.std.specs.declared.result.Result.{Result}
 use Rattle.std.specs.Option.{is_some}
 use Rattle.std.specs.Io.KnownBytes.{append_known}
 use Rattle.relay_outside.specs.Counts.{Rose}
@@ -12,17 +13,8 @@ use Rattle.relay_program.specs.declared.drills.Drilling.{Drilling}
 use Rattle.relay_program.specs.declared.drills.Stop.{Stop}
 use Rattle.relay_program.specs.declared.drills.Stop.TheVariants.{Outside, SourceFault, SinkFault, OutOfMemory}
 use Rattle.relay_program.specs.Texts.{line_of}
+use Rattle.relay_program.specs.Outcome.{Writes, WritesPart, WritesWholeLines}
 use Rattle.relay_program.specs.Script.{Line, lines_from, first_outside, entries, reply_lines, defaults}
-
--- what is written of a text, and what is left of it
-pub record Writes (text left : List ℕ) (before now : Option (List ℕ)) : Type 0 where
-  pub wrote : List ℕ
-  pub parts : wrote ++ left ≡ text
-  pub grown : now ≡ append_known before wrote
-
--- a first part of the text is written
-abbrev pub WritesPart : List ℕ → Option (List ℕ) → Option (List ℕ) → Type 0
-WritesPart text before now = (left : List ℕ) × Writes text left before now
 
 -- why a text isn't put
 abbrev pub PutStops : Stop → List ℕ → Option (List ℕ) → Option (List ℕ) → Type 0
@@ -95,9 +87,10 @@ abbrev pub outside_ahead : Drilling → List ℕ → Option ℕ
 outside_ahead d rest = first_outside d.number (lines_ahead d rest)
 
 -- from before some bytes of the script to after them
-pub record Goes (old : Drilling) (ahead : List ℕ) (new : Drilling) (left : List ℕ) (before now : Option (List ℕ)) : Type 0 where
+pub record Advances (old : Drilling) (ahead : List ℕ) (new : Drilling) (left : List ℕ) (before now : Option (List ℕ)) : Type 0 where
   pub writes : Writes (text_ahead old ahead) (text_ahead new left) before now
   pub outside : outside_ahead new left ≡ outside_ahead old ahead
+  pub counted : new.number + length (lines_ahead new left) ≡ old.number + length (lines_ahead old ahead)
 
 -- a text's end with the first line outside, or a part of it
 abbrev pub StopsAt : Stop → List ℕ → Option ℕ → Option (List ℕ) → Option (List ℕ) → Type 0
@@ -109,10 +102,17 @@ StopsAt OutOfMemory text outside before now = WritesPart text before now
 abbrev pub Stops : Stop → Drilling → List ℕ → Option (List ℕ) → Option (List ℕ) → Type 0
 Stops stop old ahead before now = StopsAt stop (text_ahead old ahead) (outside_ahead old ahead) before now
 
--- bytes without an LF
-abbrev pub NoFeed : List ℕ → Type 0
-NoFeed [] = Unit {0}
-NoFeed (c ∷ cs) = ((c == 10) ≡ false) × NoFeed cs
+-- where the source failed, the whole lines that were read are answered
+abbrev pub AfterFault : Stop → Option (List ℕ) → Option (List ℕ) → Option (List ℕ) → Option (List ℕ) → Type 0
+AfterFault (Outside n) script left before now = Unit {0}
+AfterFault SourceFault script left before now = WritesWholeLines script left before now
+AfterFault SinkFault script left before now = Unit {0}
+AfterFault OutOfMemory script left before now = Unit {0}
+
+-- the same of a result
+abbrev pub ResultAfterFault : Result (Unit {0}) Stop → Option (List ℕ) → Option (List ℕ) → Option (List ℕ) → Option (List ℕ) → Type 0
+ResultAfterFault (Ok x) script left before now = Unit {0}
+ResultAfterFault (Err stop) script left before now = AfterFault stop script left before now
 
 -- bytes were added to the line
 pub record Extended (old : Drilling) (run : List ℕ) (new : Drilling) : Type 0 where

@@ -6,8 +6,9 @@ ghost use Rattle.stream_model.specs.History.{items_of};
 ghost use Rattle.relay_program.specs.Lines.{meaning};
 ghost use Rattle.relay_program.specs.Texts.{line_of};
 ghost use Rattle.relay_program.specs.Script.{defaults, drill_text, outside_line};
-ghost use Rattle.relay_program.specs.Parts.{WritesPart, Writes, PutStops, SinkCause, SinkFaults, SourceFaults, Answered, AnswerStops, Fit, Goes, Stops, StopsAt, NoFeed, Extended, ExtendStops, text_ahead, outside_ahead};
-ghost use Rattle.relay_program.specs.Ends.{status_of, status_without_faults, IsDrillCode};
+ghost use Rattle.relay_program.specs.Outcome.{WritesPart, WritesPartOfRead, WritesWholeLines, Writes, NoLineFeed, status_without_faults, IsDrillCode};
+ghost use Rattle.relay_program.specs.Parts.{ResultAfterFault, PutStops, SinkCause, SinkFaults, SourceFaults, Answered, AnswerStops, Fit, Advances, Stops, StopsAt, Extended, ExtendStops, text_ahead, outside_ahead};
+ghost use Rattle.relay_program.specs.Ends.{status_of};
 ghost use Rattle.relay_program.specs.Words.{is_drill};
 
 use crate::line::{DrillLine, LineFail, drill_line};
@@ -96,10 +97,10 @@ struct Drilling {
     number: u64,
 }
 
-fn first_feed(text: &[u8]) -> Option<usize>
+fn first_line_feed(text: &[u8]) -> Option<usize>
     ensures { result ≡ position (λ c. c == 10) text.now }
 {
-    text.iter().position(|c| *c == 10)
+    text.iter().position(|c| *c == b'\n')
 }
 
 impl Drilling {
@@ -146,7 +147,7 @@ impl Drilling {
         requires { Fit self.old }
         ensures fit { OnOk result (Fit self.new) }
         ensures place { OnOk result (self.new.place ≡ self.old.place + 1) }
-        ensures goes { (more : List ℕ) → MatchResult result (λ _. Goes self.old (10 ∷ more) self.new more (K.holds out.old) (K.holds out.new)) (λ stop. Stops stop self.old (10 ∷ more) (K.holds out.old) (K.holds out.new)) }
+        ensures goes { (more : List ℕ) → MatchResult result (λ _. Advances self.old (10 ∷ more) self.new more (K.holds out.old) (K.holds out.new)) (λ stop. Stops stop self.old (10 ∷ more) (K.holds out.old) (K.holds out.new)) }
         ensures faults { MatchResult result (λ _. K.faults out.new ≡ K.faults out.old) (λ stop. SinkCause stop (K.faults out.old) (K.faults out.new)) }
     {
         if self.place == MOST_BYTES {
@@ -170,7 +171,7 @@ impl Drilling {
         requires { Fit self.old }
         ensures fit { OnOk result (Fit self.new) }
         ensures place { OnOk result (self.new.place ≡ self.old.place + length run.now + 1) }
-        ensures goes { (more : List ℕ) → NoFeed run.now → MatchResult result (λ _. Goes self.old (run.now ++ 10 ∷ more) self.new more (K.holds out.old) (K.holds out.new)) (λ stop. Stops stop self.old (run.now ++ 10 ∷ more) (K.holds out.old) (K.holds out.new)) }
+        ensures goes { (more : List ℕ) → NoLineFeed run.now → MatchResult result (λ _. Advances self.old (run.now ++ 10 ∷ more) self.new more (K.holds out.old) (K.holds out.new)) (λ stop. Stops stop self.old (run.now ++ 10 ∷ more) (K.holds out.old) (K.holds out.new)) }
         ensures faults { MatchResult result (λ _. K.faults out.new ≡ K.faults out.old) (λ stop. SinkCause stop (K.faults out.old) (K.faults out.new)) }
     {
         self.extend(run)?;
@@ -182,11 +183,11 @@ impl Drilling {
         requires { Fit self.old }
         ensures fit { OnOk result (Fit self.new) }
         ensures place { OnOk result (self.new.place ≡ self.old.place + length piece.now) }
-        ensures goes { (rest : List ℕ) → MatchResult result (λ _. Goes self.old (piece.now ++ rest) self.new rest (K.holds out.old) (K.holds out.new)) (λ stop. Stops stop self.old (piece.now ++ rest) (K.holds out.old) (K.holds out.new)) }
+        ensures goes { (rest : List ℕ) → MatchResult result (λ _. Advances self.old (piece.now ++ rest) self.new rest (K.holds out.old) (K.holds out.new)) (λ stop. Stops stop self.old (piece.now ++ rest) (K.holds out.old) (K.holds out.new)) }
         ensures faults { MatchResult result (λ _. K.faults out.new ≡ K.faults out.old) (λ stop. SinkCause stop (K.faults out.old) (K.faults out.new)) }
     {
         let mut left = piece;
-        while let Some(feed) = first_feed(left) {
+        while let Some(feed) = first_line_feed(left) {
             self.whole_line(&left[..feed], out)?;
             left = &left[feed + 1..];
         }
@@ -216,6 +217,8 @@ impl Drilling {
 fn answer_script<S: Source, K: Sink>(alloc: Global, script: &mut S, out: &mut K) -> Result<(), Stop>
     ensures read { OnOk result (IsAtEnd (S.left script.new)) }
     ensures ends { (text : List ℕ) → S.left script.old ≡ Some text → MatchResult result (λ _. Writes (drill_text text) [] (K.holds out.old) (K.holds out.new) × (outside_line text ≡ None)) (λ stop. StopsAt stop (drill_text text) (outside_line text) (K.holds out.old) (K.holds out.new)) }
+    ensures part_read { WritesPartOfRead (S.left script.old) (S.left script.new) (K.holds out.old) (K.holds out.new) }
+    ensures as_it_goes { ResultAfterFault result (S.left script.old) (S.left script.new) (K.holds out.old) (K.holds out.new) }
     ensures source { MatchResult result (λ _. S.faults script.new ≡ S.faults script.old) (λ stop. SourceFaults stop (S.faults script.old) (S.faults script.new)) }
     ensures sink { MatchResult result (λ _. K.faults out.new ≡ K.faults out.old) (λ stop. SinkFaults stop (K.faults out.old) (K.faults out.new)) }
 {
@@ -258,9 +261,19 @@ fn is_drill(words: &[Vec<u8>]) -> bool
 /// Answers a script of calls at one stream: it puts the reply line of each call as it goes.
 ///
 /// The one word is `drill`. The stream has the default limits: 33,554,432 bytes, 16,384 items and 256
-/// players. The code is 0 where the script was read to its end, and 4 where line `place`, counted from
-/// 1, is the first outside the grammar; then the replies to the lines before it are written. With code
-/// 3, 5 or 6 a first part of the reply lines is written.
+/// players. A line is outside the grammar where [`drill_line`](crate::drill_line) says so, or where it
+/// has a byte past the script's first 2^28. The code of the answer tells how the drill ended:
+///
+/// | Code | Comes | Written |
+/// |---|---|---|
+/// | 0 | the script was read to its end, and no line is outside the grammar | all replies |
+/// | 2 | exactly where the words aren't `drill` alone; nothing is read | nothing |
+/// | 3 | only where the source's faults rose | the replies to all whole lines that were read, and nothing of the line that was begun |
+/// | 4 | line `place`, counted from 1, is the first outside the grammar | the replies to the lines before it |
+/// | 5 | only where the sink's faults rose | a first part of the replies to what was read |
+/// | 6 | for want of memory | a first part of the replies to what was read |
+///
+/// `place` is 0 but for code 4.
 pub fn drill<S: Source, K: Sink>(
     alloc: Global,
     words: &[Vec<u8>],
@@ -274,6 +287,8 @@ pub fn drill<S: Source, K: Sink>(
     ensures outside { result.code ≡ 4 → (text : List ℕ) → S.left script.old ≡ Some text → outside_line text ≡ Some result.place }
     ensures written { (result.code ≡ 0) ⊎ (result.code ≡ 4) → (text : List ℕ) → S.left script.old ≡ Some text → K.holds out.new ≡ append_known (K.holds out.old) (drill_text text) }
     ensures part { (text : List ℕ) → S.left script.old ≡ Some text → WritesPart (drill_text text) (K.holds out.old) (K.holds out.new) }
+    ensures part_read { WritesPartOfRead (S.left script.old) (S.left script.new) (K.holds out.old) (K.holds out.new) }
+    ensures as_it_goes { result.code ≡ 3 → WritesWholeLines (S.left script.old) (S.left script.new) (K.holds out.old) (K.holds out.new) }
     ensures source_fault { result.code ≡ 3 → Rose (S.faults script.old) (S.faults script.new) }
     ensures sink_fault { result.code ≡ 5 → Rose (K.faults out.old) (K.faults out.new) }
     ensures source { (result.code ≡ 3 → ⊥) → S.faults script.new ≡ S.faults script.old }

@@ -1,4 +1,4 @@
-ghost use Rattle.std.specs.Prelude.{◌≡◌, ◌^◌, ◌<◌, ◌≤◌, ◌+◌, ℕ, MatchResult, Some, None, length, IfOk, Ok};
+ghost use Rattle.std.specs.Prelude.{◌≡◌, ◌↔◌, ◌^◌, ◌<◌, ◌≤◌, ◌+◌, ℕ, Some, None, length, IfOk, Ok, Err};
 ghost use Rattle.std.specs.Prelude.{position, ◌==◌, codes, false};
 ghost use Rattle.std.specs.Option.{option_copied, option_map, IfSome};
 ghost use Rattle.stream_model.specs.declared.calls.Call.{Call};
@@ -14,15 +14,16 @@ use stream_model::{Call, Entry};
 pub enum DrillLine {
     /// An empty line or a comment.
     Nothing,
-    /// A call at the stream.
+    /// A call at the stream, made before its caller was fed any byte.
     Step(Entry),
 }
 
 /// Why a line gives nothing.
 #[derive(Clone, Copy, Debug, PartialEq, Eq)]
 pub enum LineFail {
-    /// The line is outside the grammar.
+    /// The line has none of the forms of a line, or has more than 65,536 bytes.
     Outside,
+    /// Memory was refused; a line that is outside the grammar isn't refused so.
     OutOfMemory,
 }
 
@@ -42,10 +43,10 @@ fn digits(word: &[u8], bound: u64) -> Option<u32>
     let mut value: u64 = 0;
     let mut left = word;
     while let [c, rest @ ..] = left {
-        if !(48 <= *c && *c <= 57) {
+        if !(b'0' <= *c && *c <= b'9') {
             return None;
         }
-        value = 10 * value + u64::from(*c - 48);
+        value = 10 * value + u64::from(*c - b'0');
         if value >= bound {
             return None;
         }
@@ -62,7 +63,7 @@ fn number(word: &[u8], bound: u64) -> Option<u32>
 {
     match word {
         [] => None,
-        [first, _, ..] if *first == 48 => None,
+        [first, _, ..] if *first == b'0' => None,
         _ => digits(word, bound),
     }
 }
@@ -76,7 +77,7 @@ fn who_of(word: &[u8]) -> Option<u32>
 fn first_space(text: &[u8]) -> Option<usize>
     ensures { result ≡ position (λ c. c == 32) text.now }
 {
-    text.iter().position(|c| *c == 32)
+    text.iter().position(|c| *c == b' ')
 }
 
 // The first word, and what follows the space after it.
@@ -129,15 +130,6 @@ fn want_of(word: &[u8]) -> Option<Want>
     Some(Want { audio, video })
 }
 
-fn most_bytes(kind: Kind) -> u64
-    ensures { result ≡ most_bytes kind }
-{
-    match kind {
-        Kind::Meta | Kind::VConfig | Kind::AConfig => 65536,
-        _ => 4194304,
-    }
-}
-
 // A pushed unit, before its body is made.
 #[derive(Clone, Copy)]
 struct Pushed {
@@ -159,7 +151,7 @@ fn read_push(words: Option<&[u8]>) -> Option<Pushed>
     let (time, rest) = first_word(rest?);
     let time = number(time, 1 << 32)?;
     let (len, rest) = first_word(rest?);
-    let len = number(len, most_bytes(kind) + 1)?;
+    let len = number(len, kind.most_bytes() as u64 + 1)?;
     match rest {
         Some(_) => None,
         None => Some(Pushed {
@@ -197,7 +189,8 @@ fn step(who: u32, call: Call) -> DrillLine
 }
 
 fn push_line(alloc: Global, words: Option<&[u8]>) -> Result<DrillLine, LineFail>
-    ensures { MatchResult result (λ l. push_line (option_copied words.entry) ≡ Some l) (λ e. e ≡ LineFail.Outside → push_line (option_copied words.entry) ≡ None) }
+    ensures says { IfOk result (λ l. push_line (option_copied words.entry) ≡ Some l) }
+    ensures outside { (result ≡ Err LineFail.Outside) ↔ (push_line (option_copied words.entry) ≡ None) }
 {
     let Some(pushed) = read_push(words) else {
         return Err(LineFail::Outside);
@@ -283,7 +276,8 @@ fn plain_line(word: &[u8], rest: Option<&[u8]>) -> Option<DrillLine>
 
 // A line whose first word names a call.
 fn call_line(alloc: Global, word: &[u8], rest: Option<&[u8]>) -> Result<DrillLine, LineFail>
-    ensures { MatchResult result (λ l. call_line word.now (option_copied rest.entry) ≡ Some l) (λ e. e ≡ LineFail.Outside → call_line word.now (option_copied rest.entry) ≡ None) }
+    ensures says { IfOk result (λ l. call_line word.now (option_copied rest.entry) ≡ Some l) }
+    ensures outside { (result ≡ Err LineFail.Outside) ↔ (call_line word.now (option_copied rest.entry) ≡ None) }
 {
     if word == b"push".as_slice() {
         return push_line(alloc, rest);
@@ -294,16 +288,24 @@ fn call_line(alloc: Global, word: &[u8], rest: Option<&[u8]>) -> Result<DrillLin
     }
 }
 
-/// What a line says, its LF left out.
+/// What a line of a drill's script says, its LF left out.
+///
+/// The answer is `Outside` exactly where the line has none of the forms of a line, or has more than
+/// 65,536 bytes. A line that begins with `#` is a comment. The other forms are `begin WHO`,
+/// `push WHO KIND TIME LEN`, `end WHO`, `join WHO`, `take WHO PLAYER WANT`, `leave WHO PLAYER` and
+/// `count`, with one space between two words. WHO and TIME are below 2^32, PLAYER is below 256, and LEN
+/// is at most what a unit of that KIND has; TIME is in milliseconds, and LEN in bytes, which are all 0.
+/// Numbers are decimal, without a sign or a leading zero.
 pub fn drill_line(alloc: Global, line: &[u8]) -> Result<DrillLine, LineFail>
-    ensures { MatchResult result (λ l. meaning line.now ≡ Some l) (λ e. e ≡ LineFail.Outside → meaning line.now ≡ None) }
+    ensures says { IfOk result (λ l. meaning line.now ≡ Some l) }
+    ensures outside { (result ≡ Err LineFail.Outside) ↔ (meaning line.now ≡ None) }
 {
     if line.len() > 65536 {
         return Err(LineFail::Outside);
     }
     match line {
         [] => Ok(DrillLine::Nothing),
-        [35, ..] => Ok(DrillLine::Nothing),
+        [b'#', ..] => Ok(DrillLine::Nothing),
         _ => {
             let (word, rest) = first_word(line);
             call_line(alloc, word, rest)

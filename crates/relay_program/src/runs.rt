@@ -2,9 +2,8 @@ ghost use Rattle.std.specs.Prelude.{◌≡◌, ◌⊎◌, ◌↔◌, List, ℕ, 
 ghost use Rattle.std.specs.Io.KnownBytes.{append_known, IsAtEnd};
 ghost use Rattle.relay_outside.specs.Counts.{Rose};
 ghost use Rattle.relay_program.specs.Script.{drill_text, outside_line};
-ghost use Rattle.relay_program.specs.Parts.{WritesPart};
-ghost use Rattle.relay_program.specs.Ends.{status_without_faults, IsDrillCode};
 ghost use Rattle.relay_program.specs.Words.{is_drill, first_word_is};
+ghost use Rattle.relay_program.specs.Outcome.{WritesPart, WritesPartOfRead, WritesWholeLines, status_without_faults, IsDrillCode};
 
 use crate::drills::drill;
 use relay_base::Status;
@@ -22,8 +21,17 @@ fn first_word_is(words: &[Vec<u8>], name: &[u8]) -> bool
 
 /// Runs the command that the first of the words names.
 ///
-/// The words are those after the program's name. The code is 2 where they aren't those of a command;
-/// then nothing is read or written. The one command is [`drill`].
+/// The words are those after the program's name. The one command is [`drill`], and what it writes by
+/// each code is told there. The code is
+///
+/// - 0 where the input was read to its end;
+/// - 2 exactly where the words aren't those of a command: nothing is read or written;
+/// - 3 only where the input's faults rose;
+/// - 4 where the line `place` of the input, counted from 1, is the first outside the grammar;
+/// - 5 only where the output's faults rose;
+/// - 6 for want of memory.
+///
+/// `place` is 0 but for code 4.
 pub fn run<S: Source, K: Sink>(
     alloc: Global,
     words: &[Vec<u8>],
@@ -37,6 +45,8 @@ pub fn run<S: Source, K: Sink>(
     ensures outside { result.code ≡ 4 → (text : List ℕ) → S.left input.old ≡ Some text → outside_line text ≡ Some result.place }
     ensures written { (result.code ≡ 0) ⊎ (result.code ≡ 4) → (text : List ℕ) → S.left input.old ≡ Some text → K.holds out.new ≡ append_known (K.holds out.old) (drill_text text) }
     ensures part { (text : List ℕ) → S.left input.old ≡ Some text → WritesPart (drill_text text) (K.holds out.old) (K.holds out.new) }
+    ensures part_read { WritesPartOfRead (S.left input.old) (S.left input.new) (K.holds out.old) (K.holds out.new) }
+    ensures as_it_goes { result.code ≡ 3 → WritesWholeLines (S.left input.old) (S.left input.new) (K.holds out.old) (K.holds out.new) }
     ensures source_fault { result.code ≡ 3 → Rose (S.faults input.old) (S.faults input.new) }
     ensures sink_fault { result.code ≡ 5 → Rose (K.faults out.old) (K.faults out.new) }
     ensures source { (result.code ≡ 3 → ⊥) → S.faults input.new ≡ S.faults input.old }

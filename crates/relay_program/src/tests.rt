@@ -262,9 +262,9 @@ fn a_fault_in_mid_stream_keeps_what_stands_before(rt: HostRuntime) -> Result<(),
 
 // A sink that always lacks memory.
 #[derive(Drop)]
-struct Narrow;
+struct SinkWithoutMemory;
 
-impl Sink for Narrow {
+impl Sink for SinkWithoutMemory {
     ghost holds = { λ _. None };
 
     ghost faults = { λ _. 0 };
@@ -282,7 +282,7 @@ impl Sink for Narrow {
 fn want_of_memory_in_the_sink_is_told_as_such(rt: HostRuntime) -> Result<(), Fail> {
     let alloc = rt.alloc();
     let mut input = source(alloc, b"begin 1\n", 64, vec![in alloc]?)?;
-    let status = drill(alloc, &words(alloc)?, &mut input, &mut Narrow);
+    let status = drill(alloc, &words(alloc)?, &mut input, &mut SinkWithoutMemory);
     assert_eq!(rt; status, Status { code: 6, place: 0 });
     Ok(())
 }

@@ -124,6 +124,6 @@ pub fn reply_text(alloc: Global, reply: &Reply, out: &mut Bytes) -> Result<(), O
 
 /// Reply lines can't run together: the line of a reply has one LF, which stands at its end.
 #[tactic(auto, using(crate::proofs::OneLine::one_line))]
-pub fn reply_lines_stand_alone()
+pub fn reply_line_law()
     ensures { (r : Reply) → IsReply r → IsOneLine (line_of r) }
 {}

@@ -24,7 +24,7 @@ returns-in_default-reply_text-clause-says g c = no_part_written (said_by (meanin
 
 pub returns-clause-says : goal.returns-clause-says
 returns-clause-says g c =
-    let means = c.in-Ok-Step.ensures ∙ ap Some c.in-Ok-Step.field-0-is in
+    let means = c.in-Ok-Step.ensures.says ∙ ap Some c.in-Ok-Step.field-0-is in
     let is = c.in-Ok.ensures.ok.0 ∙ ap (λ (l : StreamLimits). reply l c.args.stream.now.past c.in-Ok-Step.entry) c.requires.limits in
     let spelled = c.as_slice.ensures ∙ c.in-Ok-reply_text.ensures.ok ∙ ap (λ (l : List ℕ). l ++ line_of c.in-Ok.reply) c.new-text.ensures in
     says c.put_all.result (meaning c.args.line.now) c.args.number c.args.stream.now.past c.apply.new.self.past c.in-Ok-Step.entry c.in-Ok.reply c.as_slice.result.now

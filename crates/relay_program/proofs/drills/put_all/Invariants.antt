@@ -1,6 +1,6 @@
 use Rattle.std.proofs.Common.{◌≡◌, length}
-use Rattle.relay_program.specs.Parts.{Writes}
 use Rattle.relay_program.proofs.drills.put_all.Given as goal
+use Rattle.relay_program.specs.Outcome.{Writes}
 
 abbrev pub invariant-loop-left : goal.invariant-loop-left
 invariant-loop-left g l = record {

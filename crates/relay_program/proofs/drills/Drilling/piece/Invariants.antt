@@ -1,12 +1,12 @@
 use Rattle.std.proofs.Common.{◌≡◌, ◌+◌, ◌++◌, List, ℕ, length}
-use Rattle.relay_program.specs.Parts.{Fit, Goes}
+use Rattle.relay_program.specs.Parts.{Fit, Advances}
 use Rattle.relay_program.proofs.drills.Drilling.piece.Given as goal
 
 abbrev pub invariant-loop-feed : goal.invariant-loop-feed
 invariant-loop-feed g l = record {
   fit : Fit l.self;
   place : l.self.place + length l.left ≡ l.fn.self.place + length l.fn.piece;
-  goes : (rest : List ℕ) → Goes l.fn.self (l.fn.piece ++ rest) l.self (l.left ++ rest) (g.K.Sink.holds l.fn.out) (g.K.Sink.holds l.out);
+  goes : (rest : List ℕ) → Advances l.fn.self (l.fn.piece ++ rest) l.self (l.left ++ rest) (g.K.Sink.holds l.fn.out) (g.K.Sink.holds l.out);
   faults : g.K.Sink.faults l.out ≡ g.K.Sink.faults l.fn.out;
 }
 
