@@ -1,16 +1,16 @@
 -- Bytes that are refused are not read
-use Rattle.std.proofs.Common.{◌≡◌, ℕ, ◌+◌, ◌-◌, ◌<◌, ◌≤◌, ◌^◌, ◌⊎◌, inl, inr, Bool, true, false, List, ◌++◌, ◌∷◌, [], length, take, drop, slice_index, Option, Some, None, refl, sym, ap, ◌∙◌, subst, arith, append_assoc, append-nil, length-append}
+use Rattle.std.proofs.Common.{◌≡◌, ℕ, ◌+◌, ◌-◌, ◌≤◌, ◌^◌, ◌⊎◌, inl, inr, List, ◌++◌, ◌∷◌, [], length, take, slice_index, Some, None, refl, sym, ap, ◌∙◌, subst, arith, append_assoc, append-nil, length-append}
 use Rattle.std.proofs.lemmas.List.{length-take, take-append-le, take_all, take_at, take_more}
 use Rattle.std.proofs.lemmas.Bool.{cases_lt}
 use Rattle.std.specs.List.{concat}
 use Rattle.chunk_wire.specs.declared.message.Message.{Message}
 use Rattle.chunk_wire.specs.Layout.{format_in}
 use Rattle.chunk_wire.specs.State.{State, fresh_state}
-use Rattle.chunk_wire.specs.Chunk.{is_known, message_of}
+use Rattle.chunk_wire.specs.Chunk.{is_known}
 use Rattle.chunk_reader.specs.declared.fail.ReadCause.{ReadCause}
 use Rattle.chunk_reader.specs.declared.fail.ReadCause.TheVariants.{NoHead, TooManyIds, TooLong, TooMuch, BadChunkSize, OutOfMemory, TooFar}
-use Rattle.chunk_reader.specs.Control.{bad_size, next}
-use Rattle.chunk_reader.specs.Reads.{Admits, AreChunks, IsChunk, IsOpen, Reads, state_after}
+use Rattle.chunk_reader.specs.Control.{next}
+use Rattle.chunk_reader.specs.Reads.{AreChunks, IsChunk, IsOpen, Reads, state_after}
 use Rattle.chunk_reader.specs.Stops.{Refuses, Stops}
 use Rattle.chunk_reader.proofs.Once.{no_chunk, same_front}
 use Rattle.chunk_reader.proofs.Parts.{reads_part}

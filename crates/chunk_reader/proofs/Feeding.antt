@@ -1,14 +1,13 @@
 -- A feed, from its steps
-use Rattle.std.proofs.Common.{◌≡◌, ℕ, ◌+◌, ◌-◌, ◌<◌, ◌≤◌, ◌⊎◌, inl, inr, Bool, true, false, List, ◌++◌, ◌∷◌, [], length, take, drop, Option, Some, None, is_some, zero, suc, refl, sym, ap, ◌∙◌, subst, arith, append_assoc, append-nil, length-append, length-drop}
+use Rattle.std.proofs.Common.{◌≡◌, ℕ, ◌+◌, ◌-◌, ◌≤◌, ◌⊎◌, true, false, List, ◌++◌, length, take, drop, Option, Some, None, is_some, refl, sym, ap, ◌∙◌, subst, arith, append_assoc, append-nil, length-drop}
 use Rattle.std.proofs.lemmas.List.{take-append-drop, take_all}
 use Rattle.std.proofs.Math.Seq.{take-add}
 use Rattle.chunk_wire.specs.declared.message.Message.{Message}
 use Rattle.chunk_reader.specs.declared.fail.ReadFail.{ReadFail}
 use Rattle.chunk_reader.specs.declared.fail.ReadCause.TheVariants.{OutOfMemory}
 use Rattle.chunk_reader.specs.Known.{Known}
-use Rattle.chunk_reader.specs.Reads.{ended}
 use Rattle.chunk_reader.specs.Stops.{Stops}
-use Rattle.chunk_reader.specs.Feeds.{IsFedTo, IsRefused, IsTakenTo, Stands, after_bytes}
+use Rattle.chunk_reader.specs.Feeds.{IsFedTo, IsRefused, IsTakenTo, after_bytes}
 
 -- a reader after so many bytes that end no message
 abbrev pub fed_to : Known → List ℕ → ℕ → Known

@@ -1,10 +1,10 @@
 -- What the parts of a header say of the whole
-use Rattle.std.proofs.Common.{◌≡◌, ℕ, ◌+◌, ◌-◌, ◌<◌, ◌≤◌, Bool, true, false, cond, IsTrue, List, ◌++◌, ◌∷◌, [], length, drop, refl, sym, ap, ◌∙◌, arith}
+use Rattle.std.proofs.Common.{◌≡◌, ℕ, ◌+◌, ◌<◌, ◌≤◌, Bool, true, false, cond, IsTrue, List, length, drop, refl, arith}
 use Rattle.std.proofs.lemmas.List.{length-drop}
 use Rattle.chunk_wire.specs.declared.headers.Basic.{Basic}
 use Rattle.chunk_wire.specs.declared.headers.Head.{Head}
 use Rattle.chunk_wire.specs.declared.kept.Terms.{Terms}
-use Rattle.chunk_wire.specs.Layout.{basic_in, basic_size, format_in, head_size, id_in}
+use Rattle.chunk_wire.specs.Layout.{basic_in, basic_size, format_in, head_size}
 use Rattle.chunk_wire.specs.State.{State}
 use Rattle.chunk_wire.specs.Chunk.{head_fields, header_size, is_extended, kept_before, opened, terms_by, value_in}
 use Rattle.chunk_wire.proofs.Same.{size_parts, basic_in_header}

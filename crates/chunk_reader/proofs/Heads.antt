@@ -1,5 +1,5 @@
 -- What a byte of a header or a run of payload leaves, from what its steps left
-use Rattle.std.proofs.Common.{◌≡◌, ℕ, ◌+◌, ◌-◌, ◌<◌, ◌≤◌, ◌⊎◌, inl, inr, List, length, Option, Some, None, Result, Ok, Err, IfOk, IfErr, refl, sym, arith}
+use Rattle.std.proofs.Common.{◌≡◌, ℕ, ◌+◌, ◌-◌, ◌<◌, ◌≤◌, inr, List, length, Option, Result, Ok, Err, IfOk, IfErr, arith}
 use Rattle.chunk_wire.specs.declared.message.Message.{Message}
 use Rattle.chunk_wire.specs.State.{State}
 use Rattle.chunk_reader.specs.declared.fields.Core.{Core}
@@ -8,7 +8,7 @@ use Rattle.chunk_reader.specs.declared.fail.ReadCause.{ReadCause}
 use Rattle.chunk_reader.specs.declared.fail.ReadCause.TheVariants.{NoHead, TooManyIds, TooLong, TooMuch, BadChunkSize, OutOfMemory, TooFar}
 use Rattle.chunk_reader.specs.Reads.{part_limit}
 use Rattle.chunk_reader.specs.Core.{the_state}
-use Rattle.chunk_reader.specs.Steps.{HeadFails, HeadOpens, HeadTaken, IsBadSize, IsFed, IsOpened, IsOpening, IsPassed, PayloadFails, slot_at, slot_message}
+use Rattle.chunk_reader.specs.Steps.{HeadFails, HeadTaken, IsBadSize, IsFed, IsOpened, IsOpening, IsPassed, PayloadFails, slot_at, slot_message}
 
 pub opens_ok : (old : Core) (r : List ℕ) (o : Opening) (mid : Core) (res : Result (Option Message) ReadCause) (new : Core) → IsOpening old.max (the_state old) r o → IsOpened old.max (the_state old) r mid → mid.held ≤ old.held
     → IfOk res (λ m. IsPassed mid m new) → IfOk res (λ m. HeadTaken old r m new)

@@ -9,3 +9,4 @@ pub mod Feeding
 pub mod Once
 pub mod Parts
 pub mod Apart
+pub mod Single

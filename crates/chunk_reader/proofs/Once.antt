@@ -1,10 +1,10 @@
 -- Bytes read in one way
-use Rattle.std.proofs.Common.{◌≡◌, ℕ, ◌+◌, ◌<◌, ◌≤◌, List, ◌++◌, ◌∷◌, [], length, take, refl, sym, ap, ◌∙◌, subst, arith, append_assoc, length-append}
+use Rattle.std.proofs.Common.{◌≡◌, ℕ, List, ◌++◌, ◌∷◌, [], length, take, refl, sym, ap, ◌∙◌, subst, arith, append_assoc, length-append}
 use Rattle.std.proofs.lemmas.List.{append_cancel_left, take_at}
 use Rattle.std.specs.List.{concat}
 use Rattle.chunk_wire.specs.declared.message.Message.{Message}
 use Rattle.chunk_wire.specs.State.{State, fresh_state}
-use Rattle.chunk_wire.specs.Chunk.{chunk_size, header_size}
+use Rattle.chunk_wire.specs.Chunk.{chunk_size}
 use Rattle.chunk_reader.specs.Control.{next}
 use Rattle.chunk_reader.specs.Reads.{AreChunks, IsChunk, IsOpen, Reads, messages, state_after}
 use Rattle.chunk_reader.specs.Laws.{SameReading}

@@ -1,17 +1,17 @@
 -- The first bytes of what is read are read
-use Rattle.std.proofs.Common.{◌≡◌, ℕ, ◌+◌, ◌-◌, ◌<◌, ◌≤◌, ◌^◌, inl, inr, Bool, true, false, List, ◌++◌, ◌∷◌, [], length, take, drop, min, refl, sym, ap, ◌∙◌, subst, arith, append_assoc, append-nil, length-append, length-drop}
-use Rattle.std.proofs.lemmas.List.{length-take, take-append-drop, take-append-le, take_all}
+use Rattle.std.proofs.Common.{◌≡◌, ℕ, ◌+◌, ◌-◌, ◌<◌, ◌≤◌, inl, inr, List, ◌++◌, ◌∷◌, [], length, take, drop, refl, sym, ap, ◌∙◌, subst, arith, append_assoc, length-append}
+use Rattle.std.proofs.lemmas.List.{length-take, take-append-drop, take-append-le}
 use Rattle.std.proofs.lemmas.Bool.{cases_lt}
 use Rattle.std.specs.List.{concat}
 use Rattle.chunk_wire.specs.declared.message.Message.{Message}
 use Rattle.chunk_wire.specs.Layout.{basic_size, format_in, id_in}
-use Rattle.chunk_wire.specs.State.{State, fresh_state, part_bytes}
+use Rattle.chunk_wire.specs.State.{State, fresh_state}
 use Rattle.chunk_wire.specs.Chunk.{chunk_size, header_size, message_of}
 use Rattle.chunk_wire.proofs.Sizes.{basic_size_some}
 use Rattle.chunk_wire.proofs.Same.{basic_size_same, format_same, id_same, same_append, same_back, same_less}
 use Rattle.chunk_reader.specs.Control.{next}
 use Rattle.chunk_reader.specs.Laws.{ReadsPart}
-use Rattle.chunk_reader.specs.Reads.{Admits, AreChunks, IsChunk, IsOpen, Reads, ended, has_room, held_bytes, messages, part_limit, state_after}
+use Rattle.chunk_reader.specs.Reads.{Admits, AreChunks, IsChunk, IsOpen, Reads, ended, messages, state_after}
 use Rattle.chunk_reader.proofs.Reading.{held_short}
 use Rattle.chunk_reader.proofs.Running.{grown}
 use Rattle.chunk_reader.proofs.Stopping.{held_more, size_more, take_past}

@@ -1,12 +1,12 @@
 -- The slot of a chunk in progress
-use Rattle.std.proofs.Common.{◌≡◌, ℕ, ◌+◌, ◌<◌, ◌≤◌, Bool, cond, List, ◌++◌, ◌∷◌, [], length, get_or, set, Option, Some, None, refl, sym, ap, ◌∙◌, arith, length-append, get_or-set_same}
+use Rattle.std.proofs.Common.{◌≡◌, ℕ, Bool, cond, List, ◌++◌, ◌∷◌, [], length, set, Option, Some, None, refl, ap, ◌∙◌, arith, length-append, get_or-set_same}
 use Rattle.std.proofs.Math.Seq.{get_or-append_seam}
 use Rattle.std.proofs.lemmas.Grind.{common_steps}
 use Rattle.std.proofs.Common.{nat_lt, zero, suc}
 use Rattle.chunk_wire.specs.declared.kept.Kept.{Kept}
 use Rattle.chunk_wire.specs.declared.kept.Terms.{Terms}
 use Rattle.chunk_wire.specs.Layout.{id_in, format_in}
-use Rattle.chunk_wire.specs.State.{State, at_place, place_of, put, put_at}
+use Rattle.chunk_wire.specs.State.{State, at_place, place_of, put_at}
 use Rattle.chunk_wire.specs.Chunk.{opened, with_part}
 use Rattle.chunk_reader.specs.Core.{IsPlaceOf}
 use Rattle.chunk_reader.specs.Steps.{IsPutAt}

@@ -1,17 +1,16 @@
 -- More bytes are read
-use Rattle.std.proofs.Common.{◌≡◌, ℕ, ◌+◌, ◌-◌, ◌<◌, ◌≤◌, ◌^◌, Bool, true, false, nat_le, cond, List, ◌++◌, ◌∷◌, [], length, Option, Some, None, refl, sym, ap, ◌∙◌, subst, arith, append_assoc, append-nil, length-append}
+use Rattle.std.proofs.Common.{◌≡◌, ℕ, ◌+◌, ◌-◌, ◌<◌, ◌≤◌, ◌^◌, true, false, nat_le, List, ◌++◌, ◌∷◌, [], length, refl, sym, ap, ◌∙◌, subst, arith, append_assoc, append-nil, length-append}
 use Rattle.std.specs.List.{concat}
 use Rattle.std.proofs.lemmas.List.Folds.{concat-append}
 use Rattle.std.proofs.lemmas.Bool.{le-leb}
 use Rattle.std.proofs.lemmas.Bool.Decides.{nat_tests}
 use Rattle.chunk_wire.specs.declared.message.Message.{Message}
-use Rattle.chunk_wire.specs.Layout.{basic_size}
 use Rattle.chunk_wire.specs.State.{State, fresh_state, part_bytes, put}
-use Rattle.chunk_wire.specs.Chunk.{chunk_size, header_size, message_of, opened}
+use Rattle.chunk_wire.specs.Chunk.{header_size, message_of, opened}
 use Rattle.chunk_wire.proofs.Sizes.{basic_size_some}
 use Rattle.chunk_wire.proofs.Same.{basic_in_header}
 use Rattle.chunk_reader.specs.Control.{next}
-use Rattle.chunk_reader.specs.Reads.{Admits, AreChunks, IsChunk, IsOpen, Reads, ended, held_bytes, messages, part_limit, state_after}
+use Rattle.chunk_reader.specs.Reads.{AreChunks, IsChunk, IsOpen, Reads, ended, held_bytes, messages, part_limit, state_after}
 
 pub held_short : (s : State) (r : List ℕ) → length r < header_size s r → held_bytes s r ≡ part_bytes s.kept
 unfolding held_bytes

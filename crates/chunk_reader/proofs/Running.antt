@@ -1,21 +1,20 @@
 -- What the steps of the reader read
-use Rattle.std.proofs.Common.{◌≡◌, ℕ, ◌+◌, ◌-◌, ◌<◌, ◌≤◌, ◌^◌, ◌⊎◌, inl, inr, min, Bool, true, false, nat_le, nat_lt, nat_eq, cond, ◌&&◌, ◌||◌, List, ◌++◌, ◌∷◌, [], length, drop, get_or, set, Option, Some, None, is_some, refl, sym, ap, ◌∙◌, subst, arith, append_assoc, append-nil, length-append, length-drop}
+use Rattle.std.proofs.Common.{◌≡◌, ℕ, ◌+◌, ◌<◌, ◌≤◌, ◌^◌, ◌⊎◌, inl, inr, Bool, true, false, nat_lt, cond, ◌&&◌, ◌||◌, List, ◌++◌, ◌∷◌, [], length, drop, set, Option, None, is_some, refl, sym, ap, ◌∙◌, subst, arith, append_assoc, append-nil, length-append, length-drop}
 use Rattle.std.proofs.lemmas.List.{drop-append-le, get_or-set_same, set-set}
 use Rattle.std.proofs.Math.ListN.{length-set}
 use Rattle.std.proofs.lemmas.Bool.{cases_lt}
 use Rattle.std.proofs.lemmas.Bool.Decides.{nat_tests}
 use Rattle.chunk_wire.specs.declared.message.Message.{Message}
 use Rattle.chunk_wire.specs.declared.kept.Kept.{Kept}
-use Rattle.chunk_wire.specs.declared.kept.Terms.{Terms}
-use Rattle.chunk_wire.specs.Layout.{basic_size, format_in, id_in}
+use Rattle.chunk_wire.specs.Layout.{format_in}
 use Rattle.chunk_wire.specs.State.{State, part_bytes, put, fresh_kept}
-use Rattle.chunk_wire.specs.Chunk.{Chunk, after_chunk, chunk_size, filled, header_size, is_done, is_known, may_begin, message_of, opened, payload_size, with_part}
-use Rattle.chunk_wire.proofs.Same.{basic_in_header, Same, HeaderSame, header_same, same_append, same_back}
+use Rattle.chunk_wire.specs.Chunk.{after_chunk, chunk_size, filled, header_size, is_done, is_known, message_of, opened, with_part}
+use Rattle.chunk_wire.proofs.Same.{basic_in_header, HeaderSame, header_same, same_append, same_back}
 use Rattle.chunk_reader.specs.declared.fields.Core.{Core}
 use Rattle.chunk_reader.specs.Control.{bad_size, controlled, next}
 use Rattle.chunk_reader.specs.Reads.{Admits, IsChunk, IsOpen, Reads, ended, has_room, held_bytes, part_limit}
 use Rattle.chunk_reader.specs.Core.{AtHead, InPayload, IsPlaceOf, IsStanding, the_state}
-use Rattle.chunk_reader.specs.Steps.{HeadGrows, HeadOpens, HeadTaken, IsFed, IsFinished, IsOpened, IsPassed, IsShort, Keeps, PayloadTaken, ended_state, slot_at, slot_done, slot_message}
+use Rattle.chunk_reader.specs.Steps.{HeadGrows, HeadOpens, HeadTaken, IsFed, IsFinished, IsOpened, IsPassed, PayloadTaken, ended_state, slot_at, slot_message}
 use Rattle.chunk_reader.proofs.Reading.{chunk_more, header_some, held_short, held_whole, open_empty, open_more}
 
 -- a header that is whole says the same with more bytes after it

@@ -1,22 +1,19 @@
 -- What a reader's fields keep true
-use Rattle.std.proofs.Common.{◌≡◌, ℕ, ◌+◌, ◌-◌, ◌<◌, ◌≤◌, ◌^◌, ◌⊎◌, inl, inr, Bool, true, false, List, ◌++◌, ◌∷◌, [], length, take, drop, Option, Some, None, is_some, refl, sym, ap, ◌∙◌, subst, arith, append_assoc, append-nil, length-append}
+use Rattle.std.proofs.Common.{◌≡◌, ℕ, ◌+◌, ◌<◌, ◌≤◌, ◌^◌, inl, false, List, ◌++◌, [], length, take, Option, Some, None, is_some, refl, sym, ap, ◌∙◌, subst, arith, length-append}
 use Rattle.std.proofs.lemmas.List.{length-take}
 use Rattle.chunk_wire.specs.declared.message.Message.{Message}
 use Rattle.chunk_wire.specs.State.{State, fresh_state, part_bytes}
 use Rattle.chunk_reader.specs.declared.fields.Core.{Core}
 use Rattle.chunk_reader.specs.declared.fail.ReadFail.{ReadFail}
 use Rattle.chunk_reader.specs.declared.fail.ReadCause.{ReadCause}
-use Rattle.chunk_reader.specs.declared.fail.ReadCause.TheVariants.{OutOfMemory}
 use Rattle.chunk_reader.specs.Known.{Known}
-use Rattle.chunk_reader.specs.Reads.{Reads, ended, held_bytes}
-use Rattle.chunk_reader.specs.Stops.{Stops}
-use Rattle.chunk_reader.specs.Core.{AtHead, IsStanding, the_state}
+use Rattle.chunk_reader.specs.Reads.{Reads, ended}
+use Rattle.chunk_reader.specs.Core.{IsStanding, the_state}
 use Rattle.chunk_reader.specs.Sound.{IsRead, IsSound}
 use Rattle.chunk_reader.specs.Feeds.{IsRefused, IsTakenTo}
 use Rattle.chunk_reader.specs.Steps.{IsTaken, TakeFails}
 use Rattle.chunk_reader.proofs.Reading.{header_some, held_short, reads_nothing}
-use Rattle.chunk_reader.proofs.Running.{Stood}
-use Rattle.chunk_reader.proofs.Stopping.{Halts, halts_stops, take_halts, taken_stands}
+use Rattle.chunk_reader.proofs.Stopping.{halts_stops, take_halts, taken_stands}
 
 pub sound_new : (core : Core) (fed : List ℕ) (given : List (ℕ × Message)) → core.size ≡ 128 → core.slots.items ≡ [] → core.head.items ≡ [] → core.need ≡ 0 → core.held ≡ 0 → fed ≡ [] → given ≡ [] → IsSound core 0 None fed given
 sound_new core fed given size slots head need held f g =

@@ -1,5 +1,5 @@
 -- What the steps of the reader refuse is refused by the definition
-use Rattle.std.proofs.Common.{suc, zero, ◌≡◌, ℕ, ◌+◌, ◌-◌, ◌<◌, ◌≤◌, ◌^◌, ◌⊎◌, inl, inr, Bool, true, false, nat_lt, ◌&&◌, ◌||◌, List, ◌++◌, ◌∷◌, [], length, take, drop, slice_index, get_or, Option, Some, None, is_some, refl, sym, ap, ◌∙◌, subst, arith, append_assoc, append-nil, length-append}
+use Rattle.std.proofs.Common.{suc, ◌≡◌, ℕ, ◌+◌, ◌<◌, ◌≤◌, ◌^◌, ◌⊎◌, inl, inr, Bool, true, false, nat_lt, ◌&&◌, ◌||◌, List, ◌++◌, ◌∷◌, [], length, take, slice_index, Option, Some, refl, sym, ap, ◌∙◌, subst, arith, append_assoc, append-nil, length-append}
 use Rattle.std.proofs.lemmas.List.{take_more, length-take, get_or-append-add}
 use Rattle.std.proofs.lemmas.Bool.{cases_lt}
 use Rattle.std.proofs.lemmas.Bool.Decides.{nat_tests}
@@ -9,7 +9,7 @@ use Rattle.chunk_wire.specs.Layout.{basic_size, format_in, id_in}
 use Rattle.chunk_wire.specs.State.{State, part_bytes, put}
 use Rattle.chunk_wire.specs.Chunk.{chunk_size, header_size, is_known, message_of, opened}
 use Rattle.chunk_wire.proofs.Sizes.{basic_size_some}
-use Rattle.chunk_wire.proofs.Same.{Same, basic_in_header, size_parts, basic_size_same, format_same, id_same, same_append, same_less}
+use Rattle.chunk_wire.proofs.Same.{basic_in_header, basic_size_same, format_same, id_same, same_append, same_less}
 use Rattle.chunk_reader.specs.declared.fields.Core.{Core}
 use Rattle.chunk_reader.specs.declared.fail.ReadCause.{ReadCause}
 use Rattle.chunk_reader.specs.declared.fail.ReadCause.TheVariants.{NoHead, TooManyIds, TooLong, TooMuch, BadChunkSize, OutOfMemory, TooFar}
@@ -17,8 +17,8 @@ use Rattle.chunk_reader.specs.Control.{bad_size}
 use Rattle.chunk_reader.specs.Reads.{Admits, IsChunk, IsOpen, Reads, has_room, held_bytes, part_limit}
 use Rattle.chunk_reader.specs.Stops.{Refuses, Stops}
 use Rattle.chunk_reader.specs.Core.{AtHead, InPayload, IsStanding, the_state}
-use Rattle.chunk_reader.specs.Steps.{HeadFails, HeadGrows, HeadOpens, HeadTaken, IsFed, IsOpened, IsPassed, IsTaken, PayloadFails, PayloadTaken, StepFails, TakeFails, slot_at, slot_message}
-use Rattle.chunk_reader.proofs.Reading.{held_short, held_whole, open_more}
+use Rattle.chunk_reader.specs.Steps.{HeadFails, HeadGrows, HeadOpens, IsPassed, IsTaken, PayloadFails, StepFails, TakeFails, slot_at, slot_message}
+use Rattle.chunk_reader.proofs.Reading.{held_whole, open_more}
 use Rattle.chunk_reader.proofs.Running.{Running, Stood, head_stands, payload_stands, admits_running, fed_runs, grown, grows_open, last_byte, message_is, opens_run, running_chunk, running_open, slot_is}
 
 -- the bytes up to a refusal are read, and the byte after them is refused

@@ -1,8 +1,8 @@
 -- How the reader's fields stand for the state and the bytes of the chunk in progress
-use Rattle.std.specs.Prelude.{◌≡◌, ℕ, ◌+◌, ◌<◌, ◌≤◌, ◌⊎◌, List, length, Option, Some, None, get_or, set}
+use Rattle.std.specs.Prelude.{◌≡◌, ℕ, ◌+◌, ◌<◌, ◌≤◌, ◌⊎◌, List, length, get_or, set}
 use Rattle.chunk_wire.specs.declared.kept.Kept.{Kept}
 use Rattle.chunk_wire.specs.declared.message.Message.{Message}
-use Rattle.chunk_wire.specs.State.{State, put, part_bytes, fresh_kept}
+use Rattle.chunk_wire.specs.State.{State, put, part_bytes}
 use Rattle.chunk_wire.specs.Chunk.{chunk_size, header_size, opened, filled, with_part}
 use Rattle.chunk_reader.specs.Reads.{Reads, held_bytes}
 use Rattle.chunk_reader.specs.declared.fields.Core.{Core}

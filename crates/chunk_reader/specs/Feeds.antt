@@ -1,8 +1,7 @@
 -- What a feed answers and leaves
-use Rattle.std.specs.Prelude.{◌≡◌, ◌⊎◌, ◌+◌, ◌<◌, ◌≤◌, ℕ, List, [], ◌++◌, length, take, Option, Some, None, is_some, true, false}
+use Rattle.std.specs.Prelude.{◌≡◌, ◌⊎◌, ◌<◌, ◌≤◌, ℕ, List, [], ◌++◌, length, take, Option, Some, None, is_some, true, false}
 use Rattle.chunk_wire.specs.declared.message.Message.{Message}
 use Rattle.chunk_wire.specs.State.{State}
-use Rattle.chunk_wire.specs.Chunk.{header_size}
 use Rattle.chunk_reader.specs.declared.fail.ReadFail.{ReadFail}
 use Rattle.chunk_reader.specs.declared.fail.ReadCause.TheVariants.{OutOfMemory}
 use Rattle.chunk_reader.specs.Reads.{Reads, ended, held_bytes}

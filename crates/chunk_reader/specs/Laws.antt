@@ -2,6 +2,7 @@
 use Rattle.std.specs.Prelude.{◌≡◌, ℕ, List, ◌++◌, take}
 use Rattle.chunk_wire.specs.declared.message.Message.{Message}
 use Rattle.chunk_wire.specs.State.{State}
+use Rattle.chunk_reader.specs.declared.fail.ReadCause.{ReadCause}
 use Rattle.chunk_reader.specs.Reads.{Reads}
 
 -- two readings give the same messages and leave the same state and the same rest
@@ -18,3 +19,8 @@ pub record ReadsPart (max : ℕ) (b : List ℕ) (n : ℕ) (ms : List (ℕ × Mes
   pub r : List ℕ
   pub reads : Reads max (take n b) first s r
   pub begins : ms ≡ first ++ later
+
+-- two refusals have the same cause and place
+pub record SameStop (c d : ReadCause) (p q : ℕ) : Type 0 where
+  pub cause_same : c ≡ d
+  pub place_same : p ≡ q

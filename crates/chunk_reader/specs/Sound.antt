@@ -1,5 +1,5 @@
 -- What a reader keeps true of its fields
-use Rattle.std.specs.Prelude.{◌≡◌, ℕ, List, Option, Some, None, length, is_some, true, false}
+use Rattle.std.specs.Prelude.{◌≡◌, ℕ, List, Option, length, is_some, true, false}
 use Rattle.chunk_wire.specs.declared.message.Message.{Message}
 use Rattle.chunk_wire.specs.State.{State}
 use Rattle.chunk_reader.specs.declared.fields.Core.{Core}

@@ -1,14 +1,14 @@
 -- What the steps of the reader leave, by its fields
-use Rattle.std.specs.Prelude.{◌≡◌, ℕ, ◌+◌, ◌-◌, ◌^◌, ◌<◌, ◌≤◌, ◌⊎◌, nat_eq, nat_lt, if◌then◌else◌, Bool, true, false, List, [], ◌∷◌, ◌++◌, is_some, IfSome, length, take, Option, Some, None, Result, Ok, Err, get_or, set}
+use Rattle.std.specs.Prelude.{◌≡◌, ℕ, ◌+◌, ◌^◌, ◌<◌, ◌≤◌, ◌⊎◌, nat_eq, nat_lt, if◌then◌else◌, Bool, true, false, List, [], ◌++◌, is_some, IfSome, length, take, Option, Some, None, get_or, set}
 use Rattle.chunk_wire.specs.declared.kept.Kept.{Kept}
 use Rattle.chunk_wire.specs.declared.headers.Basic.{Basic}
 use Rattle.chunk_wire.specs.declared.message.Message.{Message}
 use Rattle.chunk_wire.specs.Layout.{basic_size, format_in, id_in}
-use Rattle.chunk_wire.specs.State.{State, put, part_bytes, place_of, kept_of, fresh_kept}
-use Rattle.chunk_wire.specs.Chunk.{chunk_size, header_size, opened, filled, with_part, is_known, payload_size, message_of}
-use Rattle.chunk_reader.specs.Control.{controlled, bad_size, next}
+use Rattle.chunk_wire.specs.State.{State, part_bytes, place_of, fresh_kept}
+use Rattle.chunk_wire.specs.Chunk.{header_size, opened, with_part, is_known, payload_size}
+use Rattle.chunk_reader.specs.Control.{controlled, bad_size}
 use Rattle.chunk_reader.specs.Reads.{has_room, part_limit}
-use Rattle.chunk_reader.specs.Core.{the_state, IsPlaceOf, AtHead, InPayload}
+use Rattle.chunk_reader.specs.Core.{the_state, IsPlaceOf}
 use Rattle.chunk_reader.specs.declared.fields.Core.{Core}
 use Rattle.chunk_reader.specs.declared.header.Opening.{Opening}
 use Rattle.chunk_reader.specs.declared.fail.ReadCause.{ReadCause}

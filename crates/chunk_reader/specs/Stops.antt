@@ -1,5 +1,5 @@
 -- Where bytes are refused: the first `at` of them are read, and the byte after them decides the cause
-use Rattle.std.specs.Prelude.{◌≡◌, ℕ, ◌+◌, ◌^◌, ◌<◌, ◌≤◌, nat_lt, Bool, true, false, List, [], ◌∷◌, ◌++◌, length, take, slice_index, Option, Some, None}
+use Rattle.std.specs.Prelude.{◌≡◌, ℕ, ◌^◌, ◌<◌, ◌≤◌, true, false, List, [], ◌∷◌, ◌++◌, length, take, slice_index, Some, None}
 use Rattle.chunk_wire.specs.declared.message.Message.{Message}
 use Rattle.chunk_wire.specs.Layout.{basic_size, format_in, id_in}
 use Rattle.chunk_wire.specs.State.{State}

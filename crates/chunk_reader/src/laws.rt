@@ -1,7 +1,7 @@
 ghost use Rattle.std.specs.Prelude.{ℕ, ◌+◌, List, ◌++◌, take};
 ghost use Rattle.chunk_wire.specs.declared.message.Message.{Message};
 ghost use Rattle.chunk_wire.specs.State.{State};
-ghost use Rattle.chunk_reader.specs.Laws.{ReadsPart, SameReading};
+ghost use Rattle.chunk_reader.specs.Laws.{ReadsPart, SameReading, SameStop};
 ghost use Rattle.chunk_reader.specs.Reads.{Reads};
 ghost use Rattle.chunk_reader.specs.Stops.{Stops};
 ghost use Rattle.chunk_reader.specs.declared.fail.ReadCause.{ReadCause};
@@ -19,4 +19,9 @@ pub fn beginnings_are_read()
 /// Where a byte is refused, no list that begins with the bytes up to it and with it is read.
 pub fn refused_bytes_are_not_read()
     ensures { (max : ℕ) (b more : List ℕ) (cause : ReadCause) (place : ℕ) (ms : List (ℕ × Message)) (s : State) (r : List ℕ) → Stops max b cause place → Reads max (take (place + 1) b ++ more) ms s r → ⊥ }
+{}
+
+/// A list of bytes is refused at one place and for one cause.
+pub fn one_refusal()
+    ensures { (max : ℕ) (b : List ℕ) (c d : ReadCause) (p q : ℕ) → Stops max b c p → Stops max b d q → SameStop c d p q }
 {}

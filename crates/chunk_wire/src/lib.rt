@@ -16,3 +16,6 @@ pub use laws::{heads_are_read_back, ids_are_written_shortest};
 pub use message::Message;
 pub use read::{read_basic, read_head};
 pub use write::write_head;
+
+#[cfg(test)]
+mod tests;

@@ -1,6 +1,7 @@
 //! Measurements. Each word names one that is run; without words nothing is done.
 #![tactic(auto)]
 
+mod chunks;
 mod gate;
 
 use std::{env, io};
@@ -9,6 +10,9 @@ fn main(rt: HostRuntime) -> io::Result<()> {
     for word in env::args(&rt)?.skip(1) {
         if word.as_str() == "gate" {
             gate::measure(&rt, rt.alloc())?;
+        }
+        if word.as_str() == "chunks" {
+            chunks::measure(&rt, rt.alloc())?;
         }
     }
     Ok(())

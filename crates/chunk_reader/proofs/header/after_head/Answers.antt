@@ -1,7 +1,6 @@
-use Rattle.std.proofs.Common.{◌≡◌, ◌∙◌, ap, nat_lt, arith}
+use Rattle.std.proofs.Common.{◌∙◌, ap, nat_lt, arith}
 use Rattle.chunk_wire.specs.declared.headers.Basic.{Basic}
 use Rattle.chunk_wire.specs.declared.kept.Terms.{Terms}
-use Rattle.chunk_wire.specs.Chunk.{opened}
 use Rattle.chunk_reader.specs.Core.{the_state}
 use Rattle.chunk_reader.proofs.Headers.{short_whole, whole_is, opened_terms}
 use Rattle.chunk_reader.proofs.header.after_head.Goals as goal

@@ -1,6 +1,5 @@
-use Rattle.std.proofs.Common.{◌≡◌, ◌∙◌, ◌-◌, min, length, ap, refl, sym}
+use Rattle.std.proofs.Common.{◌∙◌, ◌-◌, min, length, ap, refl}
 use Rattle.chunk_wire.specs.declared.kept.Kept.{Kept}
-use Rattle.chunk_wire.specs.Chunk.{opened}
 use Rattle.chunk_reader.specs.Core.{the_state}
 use Rattle.chunk_reader.proofs.Places.{put_place, opened_is}
 use Rattle.chunk_reader.proofs.open.open.Goals as goal

@@ -1,4 +1,3 @@
-use Rattle.std.proofs.Common.{◌≡◌, ◌++◌, ◌∷◌, [], IfOk, IfErr}
 use Rattle.chunk_reader.specs.Core.{the_state}
 use Rattle.chunk_reader.proofs.Heads.{opens_ok, opens_err}
 use Rattle.chunk_reader.proofs.take.head_byte.Goals as goal

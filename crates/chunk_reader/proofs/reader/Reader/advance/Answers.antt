@@ -1,4 +1,4 @@
-use Rattle.std.proofs.Common.{◌≡◌, ◌∙◌, ◌++◌, ap, take, rules, arith}
+use Rattle.std.proofs.Common.{◌≡◌, ◌∙◌, ◌++◌, ap, take, arith}
 use Rattle.std.proofs.lemmas.Grind.{common_steps}
 use Rattle.chunk_reader.specs.Known.{Known}
 use Rattle.chunk_reader.proofs.Sounds.{advance_err, advance_ok}

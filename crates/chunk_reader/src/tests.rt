@@ -1,0 +1,313 @@
+use super::*;
+use chunk_wire::Message;
+use std::alloc::{AllocError, Global};
+use std::test::Fail;
+
+// A video message of 200 bytes on id 6 at 40 ms, a Set Chunk Size of 4,096, and an Abort of id 6.
+const VIDEO: &[u8; 12] = b"\x06\x00\x00\x28\x00\x00\xc8\x09\x01\x00\x00\x00";
+
+const SIZE: &[u8; 16] = b"\x02\x00\x00\x00\x00\x00\x04\x01\x00\x00\x00\x00\x00\x00\x10\x00";
+
+const ABORT: &[u8; 16] = b"\x02\x00\x00\x00\x00\x00\x04\x02\x00\x00\x00\x00\x00\x00\x00\x06";
+
+// Appends a header and so many bytes of payload.
+fn add(bytes: &mut Vec<u8>, head: &[u8], payload: usize) -> Result<(), AllocError> {
+    bytes.extend_from_slice(head)?;
+    for _ in 0..payload {
+        bytes.push(0x5A)?;
+    }
+    Ok(())
+}
+
+fn chunk(alloc: Global, head: &[u8], payload: usize) -> Result<Vec<u8>, AllocError> {
+    let mut bytes = Vec::new(alloc);
+    add(&mut bytes, head, payload)?;
+    Ok(bytes)
+}
+
+// What one call answers to a piece, and how many bytes it used.
+fn answer(reader: &mut Reader, alloc: Global, piece: &[u8]) -> Result<(String, usize), AllocError> {
+    match reader.feed(alloc, piece) {
+        Err(ReadFail { cause, at }) => {
+            Ok((format!(in alloc; "{cause:?} at {at}, ")?, piece.len()))
+        }
+        Ok(
+            Fed {
+                used,
+                message: None,
+            },
+        ) => Ok((String::new(alloc), used)),
+        Ok(
+            Fed {
+                used,
+                message: Some(
+                    Message {
+                        kind,
+                        stream,
+                        time,
+                        body,
+                    },
+                ),
+            },
+        ) => {
+            let length = body.len();
+            Ok((
+                format!(in alloc; "{kind} {stream} {time} {length}, ")?,
+                used,
+            ))
+        }
+    }
+}
+
+// Feeds a piece to its end, and tells each message, or the refusal.
+fn feed_all(
+    reader: &mut Reader,
+    alloc: Global,
+    piece: &[u8],
+    text: &mut String,
+) -> Result<(), AllocError> {
+    let mut rest = piece;
+    for _ in 0..piece.len() {
+        let (more, used) = answer(reader, alloc, rest)?;
+        text.push_str(more.as_str())?;
+        if used >= rest.len() {
+            break;
+        }
+        rest = &rest[used..];
+    }
+    Ok(())
+}
+
+// What a reader of messages up to 4,096 bytes gives of these pieces: type, message stream, time and length of each
+// message, or the refusal, and then the bytes that it holds.
+fn given(alloc: Global, pieces: &[&[u8]]) -> Result<String, AllocError> {
+    let mut reader = Reader::new(alloc, 4096);
+    let mut text = String::new(alloc);
+    for piece in pieces {
+        feed_all(&mut reader, alloc, piece, &mut text)?;
+    }
+    let held = reader.held();
+    let end = format!(in alloc; "held {held}")?;
+    text.push_str(end.as_str())?;
+    Ok(text)
+}
+
+#[test]
+fn extended_time_is_read_in_any_cutting(rt: HostRuntime) -> Result<(), Fail> {
+    let alloc = rt.alloc();
+    let first = b"\x04\xff\xff\xff\x00\x00\xc8\x08\x01\x00\x00\x00\x01\x00\x00\x00";
+    let mut bytes = chunk(alloc, first, 128)?;
+    add(&mut bytes, b"\xc4\x01\x00\x00\x00", 72)?;
+    for cut in 0..bytes.len() {
+        let (early, late) = bytes.as_slice().split_at(cut);
+        let text = given(alloc, &[early, late])?;
+        assert_eq!(rt; text.as_str(), "8 1 16777216 200, held 0");
+    }
+    Ok(())
+}
+
+#[test]
+fn a_fresh_id_wants_a_header(rt: HostRuntime) -> Result<(), Fail> {
+    let text = given(rt.alloc(), &[b"\xc4", b"\x04"])?;
+    assert_eq!(rt;
+        text.as_str(),
+        "NoHead { id: 4 } at 0, NoHead { id: 4 } at 0, held 0"
+    );
+    let text = given(rt.alloc(), &[b"\x81\xff\xff"])?;
+    assert_eq!(rt; text.as_str(), "NoHead { id: 65599 } at 2, held 0");
+    Ok(())
+}
+
+#[test]
+fn lengths_and_chunk_sizes_have_bounds(rt: HostRuntime) -> Result<(), Fail> {
+    let alloc = rt.alloc();
+    let text = given(
+        alloc,
+        &[b"\x03\x00\x00\x00\x00\x10\x01\x08\x00\x00\x00\x00"],
+    )?;
+    assert_eq!(rt; text.as_str(), "TooLong { length: 4097 } at 11, held 0");
+    let text = given(
+        alloc,
+        &[b"\x02\x00\x00\x00\x00\x00\x04\x01\x00\x00\x00\x00\x80\x00\x00\x80"],
+    )?;
+    assert_eq!(rt;
+        text.as_str(),
+        "BadChunkSize { value: 2147483776 } at 15, held 0"
+    );
+    Ok(())
+}
+
+#[test]
+fn sixty_four_ids_are_kept(rt: HostRuntime) -> Result<(), Fail> {
+    let alloc = rt.alloc();
+    let mut bytes = Vec::new(alloc);
+    for id in 0..64u8 {
+        bytes.extend_from_slice(&[0x40, id])?;
+        add(&mut bytes, b"\x00\x00\x00\x00\x00\x81\x08", 128)?;
+    }
+    let text = given(alloc, &[bytes.as_slice()])?;
+    assert_eq!(rt; text.as_str(), "held 8192");
+    let text = given(alloc, &[bytes.as_slice(), b"\x00\x40"])?;
+    assert_eq!(rt; text.as_str(), "TooManyIds at 8769, held 0");
+    Ok(())
+}
+
+#[test]
+fn parts_have_a_bound_together(rt: HostRuntime) -> Result<(), Fail> {
+    let alloc = rt.alloc();
+    let size = b"\x02\x00\x00\x00\x00\x00\x04\x01\x00\x00\x00\x00\x00\x00\x0f\xff";
+    let mut bytes = chunk(alloc, size, 0)?;
+    for id in 3..20u8 {
+        bytes.extend_from_slice(&[id])?;
+        add(
+            &mut bytes,
+            b"\x00\x00\x00\x00\x10\x00\x09\x00\x00\x00\x00",
+            4095,
+        )?;
+    }
+    let text = given(alloc, &[bytes.as_slice()])?;
+    assert_eq!(rt; text.as_str(), "1 0 0 4, held 69615");
+    add(
+        &mut bytes,
+        b"\x14\x00\x00\x00\x00\x10\x00\x09\x00\x00\x00\x00",
+        18,
+    )?;
+    let text = given(alloc, &[bytes.as_slice()])?;
+    assert_eq!(rt; text.as_str(), "1 0 0 4, TooMuch at 69864, held 0");
+    Ok(())
+}
+
+#[test]
+fn a_chunk_size_applies_from_the_end_of_its_message(rt: HostRuntime) -> Result<(), Fail> {
+    let alloc = rt.alloc();
+    let video = chunk(alloc, VIDEO, 128)?;
+    let rest = chunk(alloc, b"\xc6", 72)?;
+    for cut in 0..16 {
+        let (early, late) = SIZE.as_slice().split_at(cut);
+        let text = given(alloc, &[video.as_slice(), early, late, rest.as_slice()])?;
+        assert_eq!(rt; text.as_str(), "1 0 0 4, 9 1 40 200, held 0");
+    }
+    Ok(())
+}
+
+#[test]
+fn an_abort_drops_the_part_and_keeps_the_header(rt: HostRuntime) -> Result<(), Fail> {
+    let alloc = rt.alloc();
+    let video = chunk(alloc, VIDEO, 128)?;
+    let again = chunk(alloc, b"\xc6", 128)?;
+    let rest = chunk(alloc, b"\xc6", 72)?;
+    let text = given(alloc, &[video.as_slice(), ABORT.as_slice()])?;
+    assert_eq!(rt; text.as_str(), "2 0 0 4, held 0");
+    for cut in 0..16 {
+        let (early, late) = ABORT.as_slice().split_at(cut);
+        let text = given(
+            alloc,
+            &[
+                video.as_slice(),
+                early,
+                late,
+                again.as_slice(),
+                rest.as_slice(),
+            ],
+        )?;
+        assert_eq!(rt; text.as_str(), "2 0 0 4, 9 1 80 200, held 0");
+    }
+    Ok(())
+}
+
+// A ping answer in format 1 on a fresh id, and audio of each length around the chunk size.
+#[test]
+fn lengths_around_the_chunk_size_are_read(rt: HostRuntime) -> Result<(), Fail> {
+    let alloc = rt.alloc();
+    let ping = b"\x42\x00\x00\x00\x00\x00\x06\x04\x00\x07\x00\x00\x00\x05";
+    let mut bytes = chunk(alloc, ping, 0)?;
+    add(
+        &mut bytes,
+        b"\x04\x00\x00\x0a\x00\x00\x00\x08\x01\x00\x00\x00",
+        0,
+    )?;
+    add(&mut bytes, b"\x44\x00\x00\x05\x00\x00\x7f\x08", 127)?;
+    add(&mut bytes, b"\x44\x00\x00\x05\x00\x00\x80\x08", 128)?;
+    add(&mut bytes, b"\x44\x00\x00\x05\x00\x00\x81\x08", 128)?;
+    add(&mut bytes, b"\xc4", 1)?;
+    let text = given(alloc, &[bytes.as_slice()])?;
+    assert_eq!(rt;
+        text.as_str(),
+        "4 0 0 6, 8 1 10 0, 8 1 15 127, 8 1 20 128, 8 1 25 129, held 0"
+    );
+    Ok(())
+}
+
+// Format 2, a message begun by format 3, and an extended delta that format 3 repeats.
+#[test]
+fn short_headers_go_on_from_the_last(rt: HostRuntime) -> Result<(), Fail> {
+    let alloc = rt.alloc();
+    let mut bytes = chunk(
+        alloc,
+        b"\x04\x00\x00\x0a\x00\x00\x02\x08\x01\x00\x00\x00",
+        2,
+    )?;
+    add(&mut bytes, b"\x84\x00\x00\x07", 2)?;
+    add(&mut bytes, b"\xc4", 2)?;
+    add(
+        &mut bytes,
+        b"\x44\xff\xff\xff\x00\x00\x82\x09\x01\x00\x00\x00",
+        128,
+    )?;
+    add(&mut bytes, b"\xc4\x01\x00\x00\x00", 2)?;
+    let text = given(alloc, &[bytes.as_slice()])?;
+    assert_eq!(rt;
+        text.as_str(),
+        "8 1 10 2, 8 1 17 2, 8 1 24 2, 9 1 16777240 130, held 0"
+    );
+    Ok(())
+}
+
+// All that ffmpeg 5.1.9 sends after its handshake to play a stream, up to its deleteStream.
+#[test]
+fn what_ffmpeg_sends_to_play_is_read(rt: HostRuntime) -> Result<(), Fail> {
+    let alloc = rt.alloc();
+    let mut bytes = Vec::from_slice(
+        alloc,
+        b"\x03\x00\x00\x00\x00\x00\xc5\x14\x00\x00\x00\x00\x02\x00\x07connect\x00?\xf0\x00\x00\x00\x00\x00\x00\x03\x00\x03app\x02\x00\x04live\x00\x08flashVer\x02\x00\x0dLNX 9,0,124,2\x00\x05tcUrl\x02\x00\x1brtmp://127.0.0.1:19510/live\x00\x04fpad\x01\x00\x00\x0ccapabilities\x00@.\x00\x00\x00\x00\x00\x00\x00\x0b",
+    )?;
+    bytes.extend_from_slice(
+        b"\xc3audioCodecs\x00@\xaf\xce\x00\x00\x00\x00\x00\x00\x0bvideoCodecs\x00@o\x80\x00\x00\x00\x00\x00\x00\x0dvideoFunction\x00?\xf0\x00\x00\x00\x00\x00\x00\x00\x00\x09",
+    )?;
+    add(
+        &mut bytes,
+        b"\x02\x00\x00\x00\x00\x00\x04\x05\x00\x00\x00\x00\x00&%\xa0",
+        0,
+    )?;
+    add(
+        &mut bytes,
+        b"C\x00\x00\x00\x00\x00\x19\x14\x02\x00\x0ccreateStream\x00@\x00\x00\x00\x00\x00\x00\x00\x05",
+        0,
+    )?;
+    add(
+        &mut bytes,
+        b"\x08\x00\x00\x00\x00\x00#\x14\x00\x00\x00\x00\x02\x00\x0fgetStreamLength\x00@\x08\x00\x00\x00\x00\x00\x00\x05\x02\x00\x04long",
+        0,
+    )?;
+    add(
+        &mut bytes,
+        b"\x08\x00\x00\x00\x00\x00!\x14\x01\x00\x00\x00\x02\x00\x04play\x00@\x10\x00\x00\x00\x00\x00\x00\x05\x02\x00\x04long\x00\xc0\x9f@\x00\x00\x00\x00\x00",
+        0,
+    )?;
+    add(
+        &mut bytes,
+        b"B\x00\x00\x01\x00\x00\x0a\x04\x00\x03\x00\x00\x00\x01\x00\x00\x0b\xb8",
+        0,
+    )?;
+    add(
+        &mut bytes,
+        b"C\x00\x00\x00\x00\x00\x22\x14\x02\x00\x0cdeleteStream\x00@\x14\x00\x00\x00\x00\x00\x00\x05\x00?\xf0\x00\x00\x00\x00\x00\x00",
+        0,
+    )?;
+    let text = given(alloc, &[bytes.as_slice()])?;
+    assert_eq!(rt;
+        text.as_str(),
+        "20 0 0 197, 5 0 0 4, 20 0 0 25, 20 0 0 35, 20 1 0 33, 4 0 1 10, 20 0 0 34, held 0"
+    );
+    Ok(())
+}
