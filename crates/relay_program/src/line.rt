@@ -28,6 +28,11 @@ pub enum LineFail {
 }
 
 impl From<OutOfMemory> for LineFail {
+    ghost use Rattle.std.specs.Prelude.{◌≡◌};
+    ghost use Rattle.relay_program.specs.declared.line.LineFail.TheVariants.{OutOfMemory};
+
+    ghost from_gives = { λ _ e. e ≡ OutOfMemory };
+
     fn from(_: OutOfMemory) -> Self {
         LineFail::OutOfMemory
     }
