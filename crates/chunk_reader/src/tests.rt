@@ -265,6 +265,31 @@ fn short_headers_go_on_from_the_last(rt: HostRuntime) -> Result<(), Fail> {
 
 // All that ffmpeg 5.1.9 sends after its handshake to play a stream, up to its deleteStream.
 #[test]
+fn one_id_carries_all_types_and_the_chunk_size_goes_up_and_down(
+    rt: HostRuntime,
+) -> Result<(), Fail> {
+    let alloc = rt.alloc();
+    let command = b"\x04\x00\x00\x00\x00\x00\x01\x14\x00\x00\x00\x00";
+    let video = b"\x04\x00\x00\x28\x00\x00\xc8\x09\x01\x00\x00\x00";
+    let mut bytes = chunk(alloc, command, 1)?;
+    add(&mut bytes, video, 128)?;
+    add(&mut bytes, b"\xc4", 72)?;
+    add(&mut bytes, b"\x44\x00\x00\x05\x00\x00\x0a\x08", 10)?;
+    add(&mut bytes, SIZE, 0)?;
+    add(&mut bytes, b"\x44\x00\x00\x23\x00\x00\xc8\x09", 200)?;
+    let small = b"\x02\x00\x00\x00\x00\x00\x04\x01\x00\x00\x00\x00\x00\x00\x00\x80";
+    add(&mut bytes, small, 0)?;
+    add(&mut bytes, b"\x84\x00\x00\x28", 128)?;
+    add(&mut bytes, b"\xc4", 72)?;
+    let text = given(alloc, &[bytes.as_slice()])?;
+    assert_eq!(rt;
+        text.as_str(),
+        "20 0 0 1, 9 1 40 200, 8 1 45 10, 1 0 0 4, 9 1 80 200, 1 0 0 4, 9 1 120 200, held 0"
+    );
+    Ok(())
+}
+
+#[test]
 fn what_ffmpeg_sends_to_play_is_read(rt: HostRuntime) -> Result<(), Fail> {
     let alloc = rt.alloc();
     let mut bytes = Vec::from_slice(
