@@ -167,6 +167,19 @@ fn a_unit_is_what_follows_set_data_frame(rt: HostRuntime) -> Result<(), Fail> {
 }
 
 #[test]
+fn bytes_grow_at_their_end_and_are_cut_there(rt: HostRuntime) -> Result<(), Fail> {
+    let mut bytes = Bytes::new(rt.alloc());
+    bytes.reserve(6)?;
+    assert!(rt; bytes.is_empty());
+    bytes.append(b"\x01\x02\x03")?;
+    bytes.append(b"\x04\x05\x06")?;
+    bytes.truncate(9);
+    bytes.truncate(4);
+    assert_eq!(rt; bytes.as_slice(), b"\x01\x02\x03\x04".as_slice());
+    Ok(())
+}
+
+#[test]
 fn an_item_costs_its_body_and_64(rt: HostRuntime) -> Result<(), Fail> {
     let body = Bytes::from_vec(vec![in rt.alloc(); 0; 1_000]?);
     let unit = Unit {
