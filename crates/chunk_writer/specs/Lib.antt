@@ -1,0 +1,4 @@
+pub mod Rule
+pub mod Known
+pub mod Written
+pub mod Sound

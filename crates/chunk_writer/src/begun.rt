@@ -1,0 +1,10 @@
+use chunk_wire::Terms;
+
+/// How a message was begun: its chunk stream, the format of its first chunk, and what its header says, `terms.delta`
+/// being the time of the message in format 0 (5.3.1.2).
+#[derive(Clone, Copy, Debug, PartialEq, Eq)]
+pub struct Begun {
+    pub id: u32,
+    pub format: u8,
+    pub terms: Terms,
+}

@@ -1,0 +1,92 @@
+//! The bytes of a message that is begun.
+ghost use Rattle.std.specs.Prelude.{◌≡◌, ◌≤◌, ◌<◌, ◌^◌, ◌++◌, List, ℕ, length, OnOk, OnErr};
+ghost use Rattle.chunk_writer.specs.Written.{IsBegun, extended_bytes, header_with, message_bytes, spread};
+
+use crate::Begun;
+use av_unit::{Bytes, OutOfMemory};
+use chunk_wire::{Head, write_head};
+
+// The most bytes of a basic header with a message header and extended time, and of a format 3 header with extended time.
+const FIRST: usize = 18;
+
+const FURTHER: usize = 7;
+
+// Appends the extended time of a message that has one.
+#[tactic(auto, unfolding(crate::specs::Written::extended_bytes))]
+fn write_extended(begun: &Begun, out: &mut Bytes) -> Result<(), OutOfMemory>
+    ensures ok { OnOk result (out.new ≡ out.old ++ extended_bytes begun.now.terms) }
+    ensures err { OnErr result (out.new ≡ out.old) }
+{
+    if begun.terms.extended {
+        return out.append(&begun.terms.delta.to_be_bytes());
+    }
+    Ok(())
+}
+
+// Appends the header of a chunk of the message.
+#[tactic(auto, unfolding(crate::specs::Written::header_with))]
+fn write_header(format: u8, begun: &Begun, out: &mut Bytes) -> Result<(), OutOfMemory>
+    requires format { format < 4 }
+    requires begun { IsBegun begun.now }
+    ensures ok { OnOk result (out.new ≡ out.old ++ header_with format begun.now) }
+    ensures err { OnErr result ((rest : List ℕ) × (out.new ≡ out.old ++ rest)) }
+{
+    let head = Head {
+        format,
+        id: begun.id,
+        field: begun.terms.delta.min(0xFF_FFFF),
+        length: begun.terms.length,
+        kind: begun.terms.kind,
+        stream: begun.terms.stream,
+    };
+    write_head(&head, out)?;
+    write_extended(begun, out)
+}
+
+// Appends a chunk's payload and the header of the next chunk.
+fn write_full(begun: &Begun, piece: &[u8], out: &mut Bytes) -> Result<(), OutOfMemory>
+    requires begun { IsBegun begun.now }
+    ensures ok { OnOk result (out.new ≡ out.old ++ (piece.now ++ header_with 3 begun.now)) }
+    ensures err { OnErr result ((rest : List ℕ) × (out.new ≡ out.old ++ rest)) }
+{
+    out.append(piece)?;
+    write_header(3, begun, out)
+}
+
+// Appends the payload, in runs of the chunk size.
+fn write_payload(begun: &Begun, size: usize, body: &[u8], out: &mut Bytes) -> Result<(), OutOfMemory>
+    requires begun { IsBegun begun.now }
+    requires size { 1 ≤ size }
+    ensures ok { OnOk result (out.new ≡ out.old ++ spread (header_with 3 begun.now) size size body.now) }
+    ensures err { OnErr result ((rest : List ℕ) × (out.new ≡ out.old ++ rest)) }
+{
+    let mut left = body;
+    while left.len() > size {
+        let (piece, rest) = left.split_at(size);
+        write_full(begun, piece, out)?;
+        left = rest;
+    }
+    out.append(left)
+}
+
+// How many bytes a message of that length has as chunks at most.
+fn room_for(size: usize, length: usize) -> usize
+    requires size { 1 ≤ size }
+    requires length { length < 2 ^ 24 }
+    ensures { result < 2 ^ 32 }
+{
+    FIRST + length + length / size * FURTHER
+}
+
+/// Appends the message. A refusal leaves what `out` held as the beginning of what it holds.
+pub fn write_message(size: usize, begun: &Begun, body: &[u8], out: &mut Bytes) -> Result<(), OutOfMemory>
+    requires begun { IsBegun begun.now }
+    requires size { 1 ≤ size }
+    requires length { length body.now < 2 ^ 24 }
+    ensures ok { OnOk result (out.new ≡ out.old ++ message_bytes size begun.now body.now) }
+    ensures err { OnErr result ((rest : List ℕ) × (out.new ≡ out.old ++ rest)) }
+{
+    out.reserve(room_for(size, body.len()))?;
+    write_header(begun.format, begun, out)?;
+    write_payload(begun, size, body, out)
+}
