@@ -1,6 +1,7 @@
 //! How a message is begun.
 ghost use Rattle.std.specs.Prelude.{◌≡◌, ◌-◌, ◌<◌, ◌≤◌, ◌^◌, false, length};
 ghost use Rattle.chunk_writer.specs.Rule.{begun_after, begun_with, delta_after, format_after, id_for, is_alike, last_on, repeats, starts_anew};
+ghost use Rattle.chunk_writer.specs.Written.{IsBegun};
 
 use crate::Begun;
 use chunk_wire::{Message, Terms};
@@ -8,7 +9,9 @@ use chunk_wire::{Message, Terms};
 // The chunk stream of messages of a type.
 #[tactic(auto, using(std::proofs::lemmas::Bool::Decides::nat_tests), unfolding(crate::specs::Rule::id_for))]
 pub fn id_of(kind: u8) -> u32
-    ensures { result ≡ id_for kind }
+    ensures value { result ≡ id_for kind }
+    ensures low { 2 ≤ result }
+    ensures high { result ≤ 65599 }
 {
     if kind <= 6 {
         return 2;
@@ -62,8 +65,10 @@ fn again(last: &Begun, delta: u32) -> bool
 
 // How a message is begun in this format.
 fn with(format: u8, delta: u32, message: &Message) -> Begun
-    requires { length message.now.body < 2 ^ 24 }
-    ensures { result ≡ begun_with format delta message.now }
+    requires format { format < 4 }
+    requires length { length message.now.body < 2 ^ 24 }
+    ensures value { result ≡ begun_with format delta message.now }
+    ensures begun { IsBegun result }
 {
     Begun {
         id: id_of(message.kind),
@@ -83,7 +88,8 @@ fn with(format: u8, delta: u32, message: &Message) -> Begun
 #[tactic(auto, unfolding(crate::specs::Rule::format_after, crate::specs::Rule::delta_after))]
 pub fn begin(last: Option<Begun>, message: &Message) -> Begun
     requires { length message.now.body < 2 ^ 24 }
-    ensures { result ≡ begun_after last message.now }
+    ensures value { result ≡ begun_after last message.now }
+    ensures begun { IsBegun result }
 {
     let Some(last) = last else {
         return with(0, message.time, message);

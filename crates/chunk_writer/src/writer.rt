@@ -1,7 +1,7 @@
-ghost use Rattle.std.specs.Prelude.{◌≡◌, ◌≤◌, ◌<◌, ◌^◌, ◌∷◌, ◌++◌, List, ℕ, length, true, OnOk, OnErr};
+ghost use Rattle.std.specs.Prelude.{◌≡◌, ◌≤◌, ◌<◌, ◌^◌, ◌∷◌, ◌++◌, List, ℕ, length, true, MatchOption, OnOk, OnErr};
 ghost use Rattle.chunk_writer.specs.Known.{fresh, sized};
 ghost use Rattle.chunk_writer.specs.Rule.{begun_in, is_written};
-ghost use Rattle.chunk_writer.specs.Sound.{Recalls};
+ghost use Rattle.chunk_writer.specs.Sound.{Recalls, place};
 ghost use Rattle.chunk_writer.specs.Written.{after, bytes_of};
 
 use crate::Begun;
@@ -33,12 +33,29 @@ impl Model for Writer {
     ghost invariant = { λ w. IsSound w.size w.lasts.items w.said };
 }
 
+// The place of the last message on a chunk stream.
+fn place_of(lasts: &[Begun], id: u32) -> Option<usize>
+    ensures { MatchOption result (length lasts.now ≤ place id lasts.now) (λ i. (i ≡ place id lasts.now) × (i < length lasts.now)) }
+{
+    let mut left = lasts;
+    let mut i = 0;
+    while let [begun, rest @ ..] = left {
+        if begun.id == id {
+            return Some(i);
+        }
+        i += 1;
+        left = rest;
+    }
+    None
+}
+
 // Keeps how the last message on its chunk stream was begun.
+#[tactic(auto, using(crate::proofs::Recalling::recalls_set, crate::proofs::Recalling::recalls_push))]
 fn keep(lasts: &mut Vec<Begun>, begun: Begun) -> Result<(), OutOfMemory>
     ensures ok { OnOk result ((said : List Begun) → Recalls lasts.old.items said → Recalls lasts.new.items (begun ∷ said)) }
     ensures err { OnErr result (lasts.new.items ≡ lasts.old.items) }
 {
-    match lasts.iter().position(|last| last.id == begun.id) {
+    match place_of(lasts, begun.id) {
         Some(i) => {
             lasts[i] = begun;
             Ok(())
