@@ -47,12 +47,13 @@ done_more h size body start out left now p rest some more d n first last =
     let done = d.0 in
     let whole : p ++ rest ≡ left = rw (first, last) (take-append-drop size left) in
     let len : length p ≡ size = rw first (omega (arith, length-take size left, more)) in
-    let longer : 0 < length rest = rw last (omega (arith, length-drop size left, more)) in
-    (done ++ (p ++ h),
-     n ∙ ap (λ (l : List ℕ). l ++ (p ++ h)) d.1 ∙ append_assoc start done (p ++ h),
-     append_assoc done (p ++ h) (spread h size size rest)
-     ∙ ap (λ (l : List ℕ). done ++ l) (sym (spread_chunk h size p rest some len longer) ∙ ap (λ (l : List ℕ). spread h size size l) whole)
-     ∙ d.2)
+    let longer : 0 < length rest = rw last (omega (arith, length-drop size left, more)) in (
+      done ++ (p ++ h),
+      n ∙ ap (λ (l : List ℕ). l ++ (p ++ h)) d.1 ∙ append_assoc start done (p ++ h),
+      append_assoc done (p ++ h) (spread h size size rest)
+          ∙ ap (λ (l : List ℕ). done ++ l) (sym (spread_chunk h size p rest some len longer) ∙ ap (λ (l : List ℕ). spread h size size l) whole)
+          ∙ d.2,
+    )
 
 pub done_last : (h : List ℕ) (size : ℕ) (body start out left now : List ℕ) (r : Result (Unit {0}) OutOfMemory) → length left ≤ size → Done h size body start out left
     → OnOk r (now ≡ out ++ left) → OnOk r (now ≡ start ++ spread h size size body)

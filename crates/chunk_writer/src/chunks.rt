@@ -54,7 +54,12 @@ fn write_full(begun: &Begun, piece: &[u8], out: &mut Bytes) -> Result<(), OutOfM
 }
 
 // Appends the payload, in runs of the chunk size.
-fn write_payload(begun: &Begun, size: usize, body: &[u8], out: &mut Bytes) -> Result<(), OutOfMemory>
+fn write_payload(
+    begun: &Begun,
+    size: usize,
+    body: &[u8],
+    out: &mut Bytes,
+) -> Result<(), OutOfMemory>
     requires begun { IsBegun begun.now }
     requires size { 1 ≤ size }
     ensures ok { OnOk result (out.new ≡ out.old ++ spread (header_with 3 begun.now) size size body.now) }
@@ -79,7 +84,12 @@ fn room_for(size: usize, length: usize) -> usize
 }
 
 /// Appends the message. A refusal leaves what `out` held as the beginning of what it holds.
-pub fn write_message(size: usize, begun: &Begun, body: &[u8], out: &mut Bytes) -> Result<(), OutOfMemory>
+pub fn write_message(
+    size: usize,
+    begun: &Begun,
+    body: &[u8],
+    out: &mut Bytes,
+) -> Result<(), OutOfMemory>
     requires begun { IsBegun begun.now }
     requires size { 1 ≤ size }
     requires length { length body.now < 2 ^ 24 }

@@ -1,0 +1,136 @@
+ghost use Rattle.std.specs.Prelude.{◌≡◌, ◌<◌, ◌^◌, length, true};
+ghost use Rattle.chunk_writer.specs.Rule.{is_written};
+
+use crate::Writer;
+use av_unit::{Bytes, OutOfMemory};
+use chunk_wire::Message;
+use std::alloc::Global;
+use std::test::Fail;
+
+// Writes a message of message stream 0 and time 0.
+fn say(
+    writer: &mut Writer,
+    alloc: Global,
+    kind: u8,
+    body: &[u8],
+    out: &mut Bytes,
+) -> Result<(), OutOfMemory>
+    requires kind { is_written kind ≡ true }
+    requires length { length body.now < 2 ^ 24 }
+{
+    send(writer, alloc, kind, 0, 0, body, out)
+}
+
+// Writes a message.
+fn send(
+    writer: &mut Writer,
+    alloc: Global,
+    kind: u8,
+    stream: u32,
+    time: u32,
+    body: &[u8],
+    out: &mut Bytes,
+) -> Result<(), OutOfMemory>
+    requires kind { is_written kind ≡ true }
+    requires length { length body.now < 2 ^ 24 }
+{
+    let mut bytes = Bytes::new(alloc);
+    bytes.append(body)?;
+    let message = Message {
+        kind,
+        stream,
+        time,
+        body: bytes,
+    };
+    writer.put(&message, out)
+}
+
+#[test]
+fn control_messages_share_a_chunk_stream(rt: HostRuntime) -> Result<(), Fail> {
+    let alloc = rt.alloc();
+    let mut writer = Writer::new(alloc);
+    let mut out = Bytes::new(alloc);
+    say(&mut writer, alloc, 5, b"\x00\x26\x25\xa0", &mut out)?;
+    say(&mut writer, alloc, 6, b"\x00\x26\x25\xa0\x02", &mut out)?;
+    say(&mut writer, alloc, 1, b"\x00\x00\x10\x00", &mut out)?;
+    assert_eq!(rt;
+        out.as_slice(),
+        b"\x02\x00\x00\x00\x00\x00\x04\x05\x00\x00\x00\x00\x00\x26\x25\xa0\
+\x42\x00\x00\x00\x00\x00\x05\x06\x00\x26\x25\xa0\x02\
+\x42\x00\x00\x00\x00\x00\x04\x01\x00\x00\x10\x00"
+            .as_slice()
+    );
+    Ok(())
+}
+
+#[test]
+fn acknowledgements_get_shorter(rt: HostRuntime) -> Result<(), Fail> {
+    let alloc = rt.alloc();
+    let mut writer = Writer::new(alloc);
+    let mut out = Bytes::new(alloc);
+    say(&mut writer, alloc, 3, b"\x00\x00\x03\xe8", &mut out)?;
+    say(&mut writer, alloc, 3, b"\x00\x00\x07\xd0", &mut out)?;
+    say(&mut writer, alloc, 3, b"\x00\x00\x0b\xb8", &mut out)?;
+    assert_eq!(rt;
+        out.as_slice(),
+        b"\x02\x00\x00\x00\x00\x00\x04\x03\x00\x00\x00\x00\x00\x00\x03\xe8\
+\x82\x00\x00\x00\x00\x00\x07\xd0\
+\xc2\x00\x00\x0b\xb8"
+            .as_slice()
+    );
+    Ok(())
+}
+
+#[test]
+fn the_format_is_chosen_by_the_message_before(rt: HostRuntime) -> Result<(), Fail> {
+    let alloc = rt.alloc();
+    let mut writer = Writer::new(alloc);
+    let mut out = Bytes::new(alloc);
+    send(&mut writer, alloc, 8, 1, 0, b"a", &mut out)?;
+    send(&mut writer, alloc, 8, 1, 40, b"b", &mut out)?;
+    send(&mut writer, alloc, 8, 1, 80, b"c", &mut out)?;
+    send(&mut writer, alloc, 8, 1, 120, b"de", &mut out)?;
+    send(&mut writer, alloc, 8, 1, 160, b"fg", &mut out)?;
+    send(&mut writer, alloc, 8, 1, 150, b"hi", &mut out)?;
+    send(&mut writer, alloc, 8, 2, 300, b"jk", &mut out)?;
+    send(&mut writer, alloc, 8, 2, 16_777_515, b"lm", &mut out)?;
+    send(&mut writer, alloc, 8, 2, 33_554_730, b"no", &mut out)?;
+    assert_eq!(rt;
+        out.as_slice(),
+        b"\x06\x00\x00\x00\x00\x00\x01\x08\x01\x00\x00\x00a\
+\x86\x00\x00\x28b\
+\xc6c\
+\x46\x00\x00\x28\x00\x00\x02\x08de\
+\xc6fg\
+\x06\x00\x00\x96\x00\x00\x02\x08\x01\x00\x00\x00hi\
+\x06\x00\x01\x2c\x00\x00\x02\x08\x02\x00\x00\x00jk\
+\x86\xff\xff\xff\x00\xff\xff\xfflm\
+\x86\xff\xff\xff\x00\xff\xff\xffno"
+            .as_slice()
+    );
+    Ok(())
+}
+
+#[test]
+fn each_chunk_of_a_message_has_its_extended_time(rt: HostRuntime) -> Result<(), Fail> {
+    let alloc = rt.alloc();
+    let mut writer = Writer::new(alloc);
+    let mut out = Bytes::new(alloc);
+    writer.set_size(2);
+    send(&mut writer, alloc, 9, 1, 16_777_215, b"abcde", &mut out)?;
+    send(&mut writer, alloc, 9, 1, 16_777_215, b"", &mut out)?;
+    send(&mut writer, alloc, 20, 0, 0, b"fghi", &mut out)?;
+    send(&mut writer, alloc, 18, 1, 4_294_967_295, b"j", &mut out)?;
+    assert_eq!(rt;
+        out.as_slice(),
+        b"\x07\xff\xff\xff\x00\x00\x05\x09\x01\x00\x00\x00\x00\xff\xff\xffab\
+\xc7\x00\xff\xff\xffcd\
+\xc7\x00\xff\xff\xffe\
+\x47\x00\x00\x00\x00\x00\x00\x09\
+\x03\x00\x00\x00\x00\x00\x04\x14\x00\x00\x00\x00fg\
+\xc3hi\
+\x05\xff\xff\xff\x00\x00\x01\x12\x01\x00\x00\x00\xff\xff\xff\xffj"
+            .as_slice()
+    );
+    Ok(())
+}

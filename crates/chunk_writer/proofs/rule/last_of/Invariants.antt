@@ -1,4 +1,4 @@
-use Rattle.std.proofs.Common.{◌≡◌, length, ℕ}
+use Rattle.std.proofs.Common.{◌≡◌, length}
 use Rattle.chunk_writer.specs.Rule.{last_on}
 use Rattle.chunk_writer.proofs.rule.last_of.Given as goal
 

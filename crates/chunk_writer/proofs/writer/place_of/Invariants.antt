@@ -1,4 +1,4 @@
-use Rattle.std.proofs.Common.{◌≡◌, ◌+◌, length, ℕ}
+use Rattle.std.proofs.Common.{◌≡◌, ◌+◌, length}
 use Rattle.chunk_writer.specs.Sound.{place}
 use Rattle.chunk_writer.proofs.writer.place_of.Given as goal
 

@@ -1,5 +1,4 @@
-use Rattle.std.proofs.Common.{◌∙◌, ◌++◌, ◌∷◌, List, ℕ, ap, refl, sym}
-use Rattle.chunk_writer.specs.Known.{Known}
+use Rattle.std.proofs.Common.{◌∙◌, ◌++◌, List, ℕ, ap, refl}
 use Rattle.chunk_writer.specs.declared.begun.Begun.{Begun}
 use Rattle.chunk_writer.specs.Rule.{last_on}
 use Rattle.chunk_writer.specs.Written.{message_bytes}
@@ -13,4 +12,5 @@ returns-clause-ok c =
     let b = begun_is c.self.inside.lasts.items said m c.id_of.result c.last_of.result c.begin-begun.result c.self.invariant.lasts_are c.id_of.ensures.value (c.last_of.ensures ∙ ap (λ (xs : List Begun). last_on c.id_of.result xs) c.deref.ensures.value) c.begin-begun.ensures.value in
     rw (← c.self.view_is) (
       rw (c.add.ensures, b) refl,
-      c.in_ok-write_message.ensures.ok ∙ ap (λ (l : List ℕ). c.args.out.now ++ l) (ap (λ (body : List ℕ). message_bytes c.self.inside.size c.begin-begun.result body) c.as_slice.ensures ∙ bytes_are c.self.inside.size said m c.begin-begun.result b))
+      c.in_ok-write_message.ensures.ok ∙ ap (λ (l : List ℕ). c.args.out.now ++ l) (ap (λ (body : List ℕ). message_bytes c.self.inside.size c.begin-begun.result body) c.as_slice.ensures ∙ bytes_are c.self.inside.size said m c.begin-begun.result b),
+    )
