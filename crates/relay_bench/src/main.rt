@@ -3,6 +3,7 @@
 
 mod chunks;
 mod gate;
+mod writing;
 
 use std::{env, io};
 
@@ -13,6 +14,9 @@ fn main(rt: HostRuntime) -> io::Result<()> {
         }
         if word.as_str() == "chunks" {
             chunks::measure(&rt, rt.alloc())?;
+        }
+        if word.as_str() == "writer" {
+            writing::measure(&rt, rt.alloc())?;
         }
     }
     Ok(())
