@@ -1,0 +1,10 @@
+pub mod Puts
+pub mod Empties
+pub mod Heads
+pub mod Opened
+pub mod Spreads
+pub mod Pieces
+pub mod Cuts
+pub mod Begins
+pub mod Follows
+pub mod Messages
