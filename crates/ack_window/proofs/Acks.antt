@@ -1,12 +1,12 @@
 -- The acknowledgements that calls are answered are those that are due.
-use Rattle.std.proofs.Common.{ℕ, zero, suc, ◌+◌, ◌-◌, ◌%◌, ◌<◌, ◌≤◌, ◌≡◌, ◌≢◌, ◌∙◌, Bool, true, false, cond, eqb, leb, List, [], ◌∷◌, ◌++◌, map, max, Option, Some, None, refl, sym, ap, arith, inl, inr, sum, append_assoc}
+use Rattle.std.proofs.Common.{ℕ, zero, suc, ◌+◌, ◌-◌, ◌%◌, ◌<◌, ◌≤◌, ◌≡◌, ◌≢◌, ◌∙◌, Bool, true, false, cond, eqb, leb, List, [], ◌∷◌, ◌++◌, map, refl, sym, ap, arith, inl, inr, sum}
 use Rattle.std.proofs.lemmas.Bool.{cases_lt}
 use Rattle.std.proofs.lemmas.Bool.Decides.{nat_tests}
 use Rattle.std.proofs.lemmas.List.{map-append}
 use Rattle.std.proofs.lemmas.List.Elements.{filter-append, filter_agree}
 use Rattle.std.specs.List.{filter, fold, range_with_len}
 use Rattle.ack_window.specs.Window.{window_of}
-use Rattle.ack_window.specs.Inbound.{InWindow, new_in, in_set, in_took, room_of, ack_of, number_of}
+use Rattle.ack_window.specs.Inbound.{new_in, ack_of}
 use Rattle.ack_window.specs.InboundRuns.{InCall, Ack, Steps, with_ack, acks_of, taken_by, last_window, window_at, is_due, ack_at, due, multiples}
 use Rattle.ack_window.specs.InboundRuns.InCall.{Set, Took}
 use Rattle.ack_window.proofs.Ranges.{range_with_len-add, filter_same, filter_none, filter_last}
@@ -31,9 +31,9 @@ short_took w t n h short = filter_none (at_place w) (t + 1) n (λ x low high.
 full_took : (w t n : ℕ) → 0 < w → suc n ≡ w - t % w → filter (at_place w) (range_with_len (t + 1) (suc n)) ≡ (t + suc n) ∷ []
 full_took w t n h full = filter_last (at_place w) (t + 1) n (t + suc n) (omega arith)
     (λ x low high.
-      let e : t + (x - t) ≡ x = omega arith in
-      let ne : x % w ≢ 0 = rw e at (before_place w t (x - t) h (omega arith) (omega arith)) in
-      grind (arith, nat_tests))
+    let e : t + (x - t) ≡ x = omega arith in
+    let ne : x % w ≢ 0 = rw e at (before_place w t (x - t) h (omega arith) (omega arith)) in
+    grind (arith, nat_tests))
     (let e : (t + suc n) % w ≡ 0 = rw full (next_place w t h) in grind (arith, nat_tests))
 
 -- the bytes of one Took, none of which but the last can be due
@@ -59,12 +59,12 @@ split_took : (w t n m : ℕ) (calls : List InCall) →
 split_took w t n m calls =
     let e : t + 1 + n ≡ t + n + 1 = omega arith in
     let front = filter_same (due_after t w (Took n ∷ calls)) (at_place w) (t + 1) n (λ x low high.
-        let there : leb (x - t) n ≡ true = grind (arith, nat_tests) in
-        rw there refl) in
+    let there : leb (x - t) n ≡ true = grind (arith, nat_tests) in
+    rw there refl) in
     let back = filter_same (due_after t w (Took n ∷ calls)) (due_after (t + n) w calls) (t + n + 1) m (λ x low high.
-        let past : leb (x - t) n ≡ false = grind (arith, nat_tests) in
-        let f : x - t - n ≡ x - (t + n) = omega arith in
-        rw (past, f) refl) in
+    let past : leb (x - t) n ≡ false = grind (arith, nat_tests) in
+    let f : x - t - n ≡ x - (t + n) = omega arith in
+    rw (past, f) refl) in
     rw (range_with_len-add (t + 1) n m, e, filter-append, front, back) refl
 
 acks_after : (w t : ℕ) (calls : List InCall) → 0 < w → Steps (record { window = w; taken = t }) calls
@@ -74,13 +74,13 @@ acks_after w t (Set size ∷ calls) h steps = acks_after (window_of size) t call
 acks_after w t (Took n ∷ calls) h steps =
     rw (split_took w t n (taken_by calls) calls, map-append)
     (sym (ap (λ (later : List Ack). map ack_at (filter (at_place w) (range_with_len (t + 1) n)) ++ later) (sym (acks_after w (t + n) calls h steps.1))
-      ∙ one_took w t n (acks_of (record { window = w; taken = t + n }) calls) h steps.0))
+    ∙ one_took w t n (acks_of (record { window = w; taken = t + n }) calls) h steps.0))
 
 pub acks_are_due : (size : ℕ) (calls : List InCall) → Steps (new_in size) calls → acks_of (new_in size) calls ≡ due (window_of size) calls
 acks_are_due size calls steps =
     acks_after (window_of size) 0 calls (omega arith) steps
     ∙ ap (map ack_at) (filter_same (due_after 0 (window_of size) calls) (is_due (window_of size) calls) 1 (taken_by calls) (λ x low high.
-        let e : x - 0 ≡ x = omega arith in rw e refl))
+    let e : x - 0 ≡ x = omega arith in rw e refl))
 
 pub window_in_effect : (first n byte : ℕ) (before after : List InCall) → taken_by before < byte → byte ≤ taken_by before + n
     → window_at first (before ++ (Took n ∷ after)) byte ≡ last_window first before

@@ -1,5 +1,5 @@
 -- Where the multiples of a window stand.
-use Rattle.std.proofs.Common.{ℕ, zero, suc, ◌+◌, ◌-◌, ◌%◌, ◌<◌, ◌≤◌, ◌≡◌, ◌≢◌, arith}
+use Rattle.std.proofs.Common.{ℕ, ◌+◌, ◌-◌, ◌%◌, ◌<◌, ◌≡◌, ◌≢◌, arith}
 
 -- the next place is one
 pub next_place : (w t : ℕ) → 0 < w → (t + (w - t % w)) % w ≡ 0

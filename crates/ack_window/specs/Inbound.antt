@@ -1,6 +1,6 @@
 -- The acknowledgements that the relay sends of what it receives (RTMP 1.0, 5.4.3, 5.4.4). The standard asks for one
 -- after each window of bytes; that it comes at the multiples of the window is own.
-use Rattle.std.specs.Prelude.{◌≡◌, ◌≢◌, ℕ, ◌+◌, ◌-◌, ◌%◌, ◌^◌, ◌<◌, ◌≤◌, ◌==◌, if◌then◌else◌, Option, Some, None}
+use Rattle.std.specs.Prelude.{◌≡◌, ℕ, ◌+◌, ◌-◌, ◌%◌, ◌^◌, ◌<◌, ◌≤◌, ◌==◌, if◌then◌else◌, Option, Some, None}
 use Rattle.ack_window.specs.Window.{window_of}
 
 -- the window in effect, and how many bytes were taken
@@ -31,7 +31,7 @@ IsPlace window bytes = bytes % window ≡ 0
 pub record IsNextPlace (s : InWindow) (n : ℕ) : Type 0 where
   pub ahead : 0 < n
   pub place : IsPlace s.window (s.taken + n)
-  pub first : (k : ℕ) → 0 < k → k < n → (s.taken + k) % s.window ≢ 0
+  pub first : (k : ℕ) → 0 < k → k < n → ¬ IsPlace s.window (s.taken + k)
 
 -- how far the next place is
 abbrev pub room_of : InWindow → ℕ

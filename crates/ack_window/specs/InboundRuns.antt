@@ -1,8 +1,8 @@
 -- Calls at an `Inbound`, one after another, and the acknowledgements that are due.
-use Rattle.std.specs.Prelude.{◌≡◌, ℕ, ◌+◌, ◌-◌, ◌%◌, ◌<◌, ◌≤◌, ◌==◌, Bool, nat_le, if◌then◌else◌, List, [], ◌∷◌, ◌++◌, map, filter, Option, Some, None}
+use Rattle.std.specs.Prelude.{ℕ, ◌+◌, ◌-◌, ◌%◌, ◌≤◌, ◌==◌, Bool, nat_le, if◌then◌else◌, List, [], ◌∷◌, map, filter, Option, Some, None}
 use Rattle.std.specs.List.{range_with_len}
 use Rattle.ack_window.specs.Window.{window_of}
-use Rattle.ack_window.specs.Inbound.{InWindow, new_in, in_set, in_took, room_of, ack_of, number_of}
+use Rattle.ack_window.specs.Inbound.{InWindow, in_set, in_took, room_of, ack_of, number_of}
 
 -- a call: the window is set, or so many bytes are taken
 pub data InCall : Type 0 where

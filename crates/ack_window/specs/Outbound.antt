@@ -1,5 +1,5 @@
 -- How far a peer has acknowledged what it was sent (RTMP 1.0, 5.4.3 to 5.4.5). What is named own is this project's choice.
-use Rattle.std.specs.Prelude.{◌≡◌, ℕ, ◌+◌, ◌-◌, ◌%◌, ◌^◌, ◌<◌, ◌≤◌, ◌==◌, Bool, true, false, nat_lt, if◌then◌else◌, min, max, IsTrue}
+use Rattle.std.specs.Prelude.{ℕ, ◌+◌, ◌-◌, ◌%◌, ◌^◌, ◌<◌, ◌≤◌, ◌==◌, Bool, true, false, nat_lt, if◌then◌else◌, min, max, IsTrue}
 use Rattle.ack_window.specs.Window.{window_of}
 
 -- the window in effect, how many bytes were sent, how many of these are acknowledged, and whether an acknowledgement

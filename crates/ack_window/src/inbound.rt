@@ -1,5 +1,5 @@
 ghost use Rattle.std.specs.Prelude.{◌≡◌, ◌+◌, ◌<◌, ◌≤◌, ◌^◌, ◌↔◌, IsSome, IfSome};
-ghost use Rattle.ack_window.specs.Inbound.{new_in, in_set, in_took, room_of, ack_of, number_of, IsNextPlace};
+ghost use Rattle.ack_window.specs.Inbound.{new_in, in_set, in_took, room_of, ack_of, number_of, IsInWindow, IsNextPlace};
 
 use crate::window::window;
 use std::marker::Model;
@@ -47,6 +47,7 @@ impl Inbound {
         ensures value { result ≡ room_of self.now }
         ensures next { IsNextPlace self.now result }
         ensures most { result ≤ self.now.window }
+        ensures kept { IsInWindow self.now.window self.now.taken }
     {
         let window = u64::from(self.window);
         window - self.taken % window

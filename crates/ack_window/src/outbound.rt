@@ -1,5 +1,5 @@
 ghost use Rattle.std.specs.Prelude.{◌≡◌, ◌≤◌, ◌↔◌, IsTrue};
-ghost use Rattle.ack_window.specs.Outbound.{new_out, out_set, out_sent, out_acked, IsHeldBack};
+ghost use Rattle.ack_window.specs.Outbound.{new_out, out_set, out_sent, out_acked, IsHeldBack, IsOutWindow};
 
 use crate::window::window;
 use std::marker::Model;
@@ -60,8 +60,8 @@ impl Outbound {
 
     /// An acknowledgement came, whose value is a number of bytes modulo 2^32.
     ///
-    /// It acknowledges the last such number that isn't more than was sent, where that is less than 2^31 bytes behind;
-    /// else all that was sent. An acknowledgement of less than one before changes no number.
+    /// Let it be so many bytes behind the number sent, modulo 2^32. Where that is less than 2^31, it acknowledges all
+    /// but these last bytes; else all that was sent. What is acknowledged stays so, whatever comes later.
     pub fn acked(&mut self, value: u32)
         ensures value { self.new ≡ out_acked self.old value }
         ensures never_falls { self.old.acknowledged ≤ self.new.acknowledged }
@@ -80,7 +80,8 @@ impl Outbound {
 
     /// Whether the sender is to wait: an acknowledgement ever came, and a window of bytes or more isn't acknowledged.
     pub fn held_back(&self) -> bool
-        ensures { IsTrue result ↔ IsHeldBack self.now }
+        ensures held { IsTrue result ↔ IsHeldBack self.now }
+        ensures kept { IsOutWindow self.now.window self.now.sent self.now.acknowledged }
     {
         self.heard && self.sent - self.acknowledged >= u64::from(self.window)
     }
