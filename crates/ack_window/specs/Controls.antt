@@ -88,7 +88,7 @@ body_of (User event value) = bytes_high_first 2 event ++ bytes_high_first 4 valu
 body_of (Window size) = bytes_high_first 4 size
 body_of (Bandwidth size limit) = bytes_high_first 4 size ++ limit ∷ []
 
--- a message with this body in place of its own
+-- a message of the type of a control, with any body
 abbrev pub with_body : Control → List ℕ → Message
 with_body control body = record { kind = kind_of control; stream = 0; time = 0; body = body }
 
