@@ -1,0 +1,5 @@
+pub mod Ranges
+pub mod Places
+pub mod Acks
+pub mod Kept
+pub mod Controls
