@@ -4,3 +4,6 @@
 mod laws;
 
 pub use laws::what_is_written_is_read;
+
+#[cfg(test)]
+mod tests;
