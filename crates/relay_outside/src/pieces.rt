@@ -1,5 +1,6 @@
 //! Bytes that come in pieces.
-ghost use Rattle.std.specs.Prelude.{◌≡◌, ◌<◌, ◌≤◌, ◌-◌, [], ◌∷◌, ◌++◌, length, map, take, drop, min, option_map, IfSome, OnOk, OnErr};
+ghost use Rattle.std.specs.Prelude.{◌≡◌, ◌<◌, ◌≤◌, ◌-◌, [], ◌∷◌, ◌++◌, length, map, take, drop, min, option_map, IfSome, IfNone, OnOk, OnErr};
+ghost use Rattle.std.specs.List.{concat};
 ghost use Rattle.relay_outside.specs.Pieces.{nonempty_from, first_bytes, first_piece, cut_first};
 
 use std::alloc::AllocError;
@@ -78,13 +79,16 @@ impl Pieces {
         ensures count { IfSome result (λ n. (0 < n) × (n ≤ length into.new)) }
         ensures bytes { option_map (λ n. take n into.new) result ≡ first_bytes (length into.new) (nonempty_from self.old) }
         ensures left { self.new ≡ cut_first (length into.new) (nonempty_from self.old) }
+        ensures none { IfNone result ((concat self.old ≡ []) × (self.new ≡ [])) }
     {
         self.used = drop_used(&mut self.queue, self.used);
-        let Some(piece) = self.queue.front() else {
-            return None;
-        };
-        let count = copy_from(piece, self.used, into);
-        self.used += count;
-        Some(count)
+        match self.queue.front() {
+            None => None,
+            Some(piece) => {
+                let count = copy_from(piece, self.used, into);
+                self.used += count;
+                Some(count)
+            }
+        }
     }
 }
