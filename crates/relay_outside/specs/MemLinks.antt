@@ -62,3 +62,9 @@ MemSays l piece (Took n) m = (l.send_fails ≡ false) × (l.room ≢ Some 0) × 
 MemSays l piece NotYet m = (l.send_fails ≡ false) × (l.room ≡ Some 0) × (m ≡ record l { counts = with_wait l.counts })
 MemSays l piece Failed m = (l.send_fails ≡ true) × (m ≡ record l { send_fails = false; counts = with_fault l.counts })
 MemSays l piece OutOfMemory m = (l.send_fails ≡ false) × (l.room ≢ Some 0) × (m ≡ l)
+
+-- no call was told to fail, and none failed
+pub record IsFaultless (l : MemLinkState) : Type 0 where
+  pub recv_works : l.recv_fails ≡ false
+  pub send_works : l.send_fails ≡ false
+  pub no_faults : l.counts.faults ≡ 0
