@@ -1,10 +1,8 @@
 -- What a step of the link in memory means.
-use Rattle.std.proofs.Common.{◌≡◌, ◌≢◌, ℕ, zero, suc, ◌<◌, ◌≤◌, List, [], ◌∷◌, ◌++◌, length, take, drop, min, Option, Some, None, refl, ap, sym, ◌∙◌, arith}
+use Rattle.std.proofs.Common.{◌≡◌, ◌≢◌, ℕ, zero, suc, ◌<◌, ◌≤◌, List, [], ◌++◌, length, take, drop, Option, Some, None, refl, ap, sym, ◌∙◌, arith}
 use Rattle.std.specs.Option.{unwrap_or}
 use Rattle.std.proofs.Math.Seq.{take-append_seam, drop-append_seam}
 use Rattle.std.specs.List.{concat}
-use Rattle.relay_outside.specs.Counts.{Rose}
-use Rattle.relay_outside.specs.Get.{GaveBytes, GaveEnd, GetStep}
 use Rattle.relay_outside.specs.MemoryLaws.{rose-risen, gives_front}
 use Rattle.relay_outside.specs.Heard.{Came, CameBytes, CameEnd, CameNotYet, CameFailed, HearStep}
 use Rattle.relay_outside.specs.Said.{SayStep}
