@@ -69,83 +69,75 @@ fn a_sink_fails_in_the_middle(rt: HostRuntime) -> Result<(), Fail> {
     Ok(())
 }
 
-// The answer of a recv with room for so many bytes, up to four, and the bytes.
-fn heard<L: Link>(
-    link: &mut L,
-    alloc: Global,
-    room: usize,
-) -> Result<(Heard, Vec<u8>), AllocError> {
-    let mut buffer = [9u8; 4];
-    let into = &mut buffer[..room.clamp(1, 4)];
-    let answer = link.recv(into);
-    let bytes = match answer {
-        Heard::Bytes(count) => into[..count].to_vec(alloc)?,
-        _ => Vec::new(alloc),
-    };
-    Ok((answer, bytes))
+// Writes the bytes that a recv with room for two gives, else a letter.
+fn hear<L: Link>(link: &mut L, out: &mut Vec<u8>) -> Result<(), AllocError> {
+    let mut buffer = [0u8; 2];
+    match link.recv(&mut buffer) {
+        Heard::Bytes(count) => out.extend_from_slice(&buffer[..count]),
+        Heard::End => out.extend_from_slice(b"E"),
+        Heard::NotYet => out.extend_from_slice(b"N"),
+        Heard::Failed => out.extend_from_slice(b"F"),
+    }
 }
 
-fn said<L: Link>(link: &mut L, piece: &[u8]) -> Result<Said, AllocError>
-    requires { 0 < length piece.now }
-{
-    match link.send(piece) {
+// Writes how many of two bytes a send took, else a letter.
+fn say<L: Link>(link: &mut L, out: &mut Vec<u8>) -> Result<(), AllocError> {
+    match link.send(b"xy") {
+        Said::Took(2) => out.extend_from_slice(b"2"),
+        Said::Took(_) => out.extend_from_slice(b"1"),
+        Said::NotYet => out.extend_from_slice(b"N"),
+        Said::Failed => out.extend_from_slice(b"F"),
         Said::OutOfMemory => Err(AllocError),
-        answer => Ok(answer),
     }
 }
 
-#[test]
-fn a_link_gives_its_pieces_and_then_ends(rt: HostRuntime) -> Result<(), Fail> {
-    let alloc = rt.alloc();
-    let mut link = MemLink::new(alloc);
-    assert!(rt; heard(&mut link, alloc, 4)?.0 == Heard::NotYet);
-    link.give(vec![in alloc; 1, 2, 3]?)?;
-    link.give(vec![in alloc]?)?;
-    link.give(vec![in alloc; 4]?)?;
-    link.fail_send();
-    link.fail_recv();
-    for (room, want, bytes) in [
-        (2, Heard::Failed, b"".as_slice()),
-        (2, Heard::Bytes(2), b"\x01\x02"),
-        (4, Heard::Bytes(1), b"\x03"),
-        (4, Heard::Bytes(1), b"\x04"),
-        (4, Heard::NotYet, b""),
-    ] {
-        let (answer, given) = heard(&mut link, alloc, room)?;
-        assert!(rt; answer == want);
-        assert_eq!(rt; given.as_slice(), bytes);
+// Makes the call of that letter, and writes what it answers.
+fn call(
+    link: &mut MemLink,
+    alloc: Global,
+    letter: u8,
+    out: &mut Vec<u8>,
+) -> Result<(), AllocError> {
+    match letter {
+        b'g' => link.give(b"abc".as_slice().to_vec(alloc)?)?,
+        b'h' => link.give(Vec::new(alloc))?,
+        b'e' => link.end(),
+        b'3' => link.room(Some(3)),
+        b'a' => link.room(None),
+        b'R' => link.fail_recv(),
+        b'S' => link.fail_send(),
+        b'r' => hear(link, out)?,
+        b's' => say(link, out)?,
+        b'v' => out.extend_from_slice(link.sent())?,
+        _ => out.extend_from_slice(&link.take_sent())?,
     }
-    link.end();
-    assert!(rt; heard(&mut link, alloc, 4)?.0 == Heard::End);
-    link.give(vec![in alloc; 5]?)?;
-    assert!(rt; heard(&mut link, alloc, 4)?.0 == Heard::Bytes(1));
-    assert!(rt; heard(&mut link, alloc, 4)?.0 == Heard::End);
     Ok(())
 }
 
-#[test]
-fn a_link_takes_what_it_has_room_for(rt: HostRuntime) -> Result<(), Fail> {
-    let alloc = rt.alloc();
+// What a new link answers to the calls of these letters.
+fn answers(alloc: Global, letters: &[u8]) -> Result<Vec<u8>, AllocError> {
     let mut link = MemLink::new(alloc);
-    assert!(rt; said(&mut link, b"\x01\x02")? == Said::Took(2));
-    link.room(Some(3));
-    link.fail_send();
-    for (piece, want) in [
-        (b"\x03\x04", Said::Failed),
-        (b"\x03\x04", Said::Took(2)),
-        (b"\x05\x06", Said::Took(1)),
-        (b"\x06\x07", Said::NotYet),
-    ] {
-        assert!(rt; said(&mut link, piece)? == want);
+    let mut out = Vec::new(alloc);
+    for letter in letters {
+        call(&mut link, alloc, *letter, &mut out)?;
     }
-    link.fail_send();
-    assert!(rt; said(&mut link, b"\x06")? == Said::Failed);
-    assert!(rt; said(&mut link, b"\x06")? == Said::NotYet);
-    assert_eq!(rt; link.sent(), b"\x01\x02\x03\x04\x05".as_slice());
-    let handed = link.take_sent();
-    assert_eq!(rt; handed.as_slice(), b"\x01\x02\x03\x04\x05".as_slice());
-    link.room(None);
-    assert!(rt; said(&mut link, b"\x06")? == Said::Took(1));
-    assert_eq!(rt; link.sent(), b"\x06".as_slice());
+    Ok(out)
+}
+
+#[test]
+fn a_link_answers_as_its_input_its_room_and_its_faults_say(rt: HostRuntime) -> Result<(), Fail> {
+    for (calls, want) in [
+        // pieces in order, none that is empty, and the end after them
+        (b"rghgrrrrrergrrr".as_slice(), b"NabcabcNEabcE".as_slice()),
+        // one recv and one send fail, and take nothing
+        (b"gRSrrssvrr", b"FabF2xycN"),
+        // no more than the room, until there is more
+        (b"s3sssSssvasv", b"221NFNxyxyx2xyxyxxy"),
+        // what was handed over is gone
+        (b"sstvst", b"22xyxy2xy"),
+    ] {
+        let given = answers(rt.alloc(), calls)?;
+        assert_eq!(rt; given.as_slice(), want);
+    }
     Ok(())
 }
