@@ -31,14 +31,16 @@ pub enum Said {
     OutOfMemory,
 }
 
-/// A connection to a peer, which gives what the peer sends and takes what it is sent. No call waits.
+/// A connection to a peer, which gives what the peer sends and takes what it is to be sent. Where it
+/// can't give or take yet it is to say so, and not to wait.
 ///
-/// Its three counts never fall. Each that stands at the last value of a u64 stays there, and is said to rise.
+/// Its three counts never fall. One that stands at the last value of a u64 stays there, and is said
+/// to rise. Each answer lets at most one of them rise, as the answer says; the others stay.
 pub trait Link: Drop {
     /// How often it has failed.
     ghost faults: { Self → ℕ };
 
-    /// How often it could neither give nor take yet.
+    /// How often it could not give, or not take, yet.
     ghost waits: { Self → ℕ };
 
     /// How often it was at its end.
