@@ -1,22 +1,25 @@
--- Pieces from a place in one of them on.
-use Rattle.std.proofs.Common.{◌≡◌, ℕ, ◌+◌, ◌<◌, List, [], ◌∷◌, length, get_or, map, drop, refl, arith, add-one}
-use Rattle.std.proofs.Math.Seq.{drop-cons}
+-- Pieces of which the first is used in part.
+use Rattle.std.proofs.Common.{◌≡◌, ◌∙◌, ℕ, ◌<◌, ◌≤◌, List, [], ◌∷◌, length, slice_index_or, map, drop, refl, ap, sym, arith}
 use Rattle.std.proofs.lemmas.List.{length-drop}
+use Rattle.std.specs.List.{concat}
+use Rattle.relay_outside.specs.MemoryLaws.{concat-nonempty_from}
 use Rattle.relay_outside.specs.Pieces.{nonempty_from, cut_first}
 
 nonempty_front : (piece : List ℕ) (pieces : List (List ℕ)) → 0 < length piece → piece ∷ pieces ≡ nonempty_from (piece ∷ pieces)
 nonempty_front [] pieces some = absurd (omega arith)
 nonempty_front (byte ∷ bytes) pieces some = refl
 
-module _ {X : Type 0} (f : X → List ℕ) where
-  -- the piece at that place comes first
-  pub cut_first-drop : (xs : List X) (i used : ℕ) (x : X) → i < length xs → x ≡ get_or xs i x
-      → cut_first used (map f (drop i xs)) ≡ drop used (f x) ∷ map f (drop (i + 1) xs)
-  cut_first-drop xs i used x h is = rw (add-one i, drop-cons xs i x h, ← is) refl
+pub none_left : (pieces : List (List ℕ)) → nonempty_from pieces ≡ [] → concat pieces ≡ []
+none_left pieces none = sym (concat-nonempty_from pieces) ∙ ap (λ (l : List (List ℕ)). concat l) none
 
-  -- where a byte of it is left, no empty piece comes before
-  pub cut_first-nonempty : (xs : List X) (i used : ℕ) (x : X) → i < length xs → x ≡ get_or xs i x → used < length (f x)
-      → cut_first used (map f (drop i xs)) ≡ nonempty_from (cut_first used (map f (drop i xs)))
-  cut_first-nonempty xs i used x h is less =
-      let some : 0 < length (drop used (f x)) = rw (length-drop used (f x)) (omega arith) in
-      rw (cut_first-drop xs i used x h is) (nonempty_front (drop used (f x)) (map f (drop (i + 1) xs)) some)
+module _ {X : Type 0} (f : X → List ℕ) where
+  -- where a byte of the first is left, no empty piece comes before
+  pub cut_first-nonempty : (xs : List X) (used : ℕ) (x : X) → 0 < length xs → x ≡ slice_index_or xs 0 x → used < length (f x)
+      → cut_first used (map f xs) ≡ nonempty_from (cut_first used (map f xs))
+  cut_first-nonempty [] used x some is less = absurd (omega arith)
+  cut_first-nonempty (y ∷ ys) used x some is less =
+      nonempty_front (drop used (f y)) (map f ys) (rw (length-drop used (f y), ← is) (omega arith))
+
+  pub cut_first-none : (xs : List X) (used : ℕ) → length xs ≤ 0 → cut_first used (map f xs) ≡ []
+  cut_first-none [] used none = refl
+  cut_first-none (x ∷ xs) used none = absurd (omega arith)

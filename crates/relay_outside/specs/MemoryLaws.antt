@@ -24,7 +24,7 @@ some_bytes : (room byte : ℕ) (bytes : List ℕ) → 0 < room → (0 < length (
 some_bytes room byte bytes some = (rw length-take (omega arith), rw length-take (omega arith))
 
 -- what a get that doesn't fail gives is the front of what was left
-gives_front : (room faults : ℕ) (pieces : List (List ℕ)) → 0 < room →
+pub gives_front : (room faults : ℕ) (pieces : List (List ℕ)) → 0 < room →
     GetStep room (Some (concat pieces)) (Some (concat (cut_first room (nonempty_from pieces)))) faults faults (gave_first (first_bytes room (nonempty_from pieces)))
 gives_front room faults [] some = record { count = tt; bytes = (refl, refl); cause = refl }
 gives_front room faults ([] ∷ pieces) some = gives_front room faults pieces some

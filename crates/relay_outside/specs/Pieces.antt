@@ -16,3 +16,8 @@ first_bytes room (piece ∷ pieces) = Some (take room piece)
 abbrev pub cut_first : ℕ → List (List ℕ) → List (List ℕ)
 cut_first used [] = []
 cut_first used (piece ∷ pieces) = drop used piece ∷ pieces
+
+-- the first piece, an empty one where there is none
+abbrev pub first_piece : List (List ℕ) → List ℕ
+first_piece [] = []
+first_piece (piece ∷ pieces) = piece

@@ -1,40 +1,46 @@
 //! Bytes that come in pieces.
-ghost use Rattle.std.specs.Prelude.{◌≡◌, ◌<◌, ◌≤◌, ◌-◌, length, map, take, drop, min, slice_index_or, option_map, IfSome};
-ghost use Rattle.relay_outside.specs.Pieces.{nonempty_from, first_bytes, cut_first};
+ghost use Rattle.std.specs.Prelude.{◌≡◌, ◌<◌, ◌≤◌, ◌-◌, [], ◌∷◌, ◌++◌, length, map, take, drop, min, option_map, IfSome, IfNone, OnOk, OnErr};
+ghost use Rattle.std.specs.List.{concat};
+ghost use Rattle.relay_outside.specs.Pieces.{nonempty_from, first_bytes, first_piece, cut_first};
 
+use std::alloc::AllocError;
+use std::collections::VecDeque;
 use std::marker::Model;
 
-/// The pieces that are left.
+/// The pieces that are left. One that was given whole is dropped when more is asked for.
 #[derive(Drop)]
 pub(crate) struct Pieces {
-    list: Vec<Vec<u8>>,
-    next: usize,
+    queue: VecDeque<Vec<u8>>,
+    // How much of the first was given.
     used: usize,
 }
 
 impl Model for Pieces {
-    ghost use Rattle.std.specs.Prelude.{List, ℕ, map, drop};
-    ghost use Rattle.relay_outside.specs.Pieces.{cut_first};
+    ghost use Rattle.std.specs.Prelude.{List, ℕ, ◌≤◌, length, map};
+    ghost use Rattle.relay_outside.specs.Pieces.{cut_first, first_piece};
 
     ghost Value = { List (List ℕ) };
 
-    ghost view = { λ p. cut_first p.used (map (λ v. v.items) (drop p.next p.list.items)) };
+    ghost view = { λ p. cut_first p.used (map (λ v. v.items) p.queue.items) };
+
+    ghost invariant = { λ p. p.used ≤ length (first_piece (map (λ v. v.items) p.queue.items)) };
 }
 
-// The place of the first byte that is left.
-fn first_left(list: &[Vec<u8>], mut next: usize, mut used: usize) -> (usize, usize)
-    ensures same { cut_first result.1 (map (λ v. v.items) (drop result.0 list.now))
-        ≡ nonempty_from (cut_first used (map (λ v. v.items) (drop next list.now))) }
-    ensures within { (d : _) → result.0 < length list.now → result.1 < length (slice_index_or list.now result.0 d).items }
+// Drops the pieces of which nothing is left, and says how much of the first was given then.
+fn drop_used(queue: &mut VecDeque<Vec<u8>>, mut used: usize) -> usize
+    ensures same { cut_first result (map (λ v. v.items) queue.new.items)
+        ≡ nonempty_from (cut_first used (map (λ v. v.items) queue.old.items)) }
+    ensures within { 0 < length queue.new.items → result < length (first_piece (map (λ v. v.items) queue.new.items)) }
+    ensures none { length queue.new.items ≡ 0 → result ≡ 0 }
 {
-    while next < list.len() {
-        if used < list[next].len() {
-            return (next, used);
+    while let Some(piece) = queue.front() {
+        if used < piece.len() {
+            return used;
         }
+        queue.pop_front();
         used = 0;
-        next += 1;
     }
-    (next, used)
+    0
 }
 
 // Copies as much of the piece from there on as there is room for.
@@ -53,10 +59,18 @@ impl Pieces {
         ensures { result ≡ map (λ v. v.items) list.items }
     {
         Pieces {
-            list,
-            next: 0,
+            queue: VecDeque::from_vec(list),
             used: 0,
         }
+    }
+
+    /// Adds a piece at the end. Where there is no memory for that, the piece is dropped.
+    pub(crate) fn add(&mut self, piece: Vec<u8>) -> Result<(), AllocError>
+        ensures ok { OnOk result (self.new ≡ self.old ++ piece.items ∷ []) }
+        ensures err { OnErr result (self.new ≡ self.old) }
+    {
+        self.queue.push_back(piece)?;
+        Ok(())
     }
 
     /// Gives as much of the first piece that isn't empty as there is room for, and says how much. None where nothing is left.
@@ -65,15 +79,16 @@ impl Pieces {
         ensures count { IfSome result (λ n. (0 < n) × (n ≤ length into.new)) }
         ensures bytes { option_map (λ n. take n into.new) result ≡ first_bytes (length into.new) (nonempty_from self.old) }
         ensures left { self.new ≡ cut_first (length into.new) (nonempty_from self.old) }
+        ensures none { IfNone result ((concat self.old ≡ []) × (self.new ≡ [])) }
     {
-        let (next, used) = first_left(&self.list, self.next, self.used);
-        self.next = next;
-        self.used = used;
-        if next >= self.list.len() {
-            return None;
+        self.used = drop_used(&mut self.queue, self.used);
+        match self.queue.front() {
+            None => None,
+            Some(piece) => {
+                let count = copy_from(piece, self.used, into);
+                self.used += count;
+                Some(count)
+            }
         }
-        let count = copy_from(&self.list[next], used, into);
-        self.used = used + count;
-        Some(count)
     }
 }

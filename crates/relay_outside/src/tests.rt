@@ -1,6 +1,6 @@
 ghost use Rattle.std.specs.Prelude.{◌<◌, length};
 
-use crate::{Got, MemSink, MemSource, Put, Sink, Source};
+use crate::{Got, Heard, Link, MemLink, MemSink, MemSource, Put, Said, Sink, Source};
 use std::alloc::{AllocError, Global};
 use std::test::Fail;
 
@@ -66,5 +66,78 @@ fn a_sink_fails_in_the_middle(rt: HostRuntime) -> Result<(), Fail> {
     assert_eq!(rt; sink.bytes(), b"\x01\x02".as_slice());
     assert!(rt; put(&mut sink, b"\x03\x04") == Put::Took(2));
     assert_eq!(rt; sink.bytes(), b"\x01\x02\x03\x04".as_slice());
+    Ok(())
+}
+
+// Writes the bytes that a recv with room for two gives, else a letter.
+fn hear<L: Link>(link: &mut L, out: &mut Vec<u8>) -> Result<(), AllocError> {
+    let mut buffer = [0u8; 2];
+    match link.recv(&mut buffer) {
+        Heard::Bytes(count) => out.extend_from_slice(&buffer[..count]),
+        Heard::End => out.extend_from_slice(b"E"),
+        Heard::NotYet => out.extend_from_slice(b"N"),
+        Heard::Failed => out.extend_from_slice(b"F"),
+    }
+}
+
+// Writes how many of two bytes a send took, else a letter.
+fn say<L: Link>(link: &mut L, out: &mut Vec<u8>) -> Result<(), AllocError> {
+    match link.send(b"xy") {
+        Said::Took(2) => out.extend_from_slice(b"2"),
+        Said::Took(_) => out.extend_from_slice(b"1"),
+        Said::NotYet => out.extend_from_slice(b"N"),
+        Said::Failed => out.extend_from_slice(b"F"),
+        Said::OutOfMemory => Err(AllocError),
+    }
+}
+
+// Makes the call of that letter, and writes what it answers.
+fn call(
+    link: &mut MemLink,
+    alloc: Global,
+    letter: u8,
+    out: &mut Vec<u8>,
+) -> Result<(), AllocError> {
+    match letter {
+        b'g' => link.give(b"abc".as_slice().to_vec(alloc)?)?,
+        b'h' => link.give(Vec::new(alloc))?,
+        b'e' => link.end(),
+        b'3' => link.room(Some(3)),
+        b'a' => link.room(None),
+        b'R' => link.fail_recv(),
+        b'S' => link.fail_send(),
+        b'r' => hear(link, out)?,
+        b's' => say(link, out)?,
+        b'v' => out.extend_from_slice(link.sent())?,
+        _ => out.extend_from_slice(&link.take_sent())?,
+    }
+    Ok(())
+}
+
+// What a new link answers to the calls of these letters.
+fn answers(alloc: Global, letters: &[u8]) -> Result<Vec<u8>, AllocError> {
+    let mut link = MemLink::new(alloc);
+    let mut out = Vec::new(alloc);
+    for letter in letters {
+        call(&mut link, alloc, *letter, &mut out)?;
+    }
+    Ok(out)
+}
+
+#[test]
+fn a_link_answers_as_its_input_its_room_and_its_faults_say(rt: HostRuntime) -> Result<(), Fail> {
+    for (calls, want) in [
+        // pieces in order, none that is empty, and the end after them
+        (b"rghgrrrrrergrrr".as_slice(), b"NabcabcNEabcE".as_slice()),
+        // one recv and one send fail, and take nothing
+        (b"gRSrrssvrr", b"FabF2xycN"),
+        // no more than the room, until there is more
+        (b"s3sssSssvasv", b"221NFNxyxyx2xyxyxxy"),
+        // what was handed over is gone
+        (b"sstvst", b"22xyxy2xy"),
+    ] {
+        let given = answers(rt.alloc(), calls)?;
+        assert_eq!(rt; given.as_slice(), want);
+    }
     Ok(())
 }

@@ -1,0 +1,82 @@
+ghost use Rattle.std.specs.Prelude.{◌<◌, length, List, ℕ};
+ghost use Rattle.std.specs.declared.option.Option.{Option};
+ghost use Rattle.relay_outside.specs.declared.link.Said.{Said};
+ghost use Rattle.relay_outside.specs.Told.{LinkTold, link_counts};
+ghost use Rattle.relay_outside.specs.Heard.{Came, came, HeardCount, CameTold, CameCounts, HearStep};
+ghost use Rattle.relay_outside.specs.Said.{SaidCount, SaidTold, SaidCounts, SayStep};
+
+/// The answer of a link that is asked for bytes.
+#[derive(Clone, Copy, Debug, PartialEq, Eq)]
+pub enum Heard {
+    /// It gave that many bytes, which stand at the front of the slice.
+    Bytes(usize),
+    /// The peer sends no more. Its ends rose.
+    End,
+    /// There is nothing yet. Its waits rose.
+    NotYet,
+    /// It gave nothing, and its faults rose.
+    Failed,
+}
+
+/// The answer of a link that is handed bytes.
+#[derive(Clone, Copy, Debug, PartialEq, Eq)]
+pub enum Said {
+    /// It took that many bytes from the front of the slice.
+    Took(usize),
+    /// It takes nothing yet. Its waits rose.
+    NotYet,
+    /// It took nothing, and its faults rose.
+    Failed,
+    /// It took nothing for want of memory.
+    OutOfMemory,
+}
+
+/// A connection to a peer, which gives what the peer sends and takes what it is to be sent. Where it
+/// can't give or take yet it is to say so, and not to wait.
+///
+/// Its three counts never fall. One that stands at the last value of a u64 stays there, and is said
+/// to rise. Each answer lets at most one of them rise, as the answer says; the others stay.
+pub trait Link: Drop {
+    /// How often it has failed.
+    ghost faults: { Self → ℕ };
+
+    /// How often it could not give, or not take, yet.
+    ghost waits: { Self → ℕ };
+
+    /// How often it was at its end.
+    ghost ends: { Self → ℕ };
+
+    /// The bytes that are left, those that it gave and those that it took, where it tells them.
+    ghost told: { Self → Option LinkTold };
+
+    /// A recv with that much room may answer so, and leave the link so.
+    ghost hears: { Self → ℕ → Came → Self → Type 0 };
+
+    /// A send of these bytes may answer so, and leave the link so.
+    ghost says: { Self → List ℕ → Said → Self → Type 0 };
+
+    /// Gives some of the bytes that are left. After each other answer what it tells is as before.
+    fn recv(&mut self, into: &mut [u8]) -> Heard
+        requires { 0 < length into.old }
+        ensures step { hears self.old (length into.old) (came result into.new) self.new }
+        ensures count { HeardCount into.new result }
+        ensures told { CameTold (told self.old) (told self.new) (came result into.new) }
+        ensures cause { CameCounts (link_counts (faults self.old) (waits self.old) (ends self.old))
+            (link_counts (faults self.new) (waits self.new) (ends self.new)) (came result into.new) };
+
+    /// Takes some of the bytes. After each other answer what it tells is as before.
+    fn send(&mut self, piece: &[u8]) -> Said
+        requires { 0 < length piece.now }
+        ensures step { says self.old piece.now result self.new }
+        ensures count { SaidCount piece.now result }
+        ensures told { SaidTold (told self.old) (told self.new) piece.now result }
+        ensures cause { SaidCounts (link_counts (faults self.old) (waits self.old) (ends self.old))
+            (link_counts (faults self.new) (waits self.new) (ends self.new)) result };
+
+    // What a step means, for callers that know only that it was made.
+    ghost hears_mean: { (l : Self) (room : ℕ) (answer : Came) (m : Self) → 0 < room → hears l room answer m
+        → HearStep room (told l) (told m) (link_counts (faults l) (waits l) (ends l)) (link_counts (faults m) (waits m) (ends m)) answer };
+
+    ghost says_mean: { (l : Self) (piece : List ℕ) (answer : Said) (m : Self) → 0 < length piece → says l piece answer m
+        → SayStep piece (told l) (told m) (link_counts (faults l) (waits l) (ends l)) (link_counts (faults m) (waits m) (ends m)) answer };
+}

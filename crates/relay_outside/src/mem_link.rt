@@ -1,0 +1,203 @@
+ghost use Rattle.std.specs.Prelude.{◌≡◌, ◌-◌, [], ◌∷◌, ◌++◌, None, Some, OnOk, OnErr, true, false};
+ghost use Rattle.std.specs.Option.{option_map};
+ghost use Rattle.relay_outside.specs.MemLinks.{mem_told, MemHears, MemSays, room_for};
+ghost use Rattle.relay_outside.specs.MemLinkLaws.{mem_hears_mean, mem_says_mean};
+
+use crate::pieces::Pieces;
+use crate::tally::Tally;
+use crate::{Heard, Link, Said};
+use past::Flow;
+use std::alloc::{AllocError, Global};
+use std::marker::Model;
+
+/// A link in memory. It tells its bytes.
+///
+/// A recv that doesn't fail gives as much of the first piece left that isn't empty as the slice
+/// holds. A send that doesn't fail takes as much as there is room for, or answers want of memory and
+/// changes nothing. What it tells that it took is what it has not handed over by `take_sent`.
+#[derive(Drop)]
+pub struct MemLink {
+    alloc: Global,
+    queue: Pieces,
+    closed: bool,
+    given: Flow<u8>,
+    output: Vec<u8>,
+    space: Option<u64>,
+    recv_due: bool,
+    send_due: bool,
+    tally: Tally,
+}
+
+impl Model for MemLink {
+    ghost use Rattle.relay_outside.specs.MemLinks.{MemLinkState};
+
+    ghost Value = { MemLinkState };
+
+    ghost view = { λ l. record {
+      pieces = l.queue;
+      ended = l.closed;
+      gave = l.given;
+      sent = l.output.items;
+      room = l.space;
+      recv_fails = l.recv_due;
+      send_fails = l.send_due;
+      counts = l.tally;
+    } };
+}
+
+// How many of so many bytes there is room for.
+fn fitting(space: Option<u64>, len: usize) -> usize
+    ensures { result ≡ room_for space len }
+{
+    match space {
+        None => len,
+        Some(room) => (len as u64).min(room) as usize,
+    }
+}
+
+// The room that is left after so many bytes.
+fn lessened(space: Option<u64>, count: usize) -> Option<u64>
+    ensures { result ≡ option_map (λ room. room - count) space }
+{
+    match space {
+        None => None,
+        Some(room) => Some(room.saturating_sub(count as u64)),
+    }
+}
+
+impl MemLink {
+    /// A link without input that has room for all.
+    pub fn new(alloc: Global) -> MemLink
+        ensures { result ≡ record {
+          pieces = [];
+          ended = false;
+          gave = [];
+          sent = [];
+          room = None;
+          recv_fails = false;
+          send_fails = false;
+          counts = record { faults = 0; waits = 0; ends = 0 };
+        } }
+    {
+        MemLink {
+            alloc,
+            queue: Pieces::new(Vec::new(alloc)),
+            closed: false,
+            given: Flow::new(),
+            output: Vec::new(alloc),
+            space: None,
+            recv_due: false,
+            send_due: false,
+            tally: Tally::new(),
+        }
+    }
+
+    /// Adds a piece of input. Where there is no memory for it, it is dropped and nothing changes.
+    pub fn give(&mut self, piece: Vec<u8>) -> Result<(), AllocError>
+        ensures ok { OnOk result (self.new ≡ record self.old { pieces = self.old.pieces ++ piece.items ∷ [] }) }
+        ensures err { OnErr result (self.new ≡ self.old) }
+    {
+        self.queue.add(piece)
+    }
+
+    /// Ends the input after its pieces.
+    pub fn end(&mut self)
+        ensures { self.new ≡ record self.old { ended = true } }
+    {
+        self.closed = true;
+    }
+
+    /// Sets how many bytes it takes from now on, None being any number.
+    pub fn room(&mut self, bytes: Option<u64>)
+        ensures { self.new ≡ record self.old { room = bytes } }
+    {
+        self.space = bytes;
+    }
+
+    /// Lets the next recv fail, and no other.
+    pub fn fail_recv(&mut self)
+        ensures { self.new ≡ record self.old { recv_fails = true } }
+    {
+        self.recv_due = true;
+    }
+
+    /// Lets the next send fail, and no other.
+    pub fn fail_send(&mut self)
+        ensures { self.new ≡ record self.old { send_fails = true } }
+    {
+        self.send_due = true;
+    }
+
+    /// What it took and hasn't handed over.
+    pub fn sent(&self) -> &[u8]
+        ensures { result.now ≡ self.now.sent }
+    {
+        &self.output
+    }
+
+    /// Hands over what it took, and keeps nothing of it.
+    pub fn take_sent(&mut self) -> Vec<u8>
+        ensures handed { result.items ≡ self.old.sent }
+        ensures left { self.new ≡ record self.old { sent = [] } }
+    {
+        std::mem::replace(&mut self.output, Vec::new(self.alloc))
+    }
+}
+
+impl Link for MemLink {
+    ghost faults = { λ l. l.counts.faults };
+
+    ghost waits = { λ l. l.counts.waits };
+
+    ghost ends = { λ l. l.counts.ends };
+
+    ghost told = { λ l. Some (mem_told l) };
+
+    ghost hears = { MemHears };
+
+    ghost says = { MemSays };
+
+    fn recv(&mut self, into: &mut [u8]) -> Heard {
+        if std::mem::replace(&mut self.recv_due, false) {
+            self.tally.add_fault();
+            return Heard::Failed;
+        }
+        match self.queue.give(into) {
+            Some(count) => {
+                self.given.add_all(&into[..count]);
+                Heard::Bytes(count)
+            }
+            None if self.closed => {
+                self.tally.add_end();
+                Heard::End
+            }
+            None => {
+                self.tally.add_wait();
+                Heard::NotYet
+            }
+        }
+    }
+
+    fn send(&mut self, piece: &[u8]) -> Said {
+        if std::mem::replace(&mut self.send_due, false) {
+            self.tally.add_fault();
+            return Said::Failed;
+        }
+        let count = fitting(self.space, piece.len());
+        if count == 0 {
+            self.tally.add_wait();
+            return Said::NotYet;
+        }
+        match self.output.extend_from_slice(&piece[..count]) {
+            Ok(()) => {
+                self.space = lessened(self.space, count);
+                Said::Took(count)
+            }
+            Err(_) => Said::OutOfMemory,
+        }
+    }
+
+    ghost hears_mean = { mem_hears_mean };
+
+    ghost says_mean = { mem_says_mean };
+}
