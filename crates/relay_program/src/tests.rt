@@ -9,8 +9,6 @@ use std::alloc::{AllocError, Global};
 use std::test::Fail;
 use stream_core::Reply;
 
-const DONE: Status = Status { code: 0, place: 0 };
-
 // The script in pieces of so many bytes.
 fn source(
     alloc: Global,
@@ -31,20 +29,30 @@ fn words(alloc: Global) -> Result<Vec<Vec<u8>>, Fail> {
     Ok(vec![in alloc; b"drill".to_vec(alloc)?]?)
 }
 
-// The status, or that memory was refused.
-fn answered(status: Status) -> Result<Status, AllocError> {
-    if status.code == 6 {
+// What was written, and below it the status where it isn't 0.
+fn told(alloc: Global, out: &MemSink, status: Status) -> Result<Vec<u8>, AllocError> {
+    let mut text = out.bytes().to_vec(alloc)?;
+    let Status { code, place } = status;
+    if code == 6 {
         return Err(AllocError);
     }
-    Ok(status)
+    if code != 0 {
+        let last = format!(in alloc; "code {code} at {place}\n")?;
+        text.extend_from_slice(last.as_str().as_bytes())?;
+    }
+    Ok(text)
 }
 
-// What a drill of the script, in pieces of so many bytes, answers and writes.
-fn drilled(alloc: Global, script: &[u8], piece: usize) -> Result<(Status, Vec<u8>), Fail> {
+// What a drill of the script, in pieces of so many bytes, tells.
+fn drilled_in(alloc: Global, script: &[u8], piece: usize) -> Result<Vec<u8>, Fail> {
     let mut input = source(alloc, script, piece, vec![in alloc]?)?;
     let mut out = MemSink::new(alloc, vec![in alloc]?);
-    let status = answered(run(alloc, &words(alloc)?, &mut input, &mut out))?;
-    Ok((status, out.bytes().to_vec(alloc)?))
+    let status = run(alloc, &words(alloc)?, &mut input, &mut out);
+    Ok(told(alloc, &out, status)?)
+}
+
+fn drilled(alloc: Global, script: &[u8]) -> Result<Vec<u8>, Fail> {
+    drilled_in(alloc, script, 4096)
 }
 
 const SECOND_BROADCAST: &[u8] = b"begin 1
@@ -86,12 +94,10 @@ inuse 5
 ";
 
 #[test]
-fn a_script_is_answered_line_by_line(rt: HostRuntime) -> Result<(), Fail> {
-    let alloc = rt.alloc();
-    for (script, status, replies) in [
-        (b"".as_slice(), DONE, b"".as_slice()),
-        (
-            b"begin 1
+fn a_viewer_is_sent_the_configuration_and_then_frames(rt: HostRuntime) -> Result<(), Fail> {
+    let told = drilled(
+        rt.alloc(),
+        b"begin 1
 push 1 vconfig 0 30
 push 1 key 0 500
 push 1 inter 40 100
@@ -101,8 +107,10 @@ take 2 0 av
 take 2 0 av
 take 2 0 av
 ",
-            DONE,
-            b"began 0
+    )?;
+    assert_eq!(rt;
+        told.as_slice(),
+        b"began 0
 pushed 1
 pushed 2
 pushed 3
@@ -111,10 +119,17 @@ item 2 1 vconfig 0 30
 item 2 2 key 0 500
 item 3 3 inter 40 100
 notyet 4
-",
-        ),
-        (
-            b"# A viewer that comes late starts at the newest keyframe.
+"
+            .as_slice()
+    );
+    Ok(())
+}
+
+#[test]
+fn a_viewer_that_comes_late_starts_at_the_newest_keyframe(rt: HostRuntime) -> Result<(), Fail> {
+    let told = drilled(
+        rt.alloc(),
+        b"# A comment, an empty line, and a last line without its feed.
 
 begin 1
 push 1 meta 0 20
@@ -127,8 +142,10 @@ take 2 0 av
 take 2 0 av
 take 2 0 av
 take 2 0 av",
-            DONE,
-            b"began 0
+    )?;
+    assert_eq!(rt;
+        told.as_slice(),
+        b"began 0
 pushed 1
 pushed 2
 pushed 3
@@ -139,39 +156,43 @@ item 5 1 meta 0 20
 item 5 2 vconfig 0 30
 item 5 5 key 80 500
 notyet 6
-",
-        ),
-        (
-            b"begin 1\nbegin 2\npush 2 key 0 1\ntake 7 0 av\n",
-            DONE,
-            b"began 0\ninuse 1\nnotpublisher 1\nnotplayer\n",
-        ),
-        (
-            b"join 2\nleave 2 0\nleave 2 0\nend 2\ncount\n",
-            DONE,
-            b"joined 0 0\nleft 0\nnotplayer\nnotpublisher -\ncounts 0 0 0 1 0\n",
-        ),
-        (
-            b"join 2\nfrob\nbegin 1\n",
-            Status { code: 4, place: 2 },
-            b"joined 0 0\n",
-        ),
-        (SECOND_BROADCAST, DONE, SECOND_BROADCAST_REPLIES),
-    ] {
-        let (got, written) = drilled(alloc, script, 4096)?;
-        assert_eq!(rt; got, status);
-        assert_eq!(rt; written.as_slice(), replies);
-    }
+"
+            .as_slice()
+    );
+    Ok(())
+}
+
+#[test]
+fn refused_calls_and_counts_are_answered(rt: HostRuntime) -> Result<(), Fail> {
+    let alloc = rt.alloc();
+    let told = drilled(alloc, b"begin 1\nbegin 2\npush 2 key 0 1\ntake 7 0 av\n")?;
+    assert_eq!(rt;
+        told.as_slice(),
+        b"began 0\ninuse 1\nnotpublisher 1\nnotplayer\n".as_slice()
+    );
+    let told = drilled(alloc, b"join 2\nleave 2 0\nleave 2 0\nend 2\ncount\n")?;
+    assert_eq!(rt;
+        told.as_slice(),
+        b"joined 0 0\nleft 0\nnotplayer\nnotpublisher -\ncounts 0 0 0 1 0\n".as_slice()
+    );
+    Ok(())
+}
+
+#[test]
+fn a_script_ends_at_its_end_or_at_a_line_outside(rt: HostRuntime) -> Result<(), Fail> {
+    let alloc = rt.alloc();
+    assert!(rt; drilled(alloc, b"")?.is_empty());
+    let told = drilled(alloc, b"join 2\nfrob\nbegin 1\n")?;
+    assert_eq!(rt; told.as_slice(), b"joined 0 0\ncode 4 at 2\n".as_slice());
     Ok(())
 }
 
 #[test]
 fn a_script_is_answered_the_same_however_it_is_cut(rt: HostRuntime) -> Result<(), Fail> {
     let alloc = rt.alloc();
-    for piece in [1, 2, 3, 64] {
-        let (got, written) = drilled(alloc, SECOND_BROADCAST, piece)?;
-        assert_eq!(rt; got, DONE);
-        assert_eq!(rt; written.as_slice(), SECOND_BROADCAST_REPLIES);
+    for piece in [1, 2, 3, 64, 4096] {
+        let told = drilled_in(alloc, SECOND_BROADCAST, piece)?;
+        assert_eq!(rt; told.as_slice(), SECOND_BROADCAST_REPLIES);
     }
     Ok(())
 }
@@ -184,10 +205,9 @@ fn a_lagging_player_skips_under_the_default_limits(rt: HostRuntime) -> Result<()
         script.extend_from_slice(b"push 1 key 0 4194304\n")?;
     }
     script.extend_from_slice(b"take 2 0 v\ntake 2 0 v\n")?;
-    let (got, written) = drilled(alloc, &script, 4096)?;
-    assert_eq!(rt; got, DONE);
+    let told = drilled(alloc, &script)?;
     assert_eq!(rt;
-        written.as_slice(),
+        told.as_slice(),
         b"joined 0 0
 began 0
 pushed 1
@@ -219,44 +239,55 @@ fn the_257th_player_finds_no_place(rt: HostRuntime) -> Result<(), Fail> {
     }
     script.extend_from_slice(b"join 2\n")?;
     replies.extend_from_slice(b"full\n")?;
-    let (got, written) = drilled(alloc, &script, 4096)?;
-    assert_eq!(rt; got, DONE);
-    assert_eq!(rt; written.as_slice(), replies.as_slice());
+    let told = drilled(alloc, &script)?;
+    assert_eq!(rt; told.as_slice(), replies.as_slice());
     Ok(())
+}
+
+// What a run with these words tells.
+fn run_with(alloc: Global, words: Vec<Vec<u8>>) -> Result<Vec<u8>, Fail> {
+    let mut input = source(alloc, b"begin 1\n", 8, vec![in alloc]?)?;
+    let mut out = MemSink::new(alloc, vec![in alloc]?);
+    let status = run(alloc, &words, &mut input, &mut out);
+    Ok(told(alloc, &out, status)?)
 }
 
 #[test]
 fn other_words_are_refused(rt: HostRuntime) -> Result<(), Fail> {
     let alloc = rt.alloc();
-    for words in [
-        vec![in alloc]?,
-        vec![in alloc; b"Drill".to_vec(alloc)?]?,
+    let refused = b"code 2 at 0\n".as_slice();
+    let none = run_with(alloc, vec![in alloc]?)?;
+    assert_eq!(rt; none.as_slice(), refused);
+    let other = run_with(alloc, vec![in alloc; b"Drill".to_vec(alloc)?]?)?;
+    assert_eq!(rt; other.as_slice(), refused);
+    let two = run_with(
+        alloc,
         vec![in alloc; b"drill".to_vec(alloc)?, b"".to_vec(alloc)?]?,
-    ] {
-        let mut input = source(alloc, b"begin 1\n", 8, vec![in alloc]?)?;
-        let mut out = MemSink::new(alloc, vec![in alloc]?);
-        let status = run(alloc, &words, &mut input, &mut out);
-        assert_eq!(rt; status, Status { code: 2, place: 0 });
-        assert!(rt; out.bytes().is_empty());
-    }
+    )?;
+    assert_eq!(rt; two.as_slice(), refused);
     Ok(())
+}
+
+// What a drill of three lines tells, where these calls of the source and of the sink fail.
+fn drilled_with_faults(
+    alloc: Global,
+    piece: usize,
+    gets: Vec<u64>,
+    puts: Vec<u64>,
+) -> Result<Vec<u8>, Fail> {
+    let mut input = source(alloc, b"begin 1\nbegin 2\nbegin 3\n", piece, gets)?;
+    let mut out = MemSink::new(alloc, puts);
+    let status = drill(alloc, &words(alloc)?, &mut input, &mut out);
+    Ok(told(alloc, &out, status)?)
 }
 
 #[test]
 fn a_fault_in_mid_stream_keeps_what_stands_before(rt: HostRuntime) -> Result<(), Fail> {
     let alloc = rt.alloc();
-    let script = b"begin 1\nbegin 2\nbegin 3\n".as_slice();
-    let mut input = source(alloc, script, 8, vec![in alloc; 1]?)?;
-    let mut out = MemSink::new(alloc, vec![in alloc]?);
-    let status = answered(drill(alloc, &words(alloc)?, &mut input, &mut out))?;
-    assert_eq!(rt; status, Status { code: 3, place: 0 });
-    assert_eq!(rt; out.bytes(), b"began 0\n".as_slice());
-
-    let mut input = source(alloc, script, 64, vec![in alloc]?)?;
-    let mut out = MemSink::new(alloc, vec![in alloc; 1]?);
-    let status = answered(drill(alloc, &words(alloc)?, &mut input, &mut out))?;
-    assert_eq!(rt; status, Status { code: 5, place: 0 });
-    assert_eq!(rt; out.bytes(), b"began 0\n".as_slice());
+    let of_source = drilled_with_faults(alloc, 8, vec![in alloc; 1]?, vec![in alloc]?)?;
+    assert_eq!(rt; of_source.as_slice(), b"began 0\ncode 3 at 0\n".as_slice());
+    let of_sink = drilled_with_faults(alloc, 64, vec![in alloc]?, vec![in alloc; 1]?)?;
+    assert_eq!(rt; of_sink.as_slice(), b"began 0\ncode 5 at 0\n".as_slice());
     Ok(())
 }
 
@@ -287,112 +318,131 @@ fn want_of_memory_in_the_sink_is_told_as_such(rt: HostRuntime) -> Result<(), Fai
     Ok(())
 }
 
+// What a drill tells of a line and a comment of so many bytes, with this end.
+fn drilled_with_comment(alloc: Global, length: usize, end: &[u8]) -> Result<Vec<u8>, Fail> {
+    let mut script = b"begin 1\n".to_vec(alloc)?;
+    script.extend_from_slice(vec![in alloc; b'#'; length]?.as_slice())?;
+    script.extend_from_slice(end)?;
+    drilled(alloc, &script)
+}
+
 #[test]
 fn a_line_has_at_most_65536_bytes(rt: HostRuntime) -> Result<(), Fail> {
     let alloc = rt.alloc();
-    for (len, end, status) in [
-        (65536, b"\n".as_slice(), DONE),
-        (65536, b"", DONE),
-        (65537, b"\n", Status { code: 4, place: 2 }),
-        (65537, b"", Status { code: 4, place: 2 }),
-    ] {
-        let mut script = b"begin 1\n".to_vec(alloc)?;
-        let comment = vec![in alloc; b'#'; len]?;
-        script.extend_from_slice(&comment)?;
-        script.extend_from_slice(end)?;
-        let (got, written) = drilled(alloc, &script, 4096)?;
-        assert_eq!(rt; got, status);
-        assert_eq!(rt; written.as_slice(), b"began 0\n".as_slice());
-    }
+    let inside = b"began 0\n".as_slice();
+    let outside = b"began 0\ncode 4 at 2\n".as_slice();
+    assert_eq!(rt;
+        drilled_with_comment(alloc, 65_536, b"\n")?.as_slice(),
+        inside
+    );
+    assert_eq!(rt;
+        drilled_with_comment(alloc, 65_536, b"")?.as_slice(),
+        inside
+    );
+    assert_eq!(rt;
+        drilled_with_comment(alloc, 65_537, b"\n")?.as_slice(),
+        outside
+    );
+    assert_eq!(rt;
+        drilled_with_comment(alloc, 65_537, b"")?.as_slice(),
+        outside
+    );
     Ok(())
 }
 
-#[derive(Clone, Copy, Debug, PartialEq, Eq)]
-enum Verdict {
-    Nothing,
-    Step,
-    Outside,
-}
-
-fn judged(alloc: Global, line: &[u8]) -> Result<Verdict, AllocError> {
+// `.` for a line that does nothing, `+` for a step, `-` for a line outside the grammar.
+fn judged(alloc: Global, line: &[u8]) -> Result<u8, AllocError> {
     match drill_line(alloc, line) {
-        Ok(DrillLine::Nothing) => Ok(Verdict::Nothing),
-        Ok(DrillLine::Step(_)) => Ok(Verdict::Step),
-        Err(LineFail::Outside) => Ok(Verdict::Outside),
+        Ok(DrillLine::Nothing) => Ok(b'.'),
+        Ok(DrillLine::Step(_)) => Ok(b'+'),
+        Err(LineFail::Outside) => Ok(b'-'),
         Err(LineFail::OutOfMemory) => Err(AllocError),
     }
 }
 
+// Those of the lines that aren't what their first byte says.
+fn misjudged(alloc: Global, lines: &[u8]) -> Result<Vec<u8>, AllocError> {
+    let mut wrong = Vec::new(alloc);
+    for case in lines.split(|b| *b == b'\n') {
+        let [mark, line @ ..] = case else {
+            continue;
+        };
+        if judged(alloc, line)? != *mark {
+            wrong.extend_from_slice(case)?;
+            wrong.push(b'\n')?;
+        }
+    }
+    Ok(wrong)
+}
+
 #[test]
-fn a_line_is_inside_the_grammar_or_outside(rt: HostRuntime) -> Result<(), Fail> {
-    let alloc = rt.alloc();
-    for line in [b"".as_slice(), b"#", b"# \t\r", b"#begin 1"] {
-        assert_eq!(rt; judged(alloc, line)?, Verdict::Nothing);
-    }
-    for line in [
-        b"begin 0".as_slice(),
-        b"begin 4294967295",
-        b"end 1",
-        b"join 1",
-        b"leave 1 255",
-        b"take 1 0 av",
-        b"take 1 0 a",
-        b"take 1 0 v",
-        b"take 1 255 n",
-        b"count",
-        b"push 1 key 4294967295 4194304",
-        b"push 1 inter 0 0",
-        b"push 1 audio 0 1",
-        b"push 1 data 0 65537",
-        b"push 1 meta 0 65536",
-        b"push 1 vconfig 0 65536",
-        b"push 1 aconfig 0 65536",
-    ] {
-        assert_eq!(rt; judged(alloc, line)?, Verdict::Step);
-    }
-    for line in [
-        b" ".as_slice(),
-        b" #",
-        b"begin",
-        b"begin ",
-        b"begin  1",
-        b"begin 1 ",
-        b"begin 1\r",
-        b"begin\t1",
-        b" begin 1",
-        b"Begin 1",
-        b"begin 01",
-        b"begin +1",
-        b"begin -1",
-        b"begin 1x",
-        b"begin 4294967296",
-        b"begin 18446744073709551617",
-        b"begin 1 2",
-        b"end",
-        b"join 1 2",
-        b"leave 1",
-        b"leave 1 256",
-        b"take 1 0",
-        b"take 1 0 va",
-        b"take 1 256 av",
-        b"take 1 0 av av",
-        b"count 1",
-        b"count ",
-        b"push 1 key 0",
-        b"push 1 Key 0 1",
-        b"push 1 keys 0 1",
-        b"push 1 key 4294967296 1",
-        b"push 1 key 0 4194305",
-        b"push 1 meta 0 65537",
-        b"push 1 vconfig 0 65537",
-        b"push 1 aconfig 0 65537",
-        b"push 1 key 0 1 2",
-        b"ring 1000 16 4",
-        b"held",
-        b"frob",
-    ] {
-        assert_eq!(rt; judged(alloc, line)?, Verdict::Outside);
-    }
+fn a_line_is_inside_the_grammar(rt: HostRuntime) -> Result<(), Fail> {
+    let wrong = misjudged(
+        rt.alloc(),
+        b".
+.#
+.# \t\r
+.#begin 1
++begin 0
++begin 4294967295
++end 1
++join 1
++leave 1 255
++take 1 0 av
++take 1 0 a
++take 1 0 v
++take 1 255 n
++count
++push 1 key 4294967295 4194304
++push 1 inter 0 0
++push 1 audio 0 1
++push 1 data 0 65537
++push 1 meta 0 65536
++push 1 vconfig 0 65536
++push 1 aconfig 0 65536
+",
+    )?;
+    assert_eq!(rt; wrong.as_slice(), b"".as_slice());
+    Ok(())
+}
+
+#[test]
+fn a_line_is_outside_the_grammar(rt: HostRuntime) -> Result<(), Fail> {
+    let wrong = misjudged(
+        rt.alloc(),
+        b"- \n- #\n-begin\n-begin \n-begin  1\n-begin 1 \n-begin 1\r\n-begin\t1\n- begin 1
+-Begin 1
+-begin 01
+-begin +1
+-begin -1
+-begin 1x
+-begin 4294967296
+-begin 18446744073709551617
+-begin 1 2
+-end
+-join 1 2
+-leave 1
+-leave 1 256
+-take 1 0
+-take 1 0 va
+-take 1 256 av
+-take 1 0 av av
+-count 1
+-count \n-push 1 key 0
+-push 1 Key 0 1
+-push 1 keys 0 1
+-push 1 key 4294967296 1
+-push 1 key 0 4194305
+-push 1 meta 0 65537
+-push 1 vconfig 0 65537
+-push 1 aconfig 0 65537
+-push 1 key 0 1 2
+-ring 1000 16 4
+-held
+-frob
+",
+    )?;
+    assert_eq!(rt; wrong.as_slice(), b"".as_slice());
     Ok(())
 }
 
