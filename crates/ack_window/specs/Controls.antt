@@ -15,8 +15,8 @@ pub record Row : Type 0 where
   pub least : List ℕ → ℕ
   pub says : List ℕ → Control
 
-abbrev pub row : ℕ → (List ℕ → ℕ) → (List ℕ → Control) → Row
-row kind least says = record { kind = kind; least = least; says = says }
+abbrev pub row_for : ℕ → (List ℕ → ℕ) → (List ℕ → Control) → Row
+row_for kind least says = record { kind = kind; least = least; says = says }
 
 -- the event of a user control message (6.2)
 abbrev pub event_in : List ℕ → ℕ
@@ -33,12 +33,12 @@ least_user body = if event_in body == 6 then 6 else 2
 -- THE TABLE. Longer bodies are accepted (own)
 abbrev pub table : List Row
 table =
-    row 1 (λ _. 4) (λ body. ChunkSize (be32_of body))
-    ∷ row 2 (λ _. 4) (λ body. Abort (be32_of body))
-    ∷ row 3 (λ _. 4) (λ body. Acknowledgement (be32_of body))
-    ∷ row 4 least_user (λ body. User (event_in body) (value_in body))
-    ∷ row 5 (λ _. 4) (λ body. Window (be32_of body))
-    ∷ row 6 (λ _. 5) (λ body. Bandwidth (be32_of body) (slice_index body 4))
+    row_for 1 (λ _. 4) (λ body. ChunkSize (be32_of body))
+    ∷ row_for 2 (λ _. 4) (λ body. Abort (be32_of body))
+    ∷ row_for 3 (λ _. 4) (λ body. Acknowledgement (be32_of body))
+    ∷ row_for 4 least_user (λ body. User (event_in body) (value_in body))
+    ∷ row_for 5 (λ _. 4) (λ body. Window (be32_of body))
+    ∷ row_for 6 (λ _. 5) (λ body. Bandwidth (be32_of body) (slice_index body 4))
     ∷ []
 
 -- the row of a type
