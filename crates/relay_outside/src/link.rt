@@ -31,8 +31,8 @@ pub enum Said {
     OutOfMemory,
 }
 
-/// A connection to a peer, which gives what the peer sends and takes what it is to be sent. Where it
-/// can't give or take yet it is to say so, and not to wait.
+/// A connection to a peer, which gives what the peer sends and takes what the peer is to be sent. Where
+/// it can't give or take yet it is to say so, and not to wait.
 ///
 /// Its three counts never fall. One that stands at the last value of a u64 stays there, and is said
 /// to rise. Each answer lets at most one of them rise, as the answer says; the others stay.

@@ -14,13 +14,14 @@ use std::marker::Model;
 ///
 /// A recv that doesn't fail gives as much of the first piece left that isn't empty as the slice
 /// holds. A send that doesn't fail takes as much as there is room for, or answers want of memory and
-/// changes nothing. What it tells that it took is what it has not handed over by `take_sent`.
+/// changes nothing. It tells all that it took, also what it has handed over.
 #[derive(Drop)]
 pub struct MemLink {
     alloc: Global,
     queue: Pieces,
     closed: bool,
     given: Flow<u8>,
+    taken: Flow<u8>,
     output: Vec<u8>,
     space: Option<u64>,
     recv_due: bool,
@@ -37,6 +38,7 @@ impl Model for MemLink {
       pieces = l.queue;
       ended = l.closed;
       gave = l.given;
+      took = l.taken;
       sent = l.output.items;
       room = l.space;
       recv_fails = l.recv_due;
@@ -72,6 +74,7 @@ impl MemLink {
           pieces = [];
           ended = false;
           gave = [];
+          took = [];
           sent = [];
           room = None;
           recv_fails = false;
@@ -84,6 +87,7 @@ impl MemLink {
             queue: Pieces::new(Vec::new(alloc)),
             closed: false,
             given: Flow::new(),
+            taken: Flow::new(),
             output: Vec::new(alloc),
             space: None,
             recv_due: false,
@@ -190,6 +194,7 @@ impl Link for MemLink {
         }
         match self.output.extend_from_slice(&piece[..count]) {
             Ok(()) => {
+                self.taken.add_all(&piece[..count]);
                 self.space = lessened(self.space, count);
                 Said::Took(count)
             }

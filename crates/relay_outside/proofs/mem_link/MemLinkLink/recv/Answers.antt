@@ -13,6 +13,7 @@ returns-in-Some-clause-told c =
       pieces = c.give.new.self;
       ended = inside.closed;
       gave = c.add_all.new.self;
+      took = inside.taken;
       sent = inside.output.items;
       room = inside.space;
       recv_fails = c.replace.new.dest;
