@@ -10,7 +10,7 @@ use Rattle.chunk_reader.specs.Control.{by_message, dropped, refused_size}
 use Rattle.chunk_writer.specs.declared.begun.Begun.{Begun}
 use Rattle.chunk_writer.specs.Known.{Known, fresh, sized}
 use Rattle.chunk_writer.specs.Rule.{begun_in, id_for, last_on}
-use Rattle.chunk_writer.specs.Written.{after, told}
+use Rattle.chunk_writer.specs.Written.{after, resized_by}
 use Rattle.chunk_law.proofs.Begins.{Agrees}
 use Rattle.chunk_law.proofs.Cuts.{during}
 use Rattle.chunk_law.proofs.Empties.{drop_none}
@@ -140,7 +140,7 @@ not_short : (n : ℕ) → nat_lt n 4 ≡ not (nat_le 4 n)
 not_short n = grind (arith, nat_tests)
 
 -- a message that says something of the chunks after it is taken by both alike
-pub follows_told : (w : Known) (s : State) (m : Message) → Follows w s → refused_size m ≡ None → Follows (told m w) (by_message m s)
-unfolding by_message told
-follows_told w s m f sized =
+pub follows_resized : (w : Known) (s : State) (m : Message) → Follows w s → refused_size m ≡ None → Follows (resized_by m w) (by_message m s)
+unfolding by_message resized_by
+follows_resized w s m f sized =
     rw (not_short (length m.body)) (told_case (nat_eq m.kind 1) (nat_le 4 (length m.body)) (nat_eq m.kind 2) (be32_of m.body) w s f (sized_some m sized))

@@ -20,7 +20,7 @@ use Rattle.chunk_law.specs.ReadBack.{AreReadable, IsReadBack, IsReadable, placed
 use Rattle.chunk_law.proofs.Begins.{delta_most, leads_after, leads_on, room_after}
 use Rattle.chunk_law.proofs.Cuts.{Cut, Writes, during, message_cut}
 use Rattle.chunk_law.proofs.Empties.{part_none}
-use Rattle.chunk_law.proofs.Follows.{Follows, few, follows_after, follows_fresh, follows_told}
+use Rattle.chunk_law.proofs.Follows.{Follows, few, follows_after, follows_fresh, follows_resized}
 use Rattle.chunk_law.proofs.Opened.{IsSaid, Leads, Opens, holding, opens}
 use Rattle.chunk_law.proofs.Puts.{has, has_put, kept_put}
 
@@ -89,7 +89,7 @@ passes max w s m r f =
     record {
       t = by_message m done;
       cut = subst C (bytes_are w s m f.size_is) (message_cut max s.size x s.kept (header_with 3 x) m.body (header_with x.format x) writes (first w s m f said r.time));
-      follows = follows_told (Writing.after w m) done m (follows_after w s m f said) r.sized;
+      follows = follows_resized (Writing.after w m) done m (follows_after w s m f said) r.sized;
     }
 
 are_joined : (max : ℕ) (s : State) (cs ds : List (List ℕ)) → AreChunks max s cs → AreChunks max (state_after s cs) ds → AreChunks max s (cs ++ ds)

@@ -142,6 +142,10 @@ fn come_back(alloc: Global, size: u32) -> Result<usize, Fail>
 {
     let bytes = written(alloc, size)?;
     let messages = read(alloc, bytes.as_slice(), 1_000)?;
+    let resize = control_message(alloc, Control::ChunkSize(size))?;
+    if messages.first() != Some(&resize) {
+        return Ok(0);
+    }
     for number in 0..MESSAGES {
         let wanted = message_of(alloc, number)?;
         let place = number as usize + 1;

@@ -5,7 +5,7 @@ use Rattle.chunk_writer.specs.Known.{Known}
 use Rattle.std.proofs.Common.{Option}
 use Rattle.chunk_writer.specs.declared.begun.Begun.{Begun}
 use Rattle.chunk_writer.specs.Rule.{begun_after, begun_in, id_for, last_on}
-use Rattle.chunk_writer.specs.Sound.{Recalls}
+use Rattle.chunk_writer.specs.Sound.{AreLasts}
 use Rattle.chunk_writer.specs.Written.{after_all, bytes_of, message_bytes, next, written}
 
 pub after_more : (w : Known) (ms : List Message) (m : Message) → after_all w (ms ++ m ∷ []) ≡ next (after_all w ms) m
@@ -25,7 +25,7 @@ written_more w (x ∷ ms) m =
     ∙ sym (append_assoc (bytes_of w x) (written (next w x) ms) (bytes_of (after_all (next w x) ms) m))
 
 -- how a message is begun is found by the last on each chunk stream alone
-pub begun_is : (lasts said : List Begun) (m : Message) (id : ℕ) (last : Option Begun) (b : Begun) → Recalls lasts said → id ≡ id_for m.kind → last ≡ last_on id lasts → b ≡ begun_after last m → b ≡ begun_in said m
+pub begun_is : (lasts said : List Begun) (m : Message) (id : ℕ) (last : Option Begun) (b : Begun) → AreLasts lasts said → id ≡ id_for m.kind → last ≡ last_on id lasts → b ≡ begun_after last m → b ≡ begun_in said m
 begun_is lasts said m id last b r i l e = e ∙ ap (λ (o : Option Begun). begun_after o m) (l ∙ r.recalls id ∙ ap (λ (n : ℕ). last_on n said) i)
 
 pub bytes_are : (size : ℕ) (said : List Begun) (m : Message) (b : Begun) → b ≡ begun_in said m → message_bytes size b m.body ≡ bytes_of (record { size = size; said = said }) m

@@ -49,11 +49,11 @@ abbrev pub after : Known → Message → Known
 after w m = record { size = w.size; said = begun_in w.said m ∷ w.said }
 
 -- the writer, where a Set Chunk Size message sets the size for what comes after it (5.4.1)
-unfoldable pub told : Message → Known → Known
-told m w = if nat_eq m.kind 1 && nat_le 4 (length m.body) then sized (be32_of m.body) w else w
+unfoldable pub resized_by : Message → Known → Known
+resized_by m w = if nat_eq m.kind 1 && nat_le 4 (length m.body) then sized (be32_of m.body) w else w
 
 abbrev pub next : Known → Message → Known
-next w m = told m (after w m)
+next w m = resized_by m (after w m)
 
 -- the bytes of messages in turn, the chunk size being set directly after each Set Chunk Size message and nowhere else
 unfoldable pub written : Known → List Message → List ℕ

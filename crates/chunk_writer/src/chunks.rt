@@ -3,13 +3,14 @@ ghost use Rattle.std.specs.Prelude.{◌≡◌, ◌≤◌, ◌<◌, ◌^◌, ◌+
 ghost use Rattle.chunk_writer.specs.Written.{IsBegun, extended_bytes, header_with, message_bytes, spread};
 
 use crate::Begun;
+use crate::begun::EXTENDED;
 use av_unit::{Bytes, OutOfMemory};
 use chunk_wire::{Head, write_head};
 
-// The most bytes of a basic header with a message header and extended time, and of a format 3 header with extended time.
-const FIRST: usize = 18;
+// The bytes of the longest message header (5.3.1.2.1), and of extended time.
+const MESSAGE_HEADER: usize = 11;
 
-const FURTHER: usize = 7;
+const EXTENDED_TIME: usize = 4;
 
 // Appends the extended time of a message that has one.
 #[tactic(auto, unfolding(crate::specs::Written::extended_bytes))]
@@ -34,7 +35,7 @@ fn write_header(format: u8, begun: &Begun, out: &mut Bytes) -> Result<(), OutOfM
     let head = Head {
         format,
         id: begun.id,
-        field: begun.terms.delta.min(0xFF_FFFF),
+        field: begun.terms.delta.min(EXTENDED),
         length: begun.terms.length,
         kind: begun.terms.kind,
         stream: begun.terms.stream,
@@ -74,17 +75,23 @@ fn write_payload(
     out.append(left)
 }
 
-// How many bytes a message of that length has as chunks at most.
-fn room_for(size: usize, length: usize) -> usize
+// How many bytes a message that is begun so has as chunks, or a few more.
+fn room_for(begun: &Begun, size: usize, length: usize) -> usize
     requires size { 1 ≤ size }
     requires length { length < 2 ^ 24 }
     ensures { result < 2 ^ 32 }
 {
-    FIRST + length + length / size * FURTHER
+    let basic = if begun.id < 64 { 1 } else { 3 };
+    let extended = if begun.terms.extended {
+        EXTENDED_TIME
+    } else {
+        0
+    };
+    basic + MESSAGE_HEADER + extended + length + length / size * (basic + extended)
 }
 
 /// Appends the message. A refusal leaves what `out` held as the beginning of what it holds.
-pub fn write_message(
+pub(crate) fn write_message(
     size: usize,
     begun: &Begun,
     body: &[u8],
@@ -96,7 +103,7 @@ pub fn write_message(
     ensures ok { OnOk result (out.new ≡ out.old ++ message_bytes size begun.now body.now) }
     ensures err { OnErr result ((rest : List ℕ) × (out.new ≡ out.old ++ rest)) }
 {
-    out.reserve(room_for(size, body.len()))?;
+    out.reserve(room_for(begun, size, body.len()))?;
     write_header(begun.format, begun, out)?;
     write_payload(begun, size, body, out)
 }

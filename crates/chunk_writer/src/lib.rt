@@ -5,6 +5,7 @@
 
 mod begun;
 mod chunks;
+mod lasts;
 mod laws;
 mod rule;
 mod writer;

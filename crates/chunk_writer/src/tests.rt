@@ -89,23 +89,37 @@ fn the_format_is_chosen_by_the_message_before(rt: HostRuntime) -> Result<(), Fai
     send(&mut writer, alloc, 8, 1, 0, b"a", &mut out)?;
     send(&mut writer, alloc, 8, 1, 40, b"b", &mut out)?;
     send(&mut writer, alloc, 8, 1, 80, b"c", &mut out)?;
-    send(&mut writer, alloc, 8, 1, 120, b"de", &mut out)?;
-    send(&mut writer, alloc, 8, 1, 160, b"fg", &mut out)?;
-    send(&mut writer, alloc, 8, 1, 150, b"hi", &mut out)?;
-    send(&mut writer, alloc, 8, 2, 300, b"jk", &mut out)?;
-    send(&mut writer, alloc, 8, 2, 16_777_515, b"lm", &mut out)?;
-    send(&mut writer, alloc, 8, 2, 33_554_730, b"no", &mut out)?;
+    send(&mut writer, alloc, 8, 1, 120, b"d", &mut out)?;
+    send(&mut writer, alloc, 8, 1, 150, b"e", &mut out)?;
+    send(&mut writer, alloc, 8, 1, 170, b"f", &mut out)?;
+    send(&mut writer, alloc, 8, 1, 210, b"gh", &mut out)?;
+    send(&mut writer, alloc, 8, 1, 250, b"i", &mut out)?;
+    send(&mut writer, alloc, 8, 1, 290, b"j", &mut out)?;
+    send(&mut writer, alloc, 8, 1, 330, b"kl", &mut out)?;
+    send(&mut writer, alloc, 8, 1, 340, b"mn", &mut out)?;
+    send(&mut writer, alloc, 8, 1, 330, b"op", &mut out)?;
+    send(&mut writer, alloc, 8, 1, 340, b"q", &mut out)?;
+    send(&mut writer, alloc, 8, 2, 340, b"r", &mut out)?;
+    send(&mut writer, alloc, 8, 2, 16_777_555, b"s", &mut out)?;
+    send(&mut writer, alloc, 8, 2, 33_554_770, b"t", &mut out)?;
     assert_eq!(rt;
         out.as_slice(),
         b"\x06\x00\x00\x00\x00\x00\x01\x08\x01\x00\x00\x00a\
 \x86\x00\x00\x28b\
 \xc6c\
-\x46\x00\x00\x28\x00\x00\x02\x08de\
-\xc6fg\
-\x06\x00\x00\x96\x00\x00\x02\x08\x01\x00\x00\x00hi\
-\x06\x00\x01\x2c\x00\x00\x02\x08\x02\x00\x00\x00jk\
-\x86\xff\xff\xff\x00\xff\xff\xfflm\
-\x86\xff\xff\xff\x00\xff\xff\xffno"
+\xc6d\
+\x86\x00\x00\x1ee\
+\x86\x00\x00\x14f\
+\x46\x00\x00\x28\x00\x00\x02\x08gh\
+\x46\x00\x00\x28\x00\x00\x01\x08i\
+\xc6j\
+\x46\x00\x00\x28\x00\x00\x02\x08kl\
+\x86\x00\x00\x0amn\
+\x06\x00\x01\x4a\x00\x00\x02\x08\x01\x00\x00\x00op\
+\x46\x00\x00\x0a\x00\x00\x01\x08q\
+\x06\x00\x01\x54\x00\x00\x01\x08\x02\x00\x00\x00r\
+\x86\xff\xff\xff\x00\xff\xff\xffs\
+\x86\xff\xff\xff\x00\xff\xff\xfft"
             .as_slice()
     );
     Ok(())

@@ -1,20 +1,20 @@
 ghost use Rattle.std.specs.Prelude.{◌≡◌, ◌≤◌, ◌<◌, ◌^◌, ◌∷◌, ◌++◌, List, ℕ, length, true, MatchOption, OnOk, OnErr};
 ghost use Rattle.chunk_writer.specs.Known.{fresh, sized};
 ghost use Rattle.chunk_writer.specs.Rule.{begun_in, is_written};
-ghost use Rattle.chunk_writer.specs.Sound.{Recalls, place};
 ghost use Rattle.chunk_writer.specs.Written.{after, bytes_of};
 
 use crate::Begun;
 use crate::chunks::write_message;
-use crate::rule::{begin, id_of, last_of};
+use crate::lasts::{Found, find, keep};
+use crate::rule::{begin, id_of};
 use av_unit::{Bytes, OutOfMemory};
 use chunk_wire::Message;
 use past::History;
 use std::alloc::Global;
 use std::marker::Model;
 
-/// A writer of chunks. It keeps its chunk size, and how the last message on each chunk stream was begun; the messages
-/// of this relay use five chunk streams.
+/// A writer of chunks. It keeps its chunk size and how the last message on each chunk stream was begun, which are five
+/// at most.
 #[derive(Drop)]
 pub struct Writer {
     size: u32,
@@ -31,40 +31,6 @@ impl Model for Writer {
     ghost view = { λ w. record { size = w.size; said = w.said } };
 
     ghost invariant = { λ w. IsSound w.size w.lasts.items w.said };
-}
-
-// The place of the last message on a chunk stream.
-fn place_of(lasts: &[Begun], id: u32) -> Option<usize>
-    ensures { MatchOption result (length lasts.now ≤ place id lasts.now) (λ i. (i ≡ place id lasts.now) × (i < length lasts.now)) }
-{
-    let mut left = lasts;
-    let mut i = 0;
-    while let [begun, rest @ ..] = left {
-        if begun.id == id {
-            return Some(i);
-        }
-        i += 1;
-        left = rest;
-    }
-    None
-}
-
-// Keeps how the last message on its chunk stream was begun.
-#[tactic(auto, using(crate::proofs::Recalling::recalls_set, crate::proofs::Recalling::recalls_push))]
-fn keep(lasts: &mut Vec<Begun>, begun: Begun) -> Result<(), OutOfMemory>
-    ensures ok { OnOk result ((said : List Begun) → Recalls lasts.old.items said → Recalls lasts.new.items (begun ∷ said)) }
-    ensures err { OnErr result (lasts.new.items ≡ lasts.old.items) }
-{
-    match place_of(lasts, begun.id) {
-        Some(i) => {
-            lasts[i] = begun;
-            Ok(())
-        }
-        None => {
-            lasts.push(begun)?;
-            Ok(())
-        }
-    }
 }
 
 impl Writer {
@@ -95,9 +61,11 @@ impl Writer {
         ensures ok { OnOk result ((self.new ≡ after self.old message.now) × (out.new ≡ out.old ++ bytes_of self.old message.now)) }
         ensures err { OnErr result ((self.new ≡ self.old) × ((rest : List ℕ) × (out.new ≡ out.old ++ rest))) }
     {
-        let begun = begin(last_of(&self.lasts, id_of(message.kind)), message);
+        let id = id_of(message.kind);
+        let Found { place, last } = find(&self.lasts, id);
+        let begun = begin(id, last, message);
         write_message(self.size as usize, &begun, message.body.as_slice(), out)?;
-        keep(&mut self.lasts, begun)?;
+        keep(&mut self.lasts, place, begun)?;
         self.said.add(&begun);
         Ok(())
     }

@@ -1,5 +1,6 @@
 //! Bytes a second of the reader of chunks, beside a plain copy of the same bytes.
 
+use crate::rates::megabytes;
 use chunk_reader::{Fed, Reader};
 use std::alloc::{AllocError, Global};
 use std::io;
@@ -79,29 +80,22 @@ fn copy(alloc: Global, bytes: &[u8]) -> Result<u64, AllocError> {
     Ok(lists)
 }
 
-// Millions of bytes a second.
-fn rate(bytes: usize, micros: u128) -> u128 {
-    (bytes as u128)
-        .saturating_mul(u128::from(ROUNDS))
-        .checked_div(micros)
-        .unwrap_or(0)
-}
-
 /// Prints the bytes a second of the reader and of the copy.
 pub fn measure<R: Clock + Print>(rt: &R, alloc: Global) -> io::Result<()> {
     let bytes = video(alloc)?;
+    let all = (bytes.len() as u64).saturating_mul(ROUNDS);
     let start = Instant::now(rt)?;
     let mut ended = 0u64;
     for _ in 0..ROUNDS {
         ended = ended.saturating_add(read(alloc, bytes.as_slice()));
     }
-    let reader = rate(bytes.len(), start.elapsed(rt)?.as_micros());
+    let reader = megabytes(all, start.elapsed(rt)?.as_micros());
     let start = Instant::now(rt)?;
     let mut lists = 0u64;
     for _ in 0..ROUNDS {
         lists = lists.saturating_add(copy(alloc, bytes.as_slice())?);
     }
-    let copy = rate(bytes.len(), start.elapsed(rt)?.as_micros());
+    let copy = megabytes(all, start.elapsed(rt)?.as_micros());
     println!(rt; "reader: {ended} messages, {reader} MB a second")?;
     println!(rt; "copy: {lists} lists, {copy} MB a second")
 }

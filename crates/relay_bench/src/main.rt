@@ -3,6 +3,7 @@
 
 mod chunks;
 mod gate;
+mod rates;
 mod writing;
 
 use std::{env, io};

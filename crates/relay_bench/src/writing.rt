@@ -2,6 +2,7 @@
 ghost use Rattle.std.specs.Prelude.{◌≡◌, ◌<◌, ◌^◌, length, true};
 ghost use Rattle.chunk_writer.specs.Rule.{is_written};
 
+use crate::rates::megabytes;
 use av_unit::Bytes;
 use chunk_wire::Message;
 use chunk_writer::Writer;
@@ -57,20 +58,15 @@ fn copy(alloc: Global, body: &[u8]) -> Result<u64, AllocError> {
     Ok(made)
 }
 
-// Millions of bytes a second.
-fn rate(bytes: u64, micros: u128) -> u128 {
-    u128::from(bytes).checked_div(micros).unwrap_or(0)
-}
-
 /// Prints the bytes a second of the writer and of the copy.
 pub fn measure<R: Clock + Print>(rt: &R, alloc: Global) -> io::Result<()> {
     let message = video(alloc)?;
     let start = Instant::now(rt)?;
     let written = write(alloc, &message)?;
-    let writer = rate(written, start.elapsed(rt)?.as_micros());
+    let writer = megabytes(written, start.elapsed(rt)?.as_micros());
     let start = Instant::now(rt)?;
     let copied = copy(alloc, message.body.as_slice())?;
-    let copy = rate(copied, start.elapsed(rt)?.as_micros());
+    let copy = megabytes(copied, start.elapsed(rt)?.as_micros());
     println!(rt; "writer: {written} bytes, {writer} MB a second")?;
     println!(rt; "copy: {copied} bytes, {copy} MB a second")
 }

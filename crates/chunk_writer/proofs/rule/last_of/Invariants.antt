@@ -1,9 +1,0 @@
-use Rattle.std.proofs.Common.{◌≡◌, length}
-use Rattle.chunk_writer.specs.Rule.{last_on}
-use Rattle.chunk_writer.proofs.rule.last_of.Given as goal
-
-abbrev pub invariant-loop-left : goal.invariant-loop-left
-invariant-loop-left l = last_on l.fn.id l.fn.lasts ≡ last_on l.fn.id l.left
-
-abbrev pub decreases-loop-left : goal.decreases-loop-left
-decreases-loop-left l = length l.left
