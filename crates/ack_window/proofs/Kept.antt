@@ -39,7 +39,7 @@ pub least_window : (size : ℕ) (calls : List OutCall) → 1000 ≤ (outbound si
 least_window size calls = (good size calls).least
 
 -- calls after calls
-all_append : (s : OutWindow) (xs ys : List OutCall) → out_after_all s (xs ++ ys) ≡ out_after_all (out_after_all s xs) ys
+pub all_append : (s : OutWindow) (xs ys : List OutCall) → out_after_all s (xs ++ ys) ≡ out_after_all (out_after_all s xs) ys
 all_append s [] ys = refl
 all_append s (x ∷ xs) ys = all_append (out_after s x) xs ys
 

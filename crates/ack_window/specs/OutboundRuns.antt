@@ -1,5 +1,5 @@
 -- Calls at an `Outbound`, one after another.
-use Rattle.std.specs.Prelude.{◌≡◌, ℕ, ◌+◌, List, [], ◌∷◌, ◌++◌}
+use Rattle.std.specs.Prelude.{◌≡◌, ℕ, ◌+◌, ◌<◌, List, [], ◌∷◌, ◌++◌}
 use Rattle.ack_window.specs.Outbound.{OutWindow, new_out, out_set, out_sent, out_acked, meant}
 
 -- a call: Set Peer Bandwidth came with a size and a limit, so many bytes were sent, or an acknowledgement came
@@ -22,6 +22,13 @@ out_after_all s (call ∷ calls) = out_after_all (out_after s call) calls
 -- WHAT CALLS MAKE of an `Outbound` with a first window
 abbrev pub outbound : ℕ → List OutCall → OutWindow
 outbound size calls = out_after_all (new_out size) calls
+
+-- no call of these sets a window: none is a Set of limit 0 or 1
+abbrev pub KeepsWindow : List OutCall → Type 0
+KeepsWindow [] = Unit {0}
+KeepsWindow (Set size limit ∷ calls) = (1 < limit) × KeepsWindow calls
+KeepsWindow (Sent n ∷ calls) = KeepsWindow calls
+KeepsWindow (Acked value ∷ calls) = KeepsWindow calls
 
 -- how many bytes they send
 abbrev pub sent_by : List OutCall → ℕ

@@ -67,10 +67,10 @@ pub fn ping_answer(control: &Control) -> Option<Control>
         Control::User {
             event: PING_REQUEST,
             value,
-        } => Some(Control::User {
-            event: PING_RESPONSE,
-            value,
-        }),
+        } => {
+            let event = PING_RESPONSE;
+            Some(Control::User { event, value })
+        }
         _ => None,
     }
 }

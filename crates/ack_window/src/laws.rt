@@ -5,7 +5,7 @@ ghost use Rattle.ack_window.specs.Window.{window_of};
 ghost use Rattle.ack_window.specs.Inbound.{new_in, number_of};
 ghost use Rattle.ack_window.specs.InboundRuns.{InCall, Steps, acks_of, due, taken_by, window_at, last_window, multiples};
 ghost use Rattle.ack_window.specs.Outbound.{out_acked, behind, meant, IsHeldBack};
-ghost use Rattle.ack_window.specs.OutboundRuns.{OutCall, outbound, sent_by, meant_after, AckedIn, IsMeant};
+ghost use Rattle.ack_window.specs.OutboundRuns.{OutCall, outbound, sent_by, meant_after, AckedIn, IsMeant, KeepsWindow};
 
 /// The control that `control_message` writes is read by `control_of`, also where more bytes follow it.
 #[tactic(auto, using(crate::proofs::Controls::read_back, crate::proofs::Controls::read_back_longer))]
@@ -33,7 +33,6 @@ pub fn acknowledgements_law()
 /// What a peer has acknowledged of the bytes that it was sent, for any calls of an `Outbound`.
 pub fn acknowledged_law()
     ensures sent { (size : ℕ) (calls : List OutCall) → (outbound size calls).sent ≡ min (sent_by calls) (2 ^ 64 - 1) }
-    ensures window { (size : ℕ) (calls : List OutCall) → 1000 ≤ (outbound size calls).window }
 
     // No more is acknowledged than was sent, and what is acknowledged stays so.
     ensures within { (size : ℕ) (calls : List OutCall) → (outbound size calls).acknowledged ≤ (outbound size calls).sent }
@@ -49,6 +48,22 @@ pub fn acknowledged_law()
     // The number of a count is less than 2^31 behind what was sent, and means that count.
     ensures understood { (count sent : ℕ) → count ≤ sent → sent - count < 2 ^ 31 → meant sent (number_of count) ≡ count }
     ensures behind { (sent value : ℕ) → value < 2 ^ 32 → (value + behind sent value) % 2 ^ 32 ≡ number_of sent }
+{}
+
+/// Which window is in effect, for any calls of an `Outbound`.
+pub fn outbound_window_law()
+    // A Set of limit 0 sets it, whatever it was.
+    ensures set { (first size : ℕ) (before after : List OutCall) → KeepsWindow after
+        → (outbound first (before ++ (OutCall.Set size 0 ∷ after))).window ≡ window_of size }
+
+    // A Set of limit 1 takes the lesser of the window at it and its own.
+    ensures lesser { (first size : ℕ) (before after : List OutCall) → KeepsWindow after
+        → (outbound first (before ++ (OutCall.Set size 1 ∷ after))).window ≡ min (outbound first before).window (window_of size) }
+
+    // Without either it is the first.
+    ensures first { (first : ℕ) (calls : List OutCall) → KeepsWindow calls → (outbound first calls).window ≡ window_of first }
+
+    ensures least { (first : ℕ) (calls : List OutCall) → 1000 ≤ (outbound first calls).window }
 {}
 
 /// When a sender is held back, for any calls of an `Outbound`.

@@ -13,7 +13,10 @@ mod write;
 
 pub use control::{BadControl, Control, ping_answer};
 pub use inbound::Inbound;
-pub use laws::{acknowledged_law, acknowledgements_law, controls_are_read_back, held_back_law};
+pub use laws::{
+    acknowledged_law, acknowledgements_law, controls_are_read_back, held_back_law,
+    outbound_window_law,
+};
 pub use outbound::Outbound;
 pub use read::control_of;
 pub use write::control_message;

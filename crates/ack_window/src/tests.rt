@@ -1,5 +1,3 @@
-ghost use Rattle.std.specs.Prelude.{◌≡◌, ◌+◌, ◌<◌, ◌^◌, OnOk};
-
 use super::*;
 use av_unit::Bytes;
 use chunk_wire::Message;
@@ -109,34 +107,6 @@ fn bodies_have_their_least_lengths(rt: HostRuntime) -> Result<(), Fail> {
         marks.as_slice(),
         b"--------\nxxxx++++\nxxxx++++\nxxxx++++\nxx++++++\nxxxx++++\nxxxxx+++\n--------\nxxxxxx++".as_slice()
     );
-    Ok(())
-}
-
-/// Takes a piece of so many bytes as a connection does, in steps that end at each place, and notes what is to be
-/// acknowledged.
-fn take(inbound: &mut Inbound, piece: u64, acks: &mut Vec<u32>) -> Result<(), AllocError>
-    requires { inbound.old.taken + piece < 2 ^ 63 }
-    ensures { OnOk result (inbound.new.taken ≡ inbound.old.taken + piece) }
-{
-    let mut left = piece;
-    while left > 0 {
-        let step = left.min(inbound.room_to_next());
-        if let Some(number) = inbound.took(step) {
-            acks.push(number)?;
-        }
-        left -= step;
-    }
-    Ok(())
-}
-
-#[test]
-fn acknowledgements_come_at_the_multiples_of_the_window(rt: HostRuntime) -> Result<(), Fail> {
-    let mut acks = Vec::new(rt.alloc());
-    let mut inbound = Inbound::new(1_000);
-    take(&mut inbound, 999, &mut acks)?;
-    take(&mut inbound, 2, &mut acks)?;
-    take(&mut inbound, 1_499, &mut acks)?;
-    assert_eq!(rt; acks.as_slice(), [1_000, 2_000].as_slice());
     Ok(())
 }
 

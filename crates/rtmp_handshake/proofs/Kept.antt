@@ -1,6 +1,6 @@
 -- What is kept of C1, piece by piece, and the answer by it.
-use Rattle.std.proofs.Common.{ℕ, List, [], ◌++◌, length, drop, ◌-◌, ◌≤◌, ◌≡◌, refl, sym, append_assoc, arith, length-drop}
-use Rattle.std.proofs.lemmas.List.{append-nil, take_all, drop_all}
+use Rattle.std.proofs.Common.{ℕ, List, [], ◌++◌, length, drop, ◌-◌, ◌≤◌, ◌≡◌, refl, sym, append_assoc, arith, length-drop, min}
+use Rattle.std.proofs.lemmas.List.{append-nil, take_all, drop_all, length-append, length-take}
 use Rattle.std.proofs.lemmas.Bool.{cases_lt}
 use Rattle.std.proofs.Common.{inl, inr}
 use Rattle.rtmp_handshake.specs.Echo.{part_of, kept_of}
@@ -30,3 +30,10 @@ kept_more xs ys =
       | inr le ↦ rw (part_before (length xs) 1 5 ys (omega arith), append-nil (part_of 0 1 5 xs))
           (sym (append_assoc (part_of 0 1 5 xs) (part_of 0 9 1537 xs) (part_of (length xs) 9 1537 ys)))
     ])
+
+-- what is kept of C1 is its time and its random bytes at most
+pub kept_most : (xs : List ℕ) → length (kept_of 0 xs) ≤ 1532
+kept_most xs =
+    let a : length (part_of 0 1 5 xs) ≡ min 4 (length (drop 1 xs)) = length-take 4 (drop 1 xs) in
+    let b : length (part_of 0 9 1537 xs) ≡ min 1528 (length (drop 9 xs)) = length-take 1528 (drop 9 xs) in
+    rw (length-append (part_of 0 1 5 xs) (part_of 0 9 1537 xs)) (omega arith)

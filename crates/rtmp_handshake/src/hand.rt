@@ -66,6 +66,8 @@ fn read(alloc: Global, kept: &mut Bytes, before: usize, piece: &[u8]) -> Result<
     ensures answered { 1537 ≤ before → IsOk result }
     ensures late { 1537 ≤ before → IfOk result (λ out. out ≡ []) }
     ensures early { before + length piece.now < 1537 → IfOk result (λ out. (out ≡ []) × (kept.new ≡ kept.old ++ kept_of before piece.now)) }
+    ensures still { 1537 ≤ before → kept.new ≡ kept.old }
+    ensures let_go { before < 1537 → 1537 ≤ before + length piece.now → IfOk result (λ _. kept.new ≡ []) }
     ensures now { before < 1537 → 1537 ≤ before + length piece.now → IfOk result (λ out. out ≡ answer_by (kept.old ++ kept_of before piece.now)) }
 {
     if before >= TO_C1 {
@@ -131,6 +133,7 @@ impl Hand {
         }
         let taken = first(piece, TO_C2 - self.count);
         let Ok(out) = read(alloc, &mut self.kept, self.count, taken) else {
+            self.kept = Bytes::new(alloc);
             self.failed = Some(HandFail::OutOfMemory);
             return Err(HandFail::OutOfMemory);
         };

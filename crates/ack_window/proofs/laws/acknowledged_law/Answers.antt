@@ -1,11 +1,8 @@
-use Rattle.ack_window.proofs.Kept.{sent_is, least_window, within_sent, never_falls, counts, attained, understood, behind_is}
+use Rattle.ack_window.proofs.Kept.{sent_is, within_sent, never_falls, counts, attained, understood, behind_is}
 use Rattle.ack_window.proofs.laws.acknowledged_law.Goals as goal
 
 pub returns-clause-sent : goal.returns-clause-sent
 returns-clause-sent c = sent_is
-
-pub returns-clause-window : goal.returns-clause-window
-returns-clause-window c = least_window
 
 pub returns-clause-within : goal.returns-clause-within
 returns-clause-within c = within_sent
