@@ -1,6 +1,8 @@
-ghost use Rattle.std.specs.Prelude.{◌≡◌, ◌≢◌, ◌+◌, ◌<◌, ◌≤◌, ◌↔◌, ◌⊎◌, drop, length, IfSome, IsNone, IsTrue, None};
+ghost use Rattle.std.specs.Prelude.{◌≡◌, ◌≢◌, ◌+◌, ◌<◌, ◌≤◌, ◌↔◌, ◌⊎◌, drop, length, IfSome, IsNone, IsTrue, None, [], ◌∷◌};
 ghost use Rattle.av_unit.specs.Fits.{Fits, is_config};
 ghost use Rattle.av_unit.specs.Classes.{SetsData, IsItselfAgain, class_of, from_of, kind_of, message_type, unit_from};
+ghost use Rattle.av_unit.specs.declared.unit.Kind.{Kind};
+ghost use Rattle.av_unit.specs.Examples.{unit_at, nothing, aac_header, aac_frame, avc, meta, set_meta};
 
 use crate::{Bytes, Class, Kind, Unit};
 
@@ -83,6 +85,24 @@ pub fn message_kind(kind: Kind) -> u8
         Kind::Meta | Kind::Data => DATA_AMF0,
     }
 }
+
+/// Worked examples of the table, on the definition itself.
+#[tactic(auto, unfolding(crate::specs::Classes::class_of))]
+pub fn class_examples()
+    ensures sound { class_of 8 aac_frame ≡ unit_at Kind.Audio 0 }
+    ensures sound_config { class_of 8 aac_header ≡ unit_at Kind.AConfig 0 }
+    ensures mp3 { class_of 8 (47 ∷ 0 ∷ []) ≡ unit_at Kind.Audio 0 }
+    ensures config { class_of 9 (avc 1 0) ≡ unit_at Kind.VConfig 0 }
+    ensures key { class_of 9 (avc 1 1) ≡ unit_at Kind.Key 0 }
+    ensures generated_key { class_of 9 (avc 4 1) ≡ unit_at Kind.Key 0 }
+    ensures inter { class_of 9 (avc 2 1) ≡ unit_at Kind.Inter 0 }
+    ensures disposable { class_of 9 (avc 3 1) ≡ unit_at Kind.Inter 0 }
+    ensures end_of_sequence { class_of 9 (avc 1 2) ≡ nothing }
+    ensures command_frame { class_of 9 (avc 5 1) ≡ nothing }
+    ensures metadata { class_of 18 meta ≡ unit_at Kind.Meta 0 }
+    ensures named_metadata { class_of 18 set_meta ≡ unit_at Kind.Meta 16 }
+    ensures command { class_of 20 meta ≡ nothing }
+{}
 
 // How many bytes stand before the unit.
 fn front(message_kind: u8, body: &[u8]) -> usize
