@@ -2,7 +2,7 @@ ghost use Rattle.std.specs.Prelude.{◌≡◌, ℕ, ◌<◌, ◌^◌, [], ◌∷
 ghost use Rattle.std.specs.Option.{IfSome};
 ghost use Rattle.stream_model.specs.Answer.{free_place, reply};
 ghost use Rattle.stream_model.specs.History.{items_of};
-ghost use Rattle.stream_model.specs.Known.{Known, answered, IsLawful};
+ghost use Rattle.stream_model.specs.Known.{StreamKnown, answered, IsLawful};
 ghost use Rattle.stream_model.specs.Legal.{Legal};
 ghost use Rattle.stream_core.specs.PlaceState.{free_state};
 ghost use Rattle.stream_core.specs.Tally.{tally_after};
@@ -34,10 +34,10 @@ pub struct Stream {
 }
 
 impl Model for Stream {
-    ghost use Rattle.stream_model.specs.Known.{Known};
+    ghost use Rattle.stream_model.specs.Known.{StreamKnown};
     ghost use Rattle.stream_core.specs.IsPast.{IsPast};
 
-    ghost Value = { Known };
+    ghost Value = { StreamKnown };
 
     ghost view = { λ s. record { limits = s.limits; past = s.past } };
 

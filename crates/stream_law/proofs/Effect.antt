@@ -8,9 +8,9 @@ use Rattle.av_unit.specs.declared.unit.Kind.{Kind}
 use Rattle.stream_model.specs.Items.{has_kind, is_begin, last_where, last_of, after, config_at}
 use Rattle.stream_model.specs.Take.{at_kind}
 use Rattle.stream_law.specs.InEffect.{InEffect}
-use Rattle.stream_law.proofs.Places.{slice_get-take, slice_get-take_past}
-use Rattle.stream_law.proofs.Last.{passes_at, LastAt, none_where, some_where, where_some}
-use Rattle.stream_law.proofs.UnitKinds.{at_kind_passes, kind_not_begin, begin_is, begin_not}
+use Rattle.stream_model.proofs.Places.{slice_get-take, slice_get-take_past}
+use Rattle.stream_model.proofs.Last.{passes_at, LastAt, none_where, some_where, where_some, take_before}
+use Rattle.stream_model.proofs.UnitKinds.{at_kind_passes, kind_not_begin, begin_is, begin_not}
 
 -- the same of a whole list
 record LastOf (kind : Kind) (xs : List Item) (m : ℕ) : Type 0 where
@@ -58,9 +58,6 @@ some_last_of : (kind : Kind) (xs : List Item) (m : ℕ) → LastOf kind xs m →
 some_last_of kind xs m l =
     rw (where_some (has_kind kind) xs m l.last) (after_before (last_where is_begin xs) m (begin_before kind xs m l))
 
-pub take_before : (p : Item → Bool) (n : ℕ) (xs : List Item) (m : ℕ) → passes_at p (slice_get (take n xs) m) ≡ true → m < n
-take_before p n xs m e = elim (cases_lt m n) [ inl lt ↦ lt | inr le ↦ absurd (false≢true (rw (slice_get-take_past n xs m le) at e)) ]
-
 pub in_effect : (kind : Kind) (xs : List Item) (n m : ℕ) → config_at kind xs n ≡ Some m → InEffect kind xs n m
 in_effect kind xs n m e =
     let l = last_of_some kind (take n xs) m e in
@@ -98,10 +95,6 @@ effect_earlier kind xs n c m l le lt = record {
 
 pub config_earlier : (kind : Kind) (xs : List Item) (n c m : ℕ) → config_at kind xs n ≡ Some m → c ≤ n → m < c → config_at kind xs c ≡ Some m
 config_earlier kind xs n c m e le lt = effect_is kind xs c m (effect_earlier kind xs n c m (in_effect kind xs n m e) le lt)
-
--- more items at the end change nothing before it
-pub config_at-append : (kind : Kind) (xs ys : List Item) (n : ℕ) → n ≤ length xs → config_at kind (xs ++ ys) n ≡ config_at kind xs n
-config_at-append kind xs ys n le = rw (take-append-le n xs ys le) refl
 
 pub none_in_effect : (kind : Kind) (xs : List Item) (n : ℕ) → config_at kind xs n ≡ None → (m : ℕ) → InEffect kind xs n m → ⊥
 none_in_effect kind xs n e m l = let f = effect_is kind xs n m l in cc

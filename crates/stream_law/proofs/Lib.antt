@@ -1,9 +1,4 @@
-pub mod Places
-pub mod Last
-pub mod UnitKinds
 pub mod Effect
-pub mod Numbers
-pub mod Whole
 pub mod Bounds
 pub mod Dues
 pub mod FirstTaken

@@ -10,15 +10,11 @@ use Rattle.stream_model.specs.Window.{cost_sum, fits, base, join, key_or}
 use Rattle.stream_law.specs.InEffect.{InEffect}
 use Rattle.stream_law.specs.IsBase.{IsBase}
 use Rattle.stream_law.specs.IsKeyToJoin.{IsKeyToJoin}
+use Rattle.stream_model.proofs.Windows.{cost_sum-drop}
 use Rattle.stream_law.proofs.Effect.{in_effect, effect_is}
 use Rattle.stream_law.proofs.Dues.{some_or_none}
 use Rattle.stream_law.proofs.Bounds.{base_within}
 use Rattle.stream_law.proofs.Live.{live_is, is_live_from}
-
-cost_sum-drop : (xs : List Item) (w : ℕ) → cost_sum (drop w xs) ≤ cost_sum xs
-cost_sum-drop xs zero = omega arith
-cost_sum-drop [] (suc w) = omega arith
-cost_sum-drop (x ∷ xs) (suc w) = omega (arith, cost_sum-drop xs w)
 
 -- what a fitting list, and one that doesn't fit, cost
 record Fitting (limits : StreamLimits) (xs : List Item) : Type 0 where

@@ -8,3 +8,5 @@ pub mod Counts
 pub mod Answer
 pub mod Known
 pub mod Legal
+pub mod Slots
+pub mod Held

@@ -1,6 +1,6 @@
 use Rattle.std.proofs.Common.{◌∙◌, ◌++◌, List, ℕ, Some, ap, refl, arith}
 use Rattle.stream_model.specs.declared.calls.StreamLimits.{StreamLimits}
-use Rattle.stream_model.specs.Known.{Known}
+use Rattle.stream_model.specs.Known.{StreamKnown}
 use Rattle.stream_model.specs.Answer.{reply}
 use Rattle.relay_program.specs.Lines.{meaning}
 use Rattle.relay_program.specs.Texts.{line_of}
@@ -28,4 +28,4 @@ returns-clause-says g c =
     let is = c.in-Ok.ensures.ok.0 ∙ ap (λ (l : StreamLimits). reply l c.args.stream.now.past c.in-Ok-Step.entry) c.requires.limits in
     let spelled = c.as_slice.ensures ∙ c.in-Ok-reply_text.ensures.ok ∙ ap (λ (l : List ℕ). l ++ line_of c.in-Ok.reply) c.new-text.ensures in
     says c.put_all.result (meaning c.args.line.now) c.args.number c.args.stream.now.past c.apply.new.self.past c.in-Ok-Step.entry c.in-Ok.reply c.as_slice.result.now
-    (g.K.Sink.holds c.args.out.now) (g.K.Sink.holds c.put_all.new.out) c.put_all.ensures.text means is (ap (λ (k : Known). k.past) c.in-Ok.ensures.ok.1) spelled
+    (g.K.Sink.holds c.args.out.now) (g.K.Sink.holds c.put_all.new.out) c.put_all.ensures.text means is (ap (λ (k : StreamKnown). k.past) c.in-Ok.ensures.ok.1) spelled

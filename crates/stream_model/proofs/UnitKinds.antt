@@ -7,7 +7,7 @@ use Rattle.av_unit.specs.declared.unit.Kind.{Kind}
 use Rattle.av_unit.specs.declared.unit.Kind.TheVariants.{Meta, VConfig, AConfig, Key, Inter, Audio, Data}
 use Rattle.stream_model.specs.Items.{same_kind, has_kind, is_begin}
 use Rattle.stream_model.specs.Take.{at_kind}
-use Rattle.stream_law.proofs.Last.{passes_at}
+use Rattle.stream_model.proofs.Last.{passes_at}
 
 pub same_kind_is : (a b : Kind) → same_kind a b ≡ true → a ≡ b
 same_kind_is Meta Meta e = refl

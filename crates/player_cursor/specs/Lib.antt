@@ -1,0 +1,2 @@
+pub mod CursorState
+pub mod StandsFor
