@@ -1,0 +1,81 @@
+ghost use Rattle.std.specs.Prelude.{◌≡◌, ◌↔◌, IsTrue, nat_eq};
+ghost use Rattle.std.specs.List.{list_any};
+ghost use Rattle.std.specs.Cmp.Lexicographic.{pointwise};
+ghost use Rattle.key_guard.specs.Allowed.{Allowed, has, is_allowed};
+
+use av_unit::{Bytes, KeyList};
+use sha2::{Digest, Sha256};
+
+/// The keys that a stream takes: every key and none, or those of a list.
+#[derive(Debug, Drop)]
+pub enum Grants {
+    /// Every key is taken, also an empty one.
+    Open,
+    /// Only these are taken. An empty list takes none.
+    Keys(KeyList),
+}
+
+/// How the keys of a list are kept.
+#[derive(Clone, Copy, Debug, PartialEq, Eq)]
+pub enum Mode {
+    /// The list has the keys themselves.
+    Plain,
+    /// The list has the 32 bytes of each key's SHA-256 digest.
+    Digest,
+}
+
+// Whether the two are the same bytes. All bytes are compared, whichever differ.
+fn is_same(kept: &[u8], asked: &[u8]) -> bool
+    ensures { IsTrue result ↔ (asked.now ≡ kept.now) }
+{
+    if kept.len() != asked.len() {
+        return false;
+    }
+    let mut same = true;
+    for i in 0..kept.len() {
+        same &= kept[i] == asked[i];
+    }
+    same
+}
+
+// Whether one of the keys is these bytes. All keys are compared, whichever is the one.
+fn is_among(asked: &[u8], keys: &[Bytes]) -> bool
+    ensures { result ≡ list_any (pointwise nat_eq asked.now) keys.now }
+{
+    let mut found = false;
+    for key in keys {
+        found |= is_same(key.as_slice(), asked);
+    }
+    found
+}
+
+// Whether the grants are open or have these bytes.
+fn have(grants: &Grants, bytes: &[u8]) -> bool
+    ensures { result ≡ has grants.now bytes.now }
+{
+    match grants {
+        Grants::Open => true,
+        Grants::Keys(keys) => is_among(bytes, keys.as_slice()),
+    }
+}
+
+/// Whether the grants are open or have the key: what is allowed in mode `Plain`.
+///
+/// The key is compared with every key of the list, and with each in full.
+pub fn by_name(grants: &Grants, key: &[u8]) -> bool
+    ensures test { result ≡ is_allowed Mode.Plain grants.now key.now }
+    ensures allowed { IsTrue result ↔ Allowed Mode.Plain grants.now key.now }
+{
+    have(grants, key)
+}
+
+/// Whether the grants are open or have the 32 bytes of the key's SHA-256 (FIPS 180-4): what is allowed in mode
+/// `Digest`.
+///
+/// The digest is compared as `by_name` compares a key.
+pub fn by_digest(grants: &Grants, key: &[u8]) -> bool
+    ensures test { result ≡ is_allowed Mode.Digest grants.now key.now }
+    ensures allowed { IsTrue result ↔ Allowed Mode.Digest grants.now key.now }
+{
+    have(grants, &Sha256::digest(key))
+}

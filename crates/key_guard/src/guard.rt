@@ -1,0 +1,73 @@
+ghost use Rattle.std.specs.Prelude.{◌≡◌, ◌↔◌, IsTrue};
+ghost use Rattle.key_guard.specs.Allowed.{Allowed, is_allowed};
+ghost use Rattle.key_guard.specs.declared.check.Mode.TheVariants.{Plain, Digest};
+
+use crate::{Grants, Mode};
+
+/// A function that says whether grants allow a key.
+pub type Check = Box<dyn Fn(&Grants, &[u8]) -> bool + Send + Sync>;
+
+/// A function with the fact that it may be called on everything, and that it answers what is allowed in the
+/// guard's mode.
+#[derive(Drop)]
+pub struct Guard {
+    /// The mode in which it answers.
+    pub mode: Mode,
+    check: Check,
+    ghost callable: { Check.IsAlwaysCallable check },
+    ghost answers: { (grants : _) (key : _) (r : _) → Check.post check grants key r → r ≡ is_allowed mode grants.now key.now },
+}
+
+/// A guard for each mode.
+#[derive(Drop)]
+pub struct Guards {
+    pub plain: Guard,
+    pub digest: Guard,
+    ghost plain_is: { plain.mode ≡ Plain },
+    ghost digest_is: { digest.mode ≡ Digest },
+}
+
+impl Guards {
+    /// The two guards, each of its mode.
+    pub fn new(plain: Guard, digest: Guard) -> Guards
+        requires plain_is { plain.mode ≡ Mode.Plain }
+        requires digest_is { digest.mode ≡ Mode.Digest }
+    {
+        Guards { plain, digest }
+    }
+
+    /// Whether the grants allow the key in that mode.
+    pub fn allows(&self, mode: Mode, grants: &Grants, key: &[u8]) -> bool
+        ensures { IsTrue result ↔ Allowed mode grants.now key.now }
+    {
+        match mode {
+            Mode::Plain => self.plain.allows(grants, key),
+            Mode::Digest => self.digest.allows(grants, key),
+        }
+    }
+}
+
+impl Guard {
+    /// The guard of a function.
+    pub fn new(mode: Mode, check: Check) -> Guard
+        requires callable { Check.IsAlwaysCallable check }
+        requires answers { (grants : _) (key : _) (r : _) → Check.post check grants key r → r ≡ is_allowed mode grants.now key.now }
+        ensures { result.mode ≡ mode }
+    {
+        Guard { mode, check }
+    }
+
+    /// Whether the grants allow the key in the guard's mode.
+    pub fn allows(&self, grants: &Grants, key: &[u8]) -> bool
+        ensures test { result ≡ is_allowed self.now.mode grants.now key.now }
+        ensures allowed { IsTrue result ↔ Allowed self.now.mode grants.now key.now }
+    {
+        self.answer(grants, key)
+    }
+
+    fn answer(&self, grants: &Grants, key: &[u8]) -> bool
+        ensures { result ≡ is_allowed self.now.mode grants.now key.now }
+    {
+        (self.check)(grants, key)
+    }
+}
