@@ -5,6 +5,7 @@ pub mod Keys
 pub mod Shorter
 pub mod Grows
 pub mod Values
+pub mod Skips
 pub mod Again
 pub mod Split
 pub mod Within
@@ -13,3 +14,4 @@ pub mod Patterns
 pub mod Written
 pub mod Encoded
 pub mod Stays
+pub mod Examples

@@ -1,12 +1,15 @@
 //! Laws over all bytes and values. Each stands on a function that does nothing.
 
-ghost use Rattle.std.specs.Prelude.{◌≡◌, ◌≤◌, ◌++◌, List, ℕ, length, take};
-ghost use Rattle.amf0_value.specs.Tree.{Tree};
-ghost use Rattle.amf0_value.specs.Spelling.{Spells, Spelled, Fits};
+ghost use Rattle.std.specs.Prelude.{[], Ok, Err, true, ◌≡◌, ◌<◌, ◌≤◌, ◌^◌, ◌∷◌, ◌++◌, codes, List, ℕ, length, take, IfOk};
+ghost use Rattle.amf0_value.specs.Tree.{Tree, Items, boolean, text, object, null, ecma, no_members, member};
+ghost use Rattle.amf0_value.specs.Spelling.{Spells, Spelled, ItemsSpelled, Fits, AllFit, items_depth};
 ghost use Rattle.amf0_value.specs.Encoding.{spelling, HasNumbers};
 ghost use Rattle.amf0_value.specs.Refusal.{Refuses, RefusesAll};
-ghost use Rattle.amf0_value.specs.Laws.{place_of, IsLasting};
+ghost use Rattle.amf0_value.specs.Reader.{values_in};
+ghost use Rattle.amf0_value.specs.Laws.{place_of, IsLasting, nested};
+ghost use Rattle.amf0_value.specs.Pattern.{IsPattern, pattern};
 ghost use Rattle.amf0_value.specs.declared.fail.AmfFail.{AmfFail};
+ghost use Rattle.amf0_value.specs.declared.fail.AmfFail.TheVariants.{Truncated, BadMarker, TooDeep, BadEnd};
 
 /// What `encode` appends is a spelling of the value, and so is read as it, whatever follows.
 pub fn encoded_is_read()
@@ -29,4 +32,31 @@ pub fn refusals_are_inside()
 pub fn refusals_stay()
     ensures one { (bytes more : List ℕ) (f : AmfFail) → IsLasting f → Refuses bytes f → Refuses (bytes ++ more) f }
     ensures all { (bytes more : List ℕ) (f : AmfFail) → IsLasting f → RefusesAll bytes f → RefusesAll (bytes ++ more) f }
+{}
+
+/// Bytes have one reading: the values that fill them, or the refusal that stands in them, is what
+/// `values_in` says of them.
+pub fn one_answer()
+    ensures values { (vs : Items) (bytes : List ℕ) → ItemsSpelled vs bytes [] → AllFit vs → values_in bytes ≡ Ok vs }
+    ensures refusal { (bytes : List ℕ) (f : AmfFail) → RefusesAll bytes f → values_in bytes ≡ Err f }
+{}
+
+/// The pattern of a whole number is its 64 bits in binary64.
+pub fn patterns()
+    ensures { (n : ℕ) → n < 2 ^ 53 → IsPattern n (pattern n) }
+{}
+
+/// Some values beside their bytes, and some bytes beside their refusals.
+pub fn worked_examples()
+    ensures number { (pattern 0 ≡ 0) × (pattern 31 ≡ 4629418941960159232) }
+    ensures boolean { Spells (boolean true) (1 ∷ 5 ∷ []) × (spelling (boolean true) ≡ 1 ∷ 1 ∷ []) }
+    ensures text { Spells (text (codes "live")) (2 ∷ 0 ∷ 4 ∷ codes "live") }
+    ensures object { Spells (object (member (codes "a") null no_members)) (3 ∷ 0 ∷ 1 ∷ 97 ∷ 5 ∷ 0 ∷ 0 ∷ 9 ∷ []) }
+    ensures ecma { Spells (ecma 7 no_members) (8 ∷ 0 ∷ 0 ∷ 0 ∷ 7 ∷ 0 ∷ 0 ∷ 9 ∷ []) }
+    ensures bad_end { values_in (3 ∷ 0 ∷ 0 ∷ 8 ∷ []) ≡ Err (BadEnd 3) }
+    ensures cut { values_in (2 ∷ 0 ∷ 5 ∷ 97 ∷ []) ≡ Err (Truncated 4) }
+    ensures count { values_in (10 ∷ 0 ∷ 0 ∷ 0 ∷ 2 ∷ 4 ∷ []) ≡ Err (Truncated 6) }
+    ensures marker { values_in (5 ∷ 17 ∷ []) ≡ Err (BadMarker 1 17) }
+    ensures deep { values_in (nested 33) ≡ Err (TooDeep 160) }
+    ensures not_too_deep { IfOk (values_in (nested 32)) (λ vs. items_depth vs ≡ 32) }
 {}

@@ -9,11 +9,12 @@ pub mod laws;
 mod marker;
 mod number;
 mod reading;
+pub mod walk;
 mod writing;
 
 pub use amf::{Amf, AmfList, Pairs};
 pub use decoding::{decode, decode_all};
-pub use fail::AmfFail;
+pub use fail::{AmfFail, Cause, Stop};
 pub use number::{bits_of, whole_of};
 pub use writing::encode;
 

@@ -1,11 +1,13 @@
 ghost use Rattle.std.specs.Prelude.{◌≡◌, ◌<◌, ◌^◌, ℕ, MatchOption};
-ghost use Rattle.amf0_value.specs.Pattern.{IsPattern};
+ghost use Rattle.amf0_value.specs.Pattern.{IsPattern, pattern};
 
 /// The 64 bits that a number of AMF0 has where it is the whole number `n`: the pattern of IEEE 754's
 /// binary64.
+#[tactic(auto, unfolding(crate::specs::Pattern::pattern))]
 pub fn bits_of(n: u64) -> u64
     requires { n < 2 ^ 53 }
-    ensures { IsPattern n result }
+    ensures pattern { IsPattern n result }
+    ensures value { result ≡ pattern n }
 {
     if n == 0 {
         return 0;

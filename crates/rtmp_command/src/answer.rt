@@ -1,10 +1,9 @@
-ghost use Rattle.std.specs.Prelude.{◌≡◌, ◌<◌, ◌^◌, ◌++◌, ℕ, length, IfOk, OnOk};
-ghost use Rattle.amf0_value.specs.Tree.{Items, number, text as a_text, object, null};
+ghost use Rattle.std.specs.Prelude.{◌≡◌, ◌<◌, ◌≤◌, ◌^◌, ◌++◌, length, IfOk, OnOk};
+ghost use Rattle.amf0_value.specs.Tree.{number, text as a_text, object, null};
 ghost use Rattle.amf0_value.specs.View.{tree, members_of, seen_pairs};
 ghost use Rattle.amf0_value.specs.Spelling.{Fits};
 ghost use Rattle.amf0_value.specs.Encoding.{spelling, items_spelling};
-ghost use Rattle.amf0_value.specs.Pattern.{IsPattern};
-ghost use Rattle.rtmp_command.specs.Answers.{info_list, IsStatus, Carries, description_of, server, success};
+ghost use Rattle.rtmp_command.specs.Answers.{info_list, description_of, server, success, status_values, values_of, body_of};
 
 use amf0_value::{Amf, Pairs, bits_of, encode};
 use av_unit::{Bytes, OutOfMemory};
@@ -50,8 +49,17 @@ pub enum Answer {
 }
 
 /// The body of the message that carries an answer (RTMP 1.0, sections 7.2.1 and 7.2.2).
+#[tactic(auto, unfolding(crate::specs::Answers::body_of))]
 pub fn answer_body(alloc: Global, answer: &Answer) -> Result<Bytes, OutOfMemory>
-    ensures { IfOk result (λ body. (vs : Items) × Carries answer.now vs × (body ≡ items_spelling vs)) }
+    ensures value { IfOk result (λ body. body ≡ body_of answer.now) }
+    ensures short { IfOk result (λ body. length body ≤ 190) }
+{
+    let body = written(alloc, answer)?;
+    Ok(body)
+}
+
+fn written(alloc: Global, answer: &Answer) -> Result<Bytes, OutOfMemory>
+    ensures { IfOk result (λ body. body ≡ items_spelling (values_of answer.now)) }
 {
     match answer {
         Answer::Connected { transaction } => connected(alloc, *transaction),
@@ -86,7 +94,7 @@ pub fn answer_body(alloc: Global, answer: &Answer) -> Result<Bytes, OutOfMemory>
 }
 
 fn connected(alloc: Global, transaction: u64) -> Result<Bytes, OutOfMemory>
-    ensures { IfOk result (λ body. (vs : Items) × Carries (Answer.Connected transaction) vs × (body ≡ items_spelling vs)) }
+    ensures { IfOk result (λ body. body ≡ items_spelling (values_of (Answer.Connected transaction))) }
 {
     let mut out = Bytes::new(alloc);
     put_text(alloc, "_result", &mut out)?;
@@ -99,7 +107,7 @@ fn connected(alloc: Global, transaction: u64) -> Result<Bytes, OutOfMemory>
 }
 
 fn created(alloc: Global, transaction: u64, id: u32) -> Result<Bytes, OutOfMemory>
-    ensures { IfOk result (λ body. (vs : Items) × Carries (Answer.Created transaction id) vs × (body ≡ items_spelling vs)) }
+    ensures { IfOk result (λ body. body ≡ items_spelling (values_of (Answer.Created transaction id))) }
 {
     let mut out = Bytes::new(alloc);
     put_text(alloc, "_result", &mut out)?;
@@ -109,11 +117,12 @@ fn created(alloc: Global, transaction: u64, id: u32) -> Result<Bytes, OutOfMemor
     Ok(out)
 }
 
+#[tactic(auto, unfolding(crate::specs::Answers::status_values))]
 fn status(alloc: Global, level: &str, code: &str, description: &str) -> Result<Bytes, OutOfMemory>
     requires level { length level.now < 2 ^ 16 }
     requires code { length code.now < 2 ^ 16 }
     requires description { length description.now < 2 ^ 16 }
-    ensures { IfOk result (λ body. (vs : Items) × IsStatus level.now code.now description.now vs × (body ≡ items_spelling vs)) }
+    ensures { IfOk result (λ body. body ≡ items_spelling (status_values level.now code.now description.now)) }
 {
     let mut out = Bytes::new(alloc);
     put_text(alloc, "onStatus", &mut out)?;

@@ -13,7 +13,7 @@ use std::alloc::Global;
 
 /// What a peer asks (RTMP 1.0, section 7.2): a name, the transaction by which it knows the answer,
 /// and arguments.
-#[derive(Drop)]
+#[derive(Debug, PartialEq, Drop)]
 pub struct Command {
     pub name: Bytes,
     /// The pattern of the transaction's number; 0 where the second value isn't one.
@@ -51,7 +51,7 @@ pub fn command_of(alloc: Global, body: &[u8]) -> Result<Command, CommandFail>
     }
 }
 
-fn refused(fail: AmfFail) -> CommandFail
+pub(crate) fn refused(fail: AmfFail) -> CommandFail
     ensures { result ≡ command_fail fail }
 {
     match fail {

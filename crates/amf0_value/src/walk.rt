@@ -1,0 +1,303 @@
+//! Readers over the bytes that are left, which keep little or nothing of what they pass over.
+
+ghost use Rattle.std.specs.Prelude.{◌≡◌, ◌+◌, ◌<◌, ◌≤◌, ◌∷◌, [], Some};
+ghost use Rattle.amf0_value.specs.Tree.{Tree};
+ghost use Rattle.amf0_value.specs.View.{tree};
+ghost use Rattle.amf0_value.specs.Refusal.{Stops, StopsAll, scalar_needs, key_refusal};
+ghost use Rattle.amf0_value.specs.Reading.{Gives, IsShort, Left, PairsStop, ItemsStop, scalar_byte, container_byte};
+ghost use Rattle.amf0_value.specs.Brief.{brief_of, HasScalar, HasValue, HasMembers, HasItems, HasAll, HasBrief, HasPair, NextAt, PairSoFar, HasKept};
+
+use crate::amf::Amf;
+use crate::fail::{Cause, Stop};
+use crate::fields::{long_at, short_at, truncated, u16_at, u32_at, u64_at};
+use crate::marker::{Container, Marker, Scalar, marker_of};
+use crate::reading::{MOST_OPEN, value};
+use av_unit::Bytes;
+use std::alloc::Global;
+
+/// A value of which only a number, a boolean or a text is kept.
+#[derive(Debug, PartialEq, Eq, Drop)]
+pub enum Brief {
+    Number(u64),
+    Boolean(bool),
+    Text(Bytes),
+    Other,
+}
+
+/// Passes over what stands behind the marker of a value with no values inside it.
+fn skip_scalar(marker: Scalar, body: &[u8]) -> Result<&[u8], Stop>
+    ensures { Gives (λ rest. HasScalar (scalar_byte marker ∷ body.now) rest.now) (IsShort body.now (scalar_needs marker body.now)) result }
+{
+    match marker {
+        Scalar::Number => {
+            let (_bits, rest) = u64_at(body)?;
+            Ok(rest)
+        }
+        Scalar::Boolean => match body {
+            [] => Err(truncated()),
+            [_, rest @ ..] => Ok(rest),
+        },
+        Scalar::Text => {
+            let (_text, rest) = short_at(body)?;
+            Ok(rest)
+        }
+        Scalar::Null => Ok(body),
+        Scalar::Undefined => Ok(body),
+        Scalar::Reference => {
+            let (_number, rest) = u16_at(body)?;
+            Ok(rest)
+        }
+        Scalar::Date => skip_date(body),
+        Scalar::Long => {
+            let (_text, rest) = long_at(body)?;
+            Ok(rest)
+        }
+        Scalar::Unsupported => Ok(body),
+        Scalar::Xml => {
+            let (_text, rest) = long_at(body)?;
+            Ok(rest)
+        }
+    }
+}
+
+/// Passes over the time and the zone of a date.
+fn skip_date(body: &[u8]) -> Result<&[u8], Stop>
+    ensures { Gives (λ rest. HasScalar (11 ∷ body.now) rest.now) (IsShort body.now 10) result }
+{
+    let (_bits, rest) = u64_at(body)?;
+    let (_zone, rest) = u16_at(rest)?;
+    Ok(rest)
+}
+
+/// Passes over the value at the front of the bytes, inside `outer` open containers.
+#[cycle(skip)]
+pub fn skip(bytes: &[u8], outer: u32) -> Result<&[u8], Stop>
+    requires { outer ≤ 32 }
+    ensures { Gives (λ rest. HasValue outer bytes.now rest.now) (Left (Stops outer bytes.now)) result }
+{
+    let (first, body) = match bytes {
+        [] => return Err(truncated()),
+        [first, body @ ..] => (*first, body),
+    };
+    match marker_of(first) {
+        None => Err(Stop::Refused {
+            cause: Cause::BadMarker(first),
+            left: bytes.len(),
+        }),
+        Some(Marker::Scalar(marker)) => skip_scalar(marker, body),
+        Some(Marker::Container(marker)) => {
+            if outer >= MOST_OPEN {
+                return Err(Stop::Refused {
+                    cause: Cause::TooDeep,
+                    left: bytes.len(),
+                });
+            }
+            skip_container(marker, body, outer)
+        }
+    }
+}
+
+/// Passes over what stands behind the marker of a container.
+#[cycle(skip)]
+fn skip_container(marker: Container, body: &[u8], outer: u32) -> Result<&[u8], Stop>
+    requires { outer < 32 }
+    ensures { Gives (λ rest. HasValue outer (container_byte marker ∷ body.now) rest.now) (Left (Stops outer (container_byte marker ∷ body.now))) result }
+{
+    match marker {
+        Container::Object => {
+            let rest = skip_pairs(body, outer + 1)?;
+            Ok(rest)
+        }
+        Container::Ecma => {
+            let (_count, rest) = u32_at(body)?;
+            let rest = skip_pairs(rest, outer + 1)?;
+            Ok(rest)
+        }
+        Container::Strict => {
+            let (count, rest) = u32_at(body)?;
+            if rest.len() < count as usize {
+                return Err(truncated());
+            }
+            let rest = skip_values(count, rest, outer + 1)?;
+            Ok(rest)
+        }
+        Container::Typed => {
+            let (_name, rest) = short_at(body)?;
+            let rest = skip_pairs(rest, outer + 1)?;
+            Ok(rest)
+        }
+    }
+}
+
+/// What stands where a key may stand: the end of the pairs, or a key where it stands, and the bytes
+/// behind it.
+enum At<'a> {
+    End(&'a [u8]),
+    Key(&'a [u8], &'a [u8]),
+}
+
+/// Reads a key, or the end of the pairs.
+fn key_at(bytes: &[u8]) -> Result<At, Stop>
+    ensures { Gives (NextAt bytes.now) (Left (λ r. key_refusal bytes.now ≡ Some r)) result }
+{
+    let (key, rest) = short_at(bytes)?;
+    if key.len() > 0 {
+        return Ok(At::Key(key, rest));
+    }
+    let (last, after) = match rest {
+        [] => return Err(truncated()),
+        [last, after @ ..] => (*last, after),
+    };
+    if last != 0x09 {
+        return Err(Stop::Refused {
+            cause: Cause::BadEnd,
+            left: rest.len(),
+        });
+    }
+    Ok(At::End(after))
+}
+
+/// Passes over keys and their values up to the end of the pairs.
+#[cycle(skip)]
+fn skip_pairs(bytes: &[u8], outer: u32) -> Result<&[u8], Stop>
+    requires { outer ≤ 32 }
+    ensures { Gives (λ rest. HasMembers outer bytes.now (0 ∷ 0 ∷ 9 ∷ rest.now)) (Left (PairsStop outer bytes.now)) result }
+{
+    let mut rest = bytes;
+    loop {
+        match key_at(rest)? {
+            At::End(after) => return Ok(after),
+            At::Key(_key, after) => {
+                let after = skip(after, outer)?;
+                rest = after;
+            }
+        }
+    }
+}
+
+/// Passes over that many values.
+#[cycle(skip)]
+fn skip_values(total: u32, bytes: &[u8], outer: u32) -> Result<&[u8], Stop>
+    requires { outer ≤ 32 }
+    ensures { Gives (λ rest. HasItems outer total bytes.now rest.now) (Left (ItemsStop outer total bytes.now)) result }
+{
+    let mut rest = bytes;
+    for _ in 0..total {
+        let after = skip(rest, outer)?;
+        rest = after;
+    }
+    Ok(rest)
+}
+
+/// Passes over values up to the end of the bytes.
+pub fn skip_all(bytes: &[u8]) -> Result<(), Stop>
+    ensures { Gives (λ _. HasAll bytes.now) (Left (StopsAll bytes.now)) result }
+{
+    let mut rest = bytes;
+    while !rest.is_empty() {
+        let after = skip(rest, 0)?;
+        rest = after;
+    }
+    Ok(())
+}
+
+/// Reads the value at the front of the bytes, of which only a number, a boolean or a text is kept.
+pub fn glance(alloc: Global, bytes: &[u8], outer: u32) -> Result<(Brief, &[u8]), Stop>
+    requires { outer ≤ 32 }
+    ensures { Gives (λ x. HasBrief outer bytes.now x.0 x.1.now) (Left (Stops outer bytes.now)) result }
+{
+    let first = match bytes {
+        [] => return Err(truncated()),
+        [first, ..] => *first,
+    };
+    if first > 0x02 {
+        let rest = skip(bytes, outer)?;
+        return Ok((Brief::Other, rest));
+    }
+    let (found, rest) = value(alloc, bytes, outer)?;
+    Ok((in_brief(found), rest))
+}
+
+/// What is kept of a value.
+fn in_brief(value: Amf) -> Brief
+    ensures { result ≡ brief_of (tree value) }
+{
+    match value {
+        Amf::Number(bits) => Brief::Number(bits),
+        Amf::Boolean(flag) => Brief::Boolean(flag),
+        Amf::Text(text) => Brief::Text(text),
+        Amf::Object(_) | Amf::Null | Amf::Undefined | Amf::Reference(_) => Brief::Other,
+        Amf::Ecma { .. } | Amf::Strict(_) | Amf::Date { .. } => Brief::Other,
+        Amf::Long(_) | Amf::Unsupported | Amf::Xml(_) | Amf::Typed { .. } => Brief::Other,
+    }
+}
+
+/// Reads the value at the front of the bytes. Where it is an object, the first pair of that key is
+/// kept, in brief; all else is passed over.
+pub fn pair<'a>(
+    alloc: Global,
+    bytes: &'a [u8],
+    key: &[u8],
+) -> Result<(Option<Option<Brief>>, &'a [u8]), Stop>
+    ensures { Gives (λ x. HasPair key.now bytes.now x.0 x.1.now) (Left (Stops 0 bytes.now)) result }
+{
+    let (first, body) = match bytes {
+        [] => return Err(truncated()),
+        [first, body @ ..] => (*first, body),
+    };
+    if first != 0x03 {
+        let rest = skip(bytes, 0)?;
+        return Ok((None, rest));
+    }
+    let (found, rest) = first_pair(alloc, body, key)?;
+    Ok((Some(found), rest))
+}
+
+/// Passes over the pairs of an outermost object, and keeps the first of that key, in brief.
+fn first_pair<'a>(
+    alloc: Global,
+    bytes: &'a [u8],
+    key: &[u8],
+) -> Result<(Option<Brief>, &'a [u8]), Stop>
+    ensures { Gives (λ x. PairSoFar key.now bytes.now x.0 (0 ∷ 0 ∷ 9 ∷ x.1.now)) (Left (PairsStop 1 bytes.now)) result }
+{
+    let mut kept = None;
+    let mut rest = bytes;
+    loop {
+        match key_at(rest)? {
+            At::End(after) => return Ok((kept, after)),
+            At::Key(at, after) => {
+                let (found, after) = pair_value(alloc, kept, at == key, after)?;
+                kept = found;
+                rest = after;
+            }
+        }
+    }
+}
+
+/// Reads the value of a key, and keeps it, in brief, where nothing is kept yet and the key is the one
+/// that is looked for.
+fn pair_value(
+    alloc: Global,
+    kept: Option<Brief>,
+    same: bool,
+    bytes: &[u8],
+) -> Result<(Option<Brief>, &[u8]), Stop>
+    ensures { Gives (λ x. HasKept kept same bytes.now x.0 x.1.now) (Left (Stops 1 bytes.now)) result }
+{
+    match kept {
+        Some(found) => {
+            let rest = skip(bytes, 1)?;
+            Ok((Some(found), rest))
+        }
+        None => {
+            if same {
+                let (found, rest) = glance(alloc, bytes, 1)?;
+                Ok((Some(found), rest))
+            } else {
+                let rest = skip(bytes, 1)?;
+                Ok((None, rest))
+            }
+        }
+    }
+}
