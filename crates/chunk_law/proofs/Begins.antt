@@ -3,7 +3,7 @@ use Rattle.std.proofs.Common.{◌≡◌, ℕ, ◌+◌, ◌-◌, ◌%◌, ◌^◌
 use Rattle.std.proofs.lemmas.Bool.Decides.{nat_tests}
 use Rattle.chunk_wire.specs.declared.kept.Kept.{Kept}
 use Rattle.chunk_wire.specs.declared.kept.Terms.{Terms}
-use Rattle.chunk_wire.specs.declared.message.Message.{Message}
+use Rattle.chunk_writer.specs.declared.heading.Heading.{Heading}
 use Rattle.chunk_wire.specs.Chunk.{terms_by}
 use Rattle.chunk_wire.specs.ReadBack.{shown}
 use Rattle.chunk_writer.specs.declared.begun.Begun.{Begun}
@@ -64,45 +64,45 @@ leads_on x part some = record {
 }
 
 -- what the rule's tests tell
-record Tells (t : Terms) (m : Message) (anew alike same : Bool) : Type 0 where
-  pub follows : anew ≡ false → (m.stream ≡ t.stream) × (t.time ≤ m.time)
-  pub like : alike ≡ true → (length m.body ≡ t.length) × (m.kind ≡ t.kind)
-  pub again : same ≡ true → (m.time - t.time ≡ t.delta) × (m.time - t.time < 16777215)
-  pub bound : m.time < 2 ^ 32
+record Tells (t : Terms) (h : Heading) (anew alike same : Bool) : Type 0 where
+  pub follows : anew ≡ false → (h.stream ≡ t.stream) × (t.time ≤ h.time)
+  pub like : alike ≡ true → (h.length ≡ t.length) × (h.kind ≡ t.kind)
+  pub again : same ≡ true → (h.time - t.time ≡ t.delta) × (h.time - t.time < 16777215)
+  pub bound : h.time < 2 ^ 32
   pub extended : t.extended ≡ nat_le 16777215 t.delta
 
-abbrev begun_by : Bool → Bool → Bool → Terms → Message → Begun
-begun_by anew alike same t m = begun_with (cond anew 0 (cond (not alike) 1 (cond same 3 2))) (cond anew m.time (m.time - t.time)) m
+abbrev begun_by : Bool → Bool → Bool → Terms → Heading → Begun
+begun_by anew alike same t h = begun_with (cond anew 0 (cond (not alike) 1 (cond same 3 2))) (cond anew h.time (h.time - t.time)) h
 
 same_extended : (t : Terms) (d : ℕ) → t.extended ≡ nat_le 16777215 t.delta → d ≡ t.delta → nat_le 16777215 d ≡ t.extended
 same_extended t d e f = rw (f, e) refl
 
-begins_by : (anew alike same : Bool) (k : Kept) (t : Terms) (m : Message) → Tells t m anew alike same → k.terms ≡ t → k.part ≡ [] → Leads (begun_by anew alike same t m).format k (begun_by anew alike same t m) []
-begins_by true alike same k t m tells is part = leads_0 k (begun_with 0 m.time m) refl
-begins_by false false same k t m tells is part =
+begins_by : (anew alike same : Bool) (k : Kept) (t : Terms) (h : Heading) → Tells t h anew alike same → k.terms ≡ t → k.part ≡ [] → Leads (begun_by anew alike same t h).format k (begun_by anew alike same t h) []
+begins_by true alike same k t h tells is part = leads_0 k (begun_with 0 h.time h) refl
+begins_by false false same k t h tells is part =
     let f = tells.follows refl in
     let bound = tells.bound in
-    leads_1 k (begun_with 1 (m.time - t.time) m) (rw is (omega (arith, f.1, bound))) (rw is (sym f.0))
-begins_by false true false k t m tells is part =
+    leads_1 k (begun_with 1 (h.time - t.time) h) (rw is (omega (arith, f.1, bound))) (rw is (sym f.0))
+begins_by false true false k t h tells is part =
     let f = tells.follows refl in
     let l = tells.like refl in
     let bound = tells.bound in
-    leads_2 k (begun_with 2 (m.time - t.time) m) (rw is (omega (arith, f.1, bound))) (rw is (sym f.0)) (rw is (sym l.0)) (rw is (sym l.1))
-begins_by false true true k t m tells is part =
+    leads_2 k (begun_with 2 (h.time - t.time) h) (rw is (omega (arith, f.1, bound))) (rw is (sym f.0)) (rw is (sym l.0)) (rw is (sym l.1))
+begins_by false true true k t h tells is part =
     let f = tells.follows refl in
     let l = tells.like refl in
     let a = tells.again refl in
     let bound = tells.bound in
-    let time : (t.time + t.delta) % 2 ^ 32 ≡ m.time = omega (arith, f.1, a.0, bound) in
-    leads_3 k (begun_with 3 (m.time - t.time) m) part (rw (is, time, ← a.0, l.0, l.1, f.0, same_extended t (m.time - t.time) tells.extended a.0) refl)
+    let time : (t.time + t.delta) % 2 ^ 32 ≡ h.time = omega (arith, f.1, a.0, bound) in
+    leads_3 k (begun_with 3 (h.time - t.time) h) part (rw (is, time, ← a.0, l.0, l.1, f.0, same_extended t (h.time - t.time) tells.extended a.0) refl)
 
-tells_follows : (t : Terms) (m : Message) → starts_anew t m ≡ false → (m.stream ≡ t.stream) × (t.time ≤ m.time)
+tells_follows : (t : Terms) (h : Heading) → starts_anew t h ≡ false → (h.stream ≡ t.stream) × (t.time ≤ h.time)
 unfolding starts_anew
-tells_follows t m e = grind (arith, nat_tests)
+tells_follows t h e = grind (arith, nat_tests)
 
-tells_like : (t : Terms) (m : Message) → is_alike t m ≡ true → (length m.body ≡ t.length) × (m.kind ≡ t.kind)
+tells_like : (t : Terms) (h : Heading) → is_alike t h ≡ true → (h.length ≡ t.length) × (h.kind ≡ t.kind)
 unfolding is_alike
-tells_like t m e = grind (arith, nat_tests)
+tells_like t h e = grind (arith, nat_tests)
 
 tells_again : (b : Begun) (d : ℕ) → repeats b d ≡ true → (d ≡ b.terms.delta) × (d < 16777215)
 unfolding repeats
@@ -118,39 +118,39 @@ abbrev pub Agrees : Option Begun → Bool → Kept → Type 0
 Agrees None known k = known ≡ false
 Agrees (Some b) known k = Remembers b known k
 
-begun_some : (b : Begun) (m : Message) → begun_after (Some b) m ≡ begun_by (starts_anew b.terms m) (is_alike b.terms m) (repeats b (m.time - b.terms.time)) b.terms m
+begun_some : (b : Begun) (h : Heading) → begun_after (Some b) h ≡ begun_by (starts_anew b.terms h) (is_alike b.terms h) (repeats b (h.time - b.terms.time)) b.terms h
 unfolding format_after delta_after
-begun_some b m = refl
+begun_some b h = refl
 
-begun_none : (m : Message) → begun_after None m ≡ begun_with 0 m.time m
+begun_none : (h : Heading) → begun_after None h ≡ begun_with 0 h.time h
 unfolding format_after delta_after
-begun_none m = refl
+begun_none h = refl
 
 -- the first chunk of a message leads to its beginning
-pub leads_after : (last : Option Begun) (known : Bool) (k : Kept) (m : Message) → m.time < 2 ^ 32 → Agrees last known k → k.part ≡ [] → Leads (begun_after last m).format k (begun_after last m) []
-leads_after None known k m bound agrees part =
+pub leads_after : (last : Option Begun) (known : Bool) (k : Kept) (h : Heading) → h.time < 2 ^ 32 → Agrees last known k → k.part ≡ [] → Leads (begun_after last h).format k (begun_after last h) []
+leads_after None known k h bound agrees part =
     let L : Begun → Type 0 = λ x. Leads x.format k x [] in
-    subst L (sym (begun_none m)) (leads_0 k (begun_with 0 m.time m) refl)
-leads_after (Some b) known k m bound agrees part =
+    subst L (sym (begun_none h)) (leads_0 k (begun_with 0 h.time h) refl)
+leads_after (Some b) known k h bound agrees part =
     let L : Begun → Type 0 = λ x. Leads x.format k x [] in
-    let tells : Tells b.terms m (starts_anew b.terms m) (is_alike b.terms m) (repeats b (m.time - b.terms.time)) = record {
-      follows = tells_follows b.terms m;
-      like = tells_like b.terms m;
-      again = tells_again b (m.time - b.terms.time);
+    let tells : Tells b.terms h (starts_anew b.terms h) (is_alike b.terms h) (repeats b (h.time - b.terms.time)) = record {
+      follows = tells_follows b.terms h;
+      like = tells_like b.terms h;
+      again = tells_again b (h.time - b.terms.time);
       bound = bound;
       extended = agrees.extended;
     } in
-    subst L (sym (begun_some b m)) (begins_by (starts_anew b.terms m) (is_alike b.terms m) (repeats b (m.time - b.terms.time)) k b.terms m tells agrees.terms_are part)
+    subst L (sym (begun_some b h)) (begins_by (starts_anew b.terms h) (is_alike b.terms h) (repeats b (h.time - b.terms.time)) k b.terms h tells agrees.terms_are part)
 
 -- a fresh id begins with format 0
-pub room_after : (last : Option Begun) (known : Bool) (k : Kept) (m : Message) (n : ℕ) → Agrees last known k → n < 64 → (known || (nat_lt (begun_after last m).format 2 && nat_lt n 64)) ≡ true
-room_after None known k m n agrees few =
+pub room_after : (last : Option Begun) (known : Bool) (k : Kept) (h : Heading) (n : ℕ) → Agrees last known k → n < 64 → (known || (nat_lt (begun_after last h).format 2 && nat_lt n 64)) ≡ true
+room_after None known k h n agrees few =
     let R : Begun → Type 0 = λ x. (known || (nat_lt x.format 2 && nat_lt n 64)) ≡ true in
-    subst R (sym (begun_none m)) (grind (arith, nat_tests))
-room_after (Some b) known k m n agrees few = rw agrees.known_is refl
+    subst R (sym (begun_none h)) (grind (arith, nat_tests))
+room_after (Some b) known k h n agrees few = rw agrees.known_is refl
 
 -- the delta is no more than the time
-pub delta_most : (last : Option Begun) (m : Message) → delta_after last m ≤ m.time
+pub delta_most : (last : Option Begun) (h : Heading) → delta_after last h ≤ h.time
 unfolding delta_after
-delta_most None m = omega arith
-delta_most (Some b) m = grind (arith, nat_tests)
+delta_most None h = omega arith
+delta_most (Some b) h = grind (arith, nat_tests)

@@ -8,7 +8,7 @@ use Rattle.chunk_wire.specs.declared.message.Message.{Message}
 use Rattle.chunk_wire.specs.State.{State, part_bytes, put}
 use Rattle.chunk_wire.specs.Chunk.{message_of}
 use Rattle.chunk_reader.specs.Control.{by_message, next, refused_size}
-use Rattle.chunk_reader.specs.Reads.{AreChunks, IsChunk, ended, messages, state_after}
+use Rattle.chunk_reader.specs.Reads.{AreChunks, IsChunkWithin, ended, messages, state_after}
 use Rattle.chunk_writer.specs.declared.begun.Begun.{Begun}
 use Rattle.chunk_writer.specs.Written.{spread}
 use Rattle.chunk_law.proofs.Opened.{Opens, holding}
@@ -24,7 +24,7 @@ pub record Cut (max : ℕ) (s : State) (b : List ℕ) (m : Message) (t : State) 
   pub given : (n : ℕ) → messages n s chunks ≡ (n + length b, m) ∷ []
   pub after : state_after s chunks ≡ t
 
-cut_last : (max : ℕ) (s : State) (c : List ℕ) (m : Message) (t : State) → IsChunk max s c → message_of s c ≡ Some m → next s c ≡ t → Cut max s c m t
+cut_last : (max : ℕ) (s : State) (c : List ℕ) (m : Message) (t : State) → IsChunkWithin max s c → message_of s c ≡ Some m → next s c ≡ t → Cut max s c m t
 cut_last max s c m t i some then = record {
   chunks = c ∷ [];
   are = (i, tt);
@@ -33,7 +33,7 @@ cut_last max s c m t i some then = record {
   after = then;
 }
 
-cut_more : (max : ℕ) (s : State) (c b : List ℕ) (m : Message) (u t : State) → IsChunk max s c → message_of s c ≡ None → next s c ≡ u → Cut max u b m t → Cut max s (c ++ b) m t
+cut_more : (max : ℕ) (s : State) (c b : List ℕ) (m : Message) (u t : State) → IsChunkWithin max s c → message_of s c ≡ None → next s c ≡ u → Cut max u b m t → Cut max s (c ++ b) m t
 cut_more max s c b m u t i none then cut =
     let A : State → Type 0 = λ v. AreChunks max v cut.chunks in
     let length_is : (n : ℕ) → n + length c + length b ≡ n + length (c ++ b) = λ n. omega (arith, length-append c b) in
@@ -82,7 +82,7 @@ last max size x kept h body s g part rest w b short =
     let then : next s (g ++ rest) ≡ by_message (message_with x.terms body) (during size x kept []) = rw (b.body_is, ← b.size_is, ← b.puts []) end.then in
     let held = held_by max size x kept h body s g part rest w b in
     let size_is = b.size_is in
-    let i : IsChunk max s (g ++ rest) = piece max s g rest (holding x part) b.opens w.fits (omega (arith, n, total, size_is, short)) (omega (arith, held, n, total, w.fits)) (omega (arith, b.held, n, total, w.fits)) (rw some w.sized) in
+    let i : IsChunkWithin max s (g ++ rest) = piece max s g rest (holding x part) b.opens w.fits (omega (arith, n, total, size_is, short)) (omega (arith, held, n, total, w.fits)) (omega (arith, b.held, n, total, w.fits)) (rw some w.sized) in
     rw (spread_short h size size rest short) (cut_last max s (g ++ rest) (message_with x.terms body) (by_message (message_with x.terms body) (during size x kept [])) i some then)
 
 -- what is known before the chunk after a full one
@@ -118,7 +118,7 @@ full max size x kept h body s g part rest w b more cut =
     let held = held_by max size x kept h body s g part rest w b in
     let size_is = b.size_is in
     let none = on.none in
-    let i : IsChunk max s (g ++ y) = piece max s g y (holding x part) b.opens w.fits (omega (arith, n, total, size_is, l, more)) (omega (arith, held, n, total, w.fits, l, more)) (omega (arith, b.held, n, total, w.fits)) (rw none refl) in
+    let i : IsChunkWithin max s (g ++ y) = piece max s g y (holding x part) b.opens w.fits (omega (arith, n, total, size_is, l, more)) (omega (arith, held, n, total, w.fits, l, more)) (omega (arith, b.held, n, total, w.fits)) (rw none refl) in
     let bytes : (g ++ y) ++ (h ++ spread h size size (drop size rest)) ≡ g ++ spread h size size rest = append_assoc g y (h ++ spread h size size (drop size rest)) ∙ ap (λ (v : List ℕ). g ++ v) (sym (spread_long h size rest w.some more)) in
     let C : List ℕ → Type 0 = λ v. Cut max s v (message_with x.terms body) (by_message (message_with x.terms body) (during size x kept [])) in
     subst C bytes (cut_more max s (g ++ y) (h ++ spread h size size (drop size rest)) (message_with x.terms body) (during size x kept (part ++ y)) (by_message (message_with x.terms body) (during size x kept [])) i none then cut)

@@ -5,7 +5,7 @@ use Rattle.chunk_wire.specs.declared.kept.Kept.{Kept}
 use Rattle.chunk_wire.specs.State.{at_place, fresh_kept, kept_of, part_bytes, place_of}
 use Rattle.chunk_wire.specs.Chunk.{with_part}
 use Rattle.chunk_reader.specs.Control.{dropped, dropped_at}
-use Rattle.chunk_law.proofs.Puts.{parts_more}
+use Rattle.chunk_wire.proofs.Records.{parts_more}
 
 part_at : (ks : List Kept) (i : ℕ) (d : Kept) → part_bytes ks ≡ 0 → d.part ≡ [] → (get_or ks i d).part ≡ []
 part_at [] i d e f = f

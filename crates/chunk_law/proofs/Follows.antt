@@ -8,7 +8,7 @@ use Rattle.chunk_wire.specs.declared.message.Message.{Message}
 use Rattle.chunk_wire.specs.State.{State, fresh_state, kept_of, part_bytes, put}
 use Rattle.chunk_reader.specs.Control.{by_message, dropped, refused_size}
 use Rattle.chunk_writer.specs.declared.begun.Begun.{Begun}
-use Rattle.chunk_writer.specs.Known.{Known, fresh, sized}
+use Rattle.chunk_writer.specs.WriterKnown.{WriterKnown, fresh, sized}
 use Rattle.chunk_writer.specs.Rule.{begun_in, id_for, last_on}
 use Rattle.chunk_writer.specs.Written.{after, resized_by}
 use Rattle.chunk_law.proofs.Begins.{Agrees}
@@ -68,7 +68,7 @@ counted_put k kept (inr (inr (inr (inl e)))) c = counted_6 k kept e c
 counted_put k kept (inr (inr (inr (inr e)))) c = counted_7 k kept e c
 
 -- the state s is that of a reader of what was written up to w
-pub record Follows (w : Known) (s : State) : Type 0 where
+pub record Follows (w : WriterKnown) (s : State) : Type 0 where
   pub size_is : s.size ≡ w.size
   pub some : 1 ≤ w.size
   pub empty : part_bytes s.kept ≡ 0
@@ -99,7 +99,7 @@ agrees_case false id x said kept e extended a =
     rw (there, kept_put_other id (holding x []) kept e) a
 
 -- the message is whole
-pub follows_after : (w : Known) (s : State) (m : Message) → Follows w s → IsSaid (begun_in w.said m) → Follows (after w m) (during s.size (begun_in w.said m) s.kept [])
+pub follows_after : (w : WriterKnown) (s : State) (m : Message) → Follows w s → IsSaid (begun_in w.said m) → Follows (after w m) (during s.size (begun_in w.said m) s.kept [])
 follows_after w s m f said =
     let x = begun_in w.said m in
     record {
@@ -110,15 +110,15 @@ follows_after w s m f said =
       counted = counted_put (holding x []) s.kept (five m.kind) f.counted;
     }
 
-follows_sized : (n : ℕ) (w : Known) (s : State) → Follows w s → 1 ≤ n → Follows (sized n w) (record { size = n; kept = s.kept })
+follows_sized : (n : ℕ) (w : WriterKnown) (s : State) → Follows w s → 1 ≤ n → Follows (sized n w) (record { size = n; kept = s.kept })
 follows_sized n w s f some = record { size_is = refl; some = some; empty = f.empty; agrees = f.agrees; counted = f.counted }
 
-follows_dropped : (n : ℕ) (w : Known) (s : State) → Follows w s → Follows w (record { size = s.size; kept = dropped n s.kept })
+follows_dropped : (n : ℕ) (w : WriterKnown) (s : State) → Follows w s → Follows w (record { size = s.size; kept = dropped n s.kept })
 follows_dropped n w s f =
     let F : List Kept → Type 0 = λ kept. Follows w (record { size = s.size; kept = kept }) in
     subst F (sym (drop_none n s.kept f.empty)) f
 
-told_case : (first full second : Bool) (n : ℕ) (w : Known) (s : State) → Follows w s → ((first && full) ≡ true → 1 ≤ n)
+told_case : (first full second : Bool) (n : ℕ) (w : WriterKnown) (s : State) → Follows w s → ((first && full) ≡ true → 1 ≤ n)
     → Follows (cond (first && full) (sized n w) w) (cond (not full) s (cond first (record { size = n; kept = s.kept }) (cond second (record { size = s.size; kept = dropped n s.kept }) s)))
 told_case true true second n w s f some = follows_sized n w s f (some refl)
 told_case true false second n w s f some = f
@@ -140,7 +140,7 @@ not_short : (n : ℕ) → nat_lt n 4 ≡ not (nat_le 4 n)
 not_short n = grind (arith, nat_tests)
 
 -- a message that says something of the chunks after it is taken by both alike
-pub follows_resized : (w : Known) (s : State) (m : Message) → Follows w s → refused_size m ≡ None → Follows (resized_by m w) (by_message m s)
+pub follows_resized : (w : WriterKnown) (s : State) (m : Message) → Follows w s → refused_size m ≡ None → Follows (resized_by m w) (by_message m s)
 unfolding by_message resized_by
 follows_resized w s m f sized =
     rw (not_short (length m.body)) (told_case (nat_eq m.kind 1) (nat_le 4 (length m.body)) (nat_eq m.kind 2) (be32_of m.body) w s f (sized_some m sized))

@@ -12,8 +12,8 @@ use Rattle.chunk_reader.specs.Control.{by_message, next}
 use Rattle.chunk_reader.specs.Reads.{AreChunks, ended, messages, state_after}
 use Rattle.chunk_reader.proofs.Reading.{open_empty}
 use Rattle.chunk_writer.specs.declared.begun.Begun.{Begun}
-use Rattle.chunk_writer.specs.Known.{Known, fresh}
-use Rattle.chunk_writer.specs.Rule.{begun_in, id_for, is_written, last_on}
+use Rattle.chunk_writer.specs.WriterKnown.{WriterKnown, fresh}
+use Rattle.chunk_writer.specs.Rule.{begun_in, heading_of, id_for, is_written, last_on}
 use Rattle.chunk_writer.specs.Written.{bytes_of, header_with, spread, written}
 use Rattle.chunk_writer.specs.Written as Writing
 use Rattle.chunk_law.specs.ReadBack.{AreReadable, IsReadBack, IsReadable, placed}
@@ -32,14 +32,14 @@ kind_fits : (kind : ℕ) → is_written kind ≡ true → kind < 256
 kind_fits kind e = grind (arith, nat_tests)
 
 -- how a message is begun can be written
-said_of : (max : ℕ) (w : Known) (m : Message) → IsReadable max m → IsSaid (begun_in w.said m)
+said_of : (max : ℕ) (w : WriterKnown) (m : Message) → IsReadable max m → IsSaid (begun_in w.said m)
 said_of max w m r = record {
   id_low = (id_fits m.kind).0;
   id_high = (id_fits m.kind).1;
   length = r.short;
   kind = kind_fits m.kind r.kind;
   stream = r.stream;
-  delta = omega (arith, delta_most (last_on (id_for m.kind) w.said) m, r.time);
+  delta = omega (arith, delta_most (last_on (id_for m.kind) w.said) (heading_of m), r.time);
   extended = refl;
 }
 
@@ -52,27 +52,27 @@ further s x part said some =
     let L : Kept → Type 0 = λ j. Leads 3 j x part in
     opens u 3 x part said (subst L (sym (kept_put k s.kept)) (leads_on x part some)) (rw there refl)
 
-bytes_are : (w : Known) (s : State) (m : Message) → s.size ≡ w.size → header_with (begun_in w.said m).format (begun_in w.said m) ++ spread (header_with 3 (begun_in w.said m)) s.size s.size m.body ≡ bytes_of w m
+bytes_are : (w : WriterKnown) (s : State) (m : Message) → s.size ≡ w.size → header_with (begun_in w.said m).format (begun_in w.said m) ++ spread (header_with 3 (begun_in w.said m)) s.size s.size m.body ≡ bytes_of w m
 unfolding bytes_of
 bytes_are w s m e = ap (λ (n : ℕ). header_with (begun_in w.said m).format (begun_in w.said m) ++ spread (header_with 3 (begun_in w.said m)) n n m.body) e
 
 -- the first chunk of a message
-first : (w : Known) (s : State) (m : Message) → Follows w s → IsSaid (begun_in w.said m) → m.time < 2 ^ 32 → Opens s (header_with (begun_in w.said m).format (begun_in w.said m)) (holding (begun_in w.said m) [])
+first : (w : WriterKnown) (s : State) (m : Message) → Follows w s → IsSaid (begun_in w.said m) → m.time < 2 ^ 32 → Opens s (header_with (begun_in w.said m).format (begun_in w.said m)) (holding (begun_in w.said m) [])
 first w s m f said time =
     let x = begun_in w.said m in
     let last = last_on x.id w.said in
     let k = kept_of x.id s.kept in
     opens s x.format x [] said
-    (leads_after last (has x.id s.kept) k m time (f.agrees x.id) (part_none x.id s.kept f.empty))
-    (room_after last (has x.id s.kept) k m (length s.kept) (f.agrees x.id) (few s.kept f.counted))
+    (leads_after last (has x.id s.kept) k (heading_of m) time (f.agrees x.id) (part_none x.id s.kept f.empty))
+    (room_after last (has x.id s.kept) k (heading_of m) (length s.kept) (f.agrees x.id) (few s.kept f.counted))
 
 -- a message is read whole, and the reader follows the writer on
-record Passes (max : ℕ) (w : Known) (s : State) (m : Message) : Type 0 where
+record Passes (max : ℕ) (w : WriterKnown) (s : State) (m : Message) : Type 0 where
   pub t : State
   pub cut : Cut max s (bytes_of w m) m t
   pub follows : Follows (Writing.next w m) t
 
-passes : (max : ℕ) (w : Known) (s : State) (m : Message) → IsReadable max m → Follows w s → Passes max w s m
+passes : (max : ℕ) (w : WriterKnown) (s : State) (m : Message) → IsReadable max m → Follows w s → Passes max w s m
 passes max w s m r f =
     let x = begun_in w.said m in
     let said = said_of max w m r in
@@ -109,18 +109,18 @@ messages_joined n s (c ∷ cs) ds =
     ∙ sym (append_assoc now (messages (n + length c) (next s c) cs) (messages (n + length (c ++ concat cs)) (state_after (next s c) cs) ds))
 
 -- the bytes of the messages are chunks that complete these messages, where n bytes stand before them
-record AllRead (max n : ℕ) (w : Known) (s : State) (ms : List Message) : Type 0 where
+record AllRead (max n : ℕ) (w : WriterKnown) (s : State) (ms : List Message) : Type 0 where
   pub chunks : List (List ℕ)
   pub are : AreChunks max s chunks
   pub whole : concat chunks ≡ written w ms
   pub given : messages n s chunks ≡ placed n w ms
   pub empty : part_bytes (state_after s chunks).kept ≡ 0
 
-none_read : (max n : ℕ) (w : Known) (s : State) → Follows w s → AllRead max n w s []
+none_read : (max n : ℕ) (w : WriterKnown) (s : State) → Follows w s → AllRead max n w s []
 unfolding written
 none_read max n w s f = record { chunks = []; are = tt; whole = refl; given = refl; empty = f.empty }
 
-more_read : (max n : ℕ) (w : Known) (s : State) (m : Message) (ms : List Message) → (p : Passes max w s m) → AllRead max (n + length (bytes_of w m)) (Writing.next w m) p.t ms → AllRead max n w s (m ∷ ms)
+more_read : (max n : ℕ) (w : WriterKnown) (s : State) (m : Message) (ms : List Message) → (p : Passes max w s m) → AllRead max (n + length (bytes_of w m)) (Writing.next w m) p.t ms → AllRead max n w s (m ∷ ms)
 unfolding written
 more_read max n w s m ms p rest =
     let cs = p.cut.chunks in
@@ -138,13 +138,13 @@ more_read max n w s m ms p rest =
       empty = subst E (sym (state_joined s cs ds ∙ ap (λ (u : State). state_after u ds) p.cut.after)) rest.empty;
     }
 
-all_read : (max n : ℕ) (w : Known) (s : State) (ms : List Message) → AreReadable max ms → Follows w s → AllRead max n w s ms
+all_read : (max n : ℕ) (w : WriterKnown) (s : State) (ms : List Message) → AreReadable max ms → Follows w s → AllRead max n w s ms
 all_read max n w s [] r f = none_read max n w s f
 all_read max n w s (m ∷ ms) r f =
     let p = passes max w s m r.0 f in
     more_read max n w s m ms p (all_read max (n + length (bytes_of w m)) (Writing.next w m) p.t ms r.1 p.follows)
 
-placed_are : (n : ℕ) (w : Known) (ms : List Message) → map (λ (p : ℕ × Message). p.1) (placed n w ms) ≡ ms
+placed_are : (n : ℕ) (w : WriterKnown) (ms : List Message) → map (λ (p : ℕ × Message). p.1) (placed n w ms) ≡ ms
 placed_are n w [] = refl
 placed_are n w (m ∷ ms) = ap (λ (t : List Message). m ∷ t) (placed_are (n + length (bytes_of w m)) (Writing.next w m) ms)
 

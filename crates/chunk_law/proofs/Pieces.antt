@@ -9,7 +9,7 @@ use Rattle.chunk_wire.specs.Layout.{format_in}
 use Rattle.chunk_wire.specs.State.{State, part_bytes, put}
 use Rattle.chunk_wire.specs.Chunk.{after_chunk, chunk_size, filled, header_size, is_known, message_of, opened, with_part}
 use Rattle.chunk_reader.specs.Control.{bad_size, by_message, controlled, next}
-use Rattle.chunk_reader.specs.Reads.{IsChunk, held_bytes, part_limit}
+use Rattle.chunk_reader.specs.Reads.{IsChunkWithin, held_bytes, part_limit}
 use Rattle.chunk_reader.proofs.Reading.{held_whole}
 use Rattle.chunk_law.proofs.Opened.{Opens}
 
@@ -38,7 +38,7 @@ held_is s g y k o =
 
 -- it is a chunk
 pub piece : (max : ℕ) (s : State) (g y : List ℕ) (k : Kept) → Opens s g k → k.terms.length ≤ max → length y ≡ min s.size (k.terms.length - length k.part) → part_bytes (put k s.kept) + length y ≤ part_limit max → part_bytes s.kept ≤ part_limit max
-    → bad_size (message_of s (g ++ y)) ≡ None → IsChunk max s (g ++ y)
+    → bad_size (message_of s (g ++ y)) ≡ None → IsChunkWithin max s (g ++ y)
 piece max s g y k o fits size held before sized =
     let room = o.room y in
     record {

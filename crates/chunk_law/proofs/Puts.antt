@@ -4,35 +4,13 @@ use Rattle.std.proofs.lemmas.Bool.{eq-eqb, eqb-true}
 use Rattle.std.proofs.lemmas.Bool.Decides.{nat_tests}
 use Rattle.std.proofs.lemmas.List.Sums.{sum_by-cons}
 use Rattle.chunk_wire.specs.declared.kept.Kept.{Kept}
-use Rattle.chunk_wire.specs.State.{at_place, kept_of, part_bytes, place_of, put, put_at}
-
--- the place of the first that passes a test, where the first of all passes it or not
-place_step : (t : Bool) (n l : ℕ) → cond (nat_lt (cond (not t) (1 + n) 0) (suc l)) (Some (cond (not t) (1 + n) 0)) None ≡ cond t (Some 0) (option_map suc (cond (nat_lt n l) (Some n) None))
-place_step true n l = grind (arith, nat_tests)
-place_step false n l = grind (arith, nat_tests)
-
-place_none : (id : ℕ) → place_of id [] ≡ None
-unfolding place_of
-place_none id = refl
-
-place_more : (id : ℕ) (k : Kept) (ks : List Kept) → place_of id (k ∷ ks) ≡ cond (eqb k.id id) (Some 0) (option_map suc (place_of id ks))
-unfolding place_of
-place_more id k ks = place_step (eqb k.id id) _ (length ks)
-
-kept_step : (t : Bool) (id : ℕ) (k : Kept) (ks : List Kept) (o : Option ℕ) → at_place id (cond t (Some 0) (option_map suc o)) (k ∷ ks) ≡ cond t k (at_place id o ks)
-kept_step true id k ks o = refl
-kept_step false id k ks None = refl
-kept_step false id k ks (Some i) = refl
+use Rattle.chunk_wire.specs.State.{kept_of, part_bytes, place_of, put}
+use Rattle.chunk_wire.proofs.Records.{kept_more, parts_more, place_more, place_none, put_more, put_none}
 
 known_step : (t : Bool) (o : Option ℕ) → is_some (cond t (Some 0) (option_map suc o)) ≡ (t || is_some o)
 known_step true o = refl
 known_step false None = refl
 known_step false (Some i) = refl
-
-put_step : (t : Bool) (k y : Kept) (ys : List Kept) (o : Option ℕ) → put_at (cond t (Some 0) (option_map suc o)) k (y ∷ ys) ≡ cond t (k ∷ ys) (y ∷ put_at o k ys)
-put_step true k y ys o = refl
-put_step false k y ys None = refl
-put_step false k y ys (Some i) = refl
 
 -- the id has a record
 abbrev pub has : ℕ → List Kept → Bool
@@ -41,17 +19,8 @@ has id kept = is_some (place_of id kept)
 pub has_none : (id : ℕ) → has id [] ≡ false
 has_none id = rw (place_none id) refl
 
-kept_more : (id : ℕ) (k : Kept) (ks : List Kept) → kept_of id (k ∷ ks) ≡ cond (eqb k.id id) k (kept_of id ks)
-kept_more id k ks = rw (place_more id k ks) (kept_step (eqb k.id id) id k ks (place_of id ks))
-
 has_more : (id : ℕ) (k : Kept) (ks : List Kept) → has id (k ∷ ks) ≡ (eqb k.id id || has id ks)
 has_more id k ks = rw (place_more id k ks) (known_step (eqb k.id id) (place_of id ks))
-
-put_more : (k y : Kept) (ys : List Kept) → put k (y ∷ ys) ≡ cond (eqb y.id k.id) (k ∷ ys) (y ∷ put k ys)
-put_more k y ys = rw (place_more k.id y ys) (put_step (eqb y.id k.id) k y ys (place_of k.id ys))
-
-put_none : (k : Kept) → put k [] ≡ k ∷ []
-put_none k = rw (place_none k.id) refl
 
 -- one case of the lemmas below: the first record is that of the id, or another one
 kept_put_case : (t : Bool) (id : ℕ) (k y : Kept) (ys : List Kept) → eqb k.id id ≡ true → eqb y.id id ≡ t → kept_of id (put k ys) ≡ k → kept_of id (cond t (k ∷ ys) (y ∷ put k ys)) ≡ k
@@ -121,9 +90,6 @@ length_put_case false false k y ys ih = omega arith
 pub length_put : (k : Kept) (ks : List Kept) → length (put k ks) ≡ cond (has k.id ks) (length ks) (length ks + 1)
 length_put k [] = rw (put_none k, place_none k.id)
 length_put k (y ∷ ys) = rw (put_more k y ys, has_more k.id y ys) (length_put_case (eqb y.id k.id) (has k.id ys) k y ys (length_put k ys))
-
-pub parts_more : (k : Kept) (ks : List Kept) → part_bytes (k ∷ ks) ≡ length k.part + part_bytes ks
-parts_more k ks = sum_by-cons (λ (x : Kept). length x.part) k ks
 
 parts_put_case : (t : Bool) (k y : Kept) (ys : List Kept) → part_bytes (y ∷ ys) ≡ 0 → part_bytes (put k ys) ≡ length k.part → part_bytes (cond t (k ∷ ys) (y ∷ put k ys)) ≡ length k.part
 parts_put_case true k y ys e ih = parts_more k ys ∙ (omega (arith, parts_more y ys))

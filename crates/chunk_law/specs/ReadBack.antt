@@ -4,7 +4,7 @@ use Rattle.chunk_wire.specs.declared.message.Message.{Message}
 use Rattle.chunk_wire.specs.State.{State}
 use Rattle.chunk_reader.specs.Control.{refused_size}
 use Rattle.chunk_reader.specs.Reads.{Reads}
-use Rattle.chunk_writer.specs.Known.{Known, fresh}
+use Rattle.chunk_writer.specs.WriterKnown.{WriterKnown, fresh}
 use Rattle.chunk_writer.specs.Rule.{is_written}
 use Rattle.chunk_writer.specs.Written.{bytes_of, next, written}
 
@@ -23,7 +23,7 @@ AreReadable max [] = Unit {0}
 AreReadable max (m ∷ ms) = IsReadable max m × AreReadable max ms
 
 -- each message with the number of bytes up to its last, where n bytes were written before them
-abbrev pub placed : ℕ → Known → List Message → List (ℕ × Message)
+abbrev pub placed : ℕ → WriterKnown → List Message → List (ℕ × Message)
 placed n w [] = []
 placed n w (m ∷ ms) = (n + length (bytes_of w m), m) ∷ placed (n + length (bytes_of w m)) (next w m) ms
 

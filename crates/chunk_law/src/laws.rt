@@ -1,7 +1,7 @@
 ghost use Rattle.std.specs.Prelude.{◌≤◌, ◌^◌, ℕ, List, length};
 ghost use Rattle.chunk_wire.specs.declared.message.Message.{Message};
 ghost use Rattle.chunk_law.specs.ReadBack.{AreReadable, IsReadBack};
-ghost use Rattle.chunk_writer.specs.Known.{fresh};
+ghost use Rattle.chunk_writer.specs.WriterKnown.{fresh};
 ghost use Rattle.chunk_writer.specs.Written.{written};
 
 /// From the fresh state of a reader, the bytes that a fresh writer writes for messages read as exactly these messages

@@ -85,6 +85,20 @@ fn message_of(alloc: Global, number: u32) -> Result<Message, OutOfMemory>
     })
 }
 
+// Writes a message.
+fn put(writer: &mut Writer, message: &Message, out: &mut Bytes) -> Result<(), OutOfMemory>
+    requires kind { is_written message.now.kind ≡ true }
+    requires length { length message.now.body < 2 ^ 24 }
+{
+    let Message {
+        kind,
+        stream,
+        time,
+        ref body,
+    } = *message;
+    writer.put(kind, stream, time, body.as_slice(), out)
+}
+
 // Writes a Set Chunk Size and the messages of a round in chunks of that size.
 fn written(alloc: Global, size: u32) -> Result<Bytes, OutOfMemory>
     requires some { 1 ≤ size }
@@ -92,11 +106,15 @@ fn written(alloc: Global, size: u32) -> Result<Bytes, OutOfMemory>
 {
     let mut writer = Writer::new(alloc);
     let mut out = Bytes::new(alloc);
-    writer.put(&control_message(alloc, Control::ChunkSize(size))?, &mut out)?;
+    put(
+        &mut writer,
+        &control_message(alloc, Control::ChunkSize(size))?,
+        &mut out,
+    )?;
     writer.set_size(size);
     for number in 0..MESSAGES {
         let message = message_of(alloc, number)?;
-        writer.put(&message, &mut out)?;
+        put(&mut writer, &message, &mut out)?;
     }
     Ok(out)
 }
@@ -175,7 +193,7 @@ fn answers_to(alloc: Global, bytes: &[u8]) -> Result<Bytes, Fail> {
             continue;
         };
         if let Some(answer) = ping_answer(&control) {
-            writer.put(&control_message(alloc, answer)?, &mut out)?;
+            put(&mut writer, &control_message(alloc, answer)?, &mut out)?;
         }
     }
     Ok(out)
@@ -218,7 +236,8 @@ fn take(
     while left > 0 {
         let step = left.min(inbound.room_to_next());
         if let Some(number) = inbound.took(step) {
-            writer.put(
+            put(
+                writer,
                 &control_message(alloc, Control::Acknowledgement(number))?,
                 out,
             )?;

@@ -10,7 +10,7 @@ use Rattle.chunk_wire.specs.Chunk.{is_known}
 use Rattle.chunk_reader.specs.declared.fail.ReadCause.{ReadCause}
 use Rattle.chunk_reader.specs.declared.fail.ReadCause.TheVariants.{NoHead, TooManyIds, TooLong, TooMuch, BadChunkSize, OutOfMemory, TooFar}
 use Rattle.chunk_reader.specs.Control.{next}
-use Rattle.chunk_reader.specs.Reads.{AreChunks, IsChunk, IsOpen, Reads, state_after}
+use Rattle.chunk_reader.specs.Reads.{AreChunks, IsChunkWithin, IsOpen, Reads, state_after}
 use Rattle.chunk_reader.specs.Stops.{Refuses, Stops}
 use Rattle.chunk_reader.proofs.Once.{no_chunk, same_front}
 use Rattle.chunk_reader.proofs.Parts.{reads_part}
@@ -18,14 +18,14 @@ use Rattle.chunk_reader.proofs.Running.{empty_is}
 use Rattle.chunk_reader.proofs.Stopping.{no_room, take_past}
 
 -- one byte after less than a chunk: still less, or a chunk
-one_byte : (max : ℕ) (s : State) (r d z : List ℕ) (y : ℕ) → IsOpen max s r → IsChunk max s d → r ++ y ∷ [] ≡ d ++ z → IsChunk max s (r ++ y ∷ [])
+one_byte : (max : ℕ) (s : State) (r d z : List ℕ) (y : ℕ) → IsOpen max s r → IsChunkWithin max s d → r ++ y ∷ [] ≡ d ++ z → IsChunkWithin max s (r ++ y ∷ [])
 one_byte max s r d z y o i e =
     let n : length r + 1 ≡ length d + length z = omega (arith, ap length e, length-append r (y ∷ []), length-append d z) in
     elim (cases_lt (length r) (length d)) [
       | inl less ↦ (
           let none : z ≡ [] = empty_is z (omega arith) in
           let same : d ≡ r ++ y ∷ [] = sym (append-nil d) ∙ ap (λ (t : List ℕ). d ++ t) (sym none) ∙ sym e in
-          subst (λ (t : List ℕ). IsChunk max s t) same i)
+          subst (λ (t : List ℕ). IsChunkWithin max s t) same i)
       | inr le ↦ (
           let k : length r ≡ length d + (length r - length d) = omega arith in
           let cut : r ≡ d ++ take (length r - length d) z = sym (take_at r (y ∷ []) (length r) refl) ∙ ap (take (length r)) e ∙ ap (λ (m : ℕ). take m (d ++ z)) k ∙ take_past d z (length r - length d) in
@@ -33,7 +33,7 @@ one_byte max s r d z y o i e =
     ]
 
 back : (max : ℕ) (s : State) (cs ds : List (List ℕ)) (r q : List ℕ) (y : ℕ) → AreChunks max s cs → IsOpen max (state_after s cs) r → AreChunks max s ds → IsOpen max (state_after s ds) q → concat cs ++ (r ++ y ∷ []) ≡ concat ds ++ q
-    → IsOpen max (state_after s cs) (r ++ y ∷ []) ⊎ IsChunk max (state_after s cs) (r ++ y ∷ [])
+    → IsOpen max (state_after s cs) (r ++ y ∷ []) ⊎ IsChunkWithin max (state_after s cs) (r ++ y ∷ [])
 back max s [] [] r q y a o b p e = inl (subst (λ (t : List ℕ). IsOpen max s t) (sym e) p)
 back max s [] (d ∷ ds) r q y a o b p e = inr (one_byte max s r d (concat ds ++ q) y o b.0 (e ∙ append_assoc d (concat ds) q))
 back max s (c ∷ cs) [] r q y a o b p e = absurd (no_chunk max s c (concat cs ++ (r ++ y ∷ [])) q a.0 (sym e ∙ append_assoc c (concat cs) (r ++ y ∷ [])) p)
@@ -53,7 +53,7 @@ not_open max n s r (BadChunkSize v) o near f = omega (arith, o.short, f.0)
 not_open max n s r OutOfMemory o near f = f
 not_open max n s r TooFar o near f = omega (arith, f.0)
 
-not_chunk : (max n : ℕ) (s : State) (r : List ℕ) (cause : ReadCause) → IsChunk max s r → n + 1 ≤ 2 ^ 62 → Refuses max s r n cause → ⊥
+not_chunk : (max n : ℕ) (s : State) (r : List ℕ) (cause : ReadCause) → IsChunkWithin max s r → n + 1 ≤ 2 ^ 62 → Refuses max s r n cause → ⊥
 not_chunk max n s r (NoHead id) o near f = no_room (is_known s r) (format_in r) (length s.kept) f.2 (inl f.3) (o.admitted.room (omega (arith, f.0)))
 not_chunk max n s r TooManyIds o near f = no_room (is_known s r) (format_in r) (length s.kept) f.1 (inr f.3) (o.admitted.room (omega (arith, f.0)))
 not_chunk max n s r (TooLong found) o near f = let h = o.admitted.length (omega (arith, f.0)) in omega (arith, h, f.2, f.3)
@@ -69,7 +69,7 @@ not_more max place b ms ns s t r q y cause len x z f =
     let O : State → Type 0 = λ u. IsOpen max u r in
     let P : State → Type 0 = λ u. IsOpen max u q in
     let near : place + 1 ≤ 2 ^ 62 = omega (arith, z.near, length-append b (y ∷ []), len) in
-    let R : State → Type 0 = λ u. IsOpen max u (r ++ y ∷ []) ⊎ IsChunk max u (r ++ y ∷ []) in
+    let R : State → Type 0 = λ u. IsOpen max u (r ++ y ∷ []) ⊎ IsChunkWithin max u (r ++ y ∷ []) in
     let w : R s = subst R (sym x.state) (back max fresh_state x.chunks z.chunks r q y x.are_chunks (subst O x.state x.rest) z.are_chunks (subst P z.state z.rest) e) in
     elim w [
       | inl o ↦ not_open max place s (r ++ y ∷ []) cause o near f

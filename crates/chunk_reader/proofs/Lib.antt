@@ -10,3 +10,5 @@ pub mod Once
 pub mod Parts
 pub mod Apart
 pub mod Single
+pub mod Totals
+pub mod Settled

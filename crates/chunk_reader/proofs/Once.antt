@@ -6,19 +6,19 @@ use Rattle.chunk_wire.specs.declared.message.Message.{Message}
 use Rattle.chunk_wire.specs.State.{State, fresh_state}
 use Rattle.chunk_wire.specs.Chunk.{chunk_size}
 use Rattle.chunk_reader.specs.Control.{next}
-use Rattle.chunk_reader.specs.Reads.{AreChunks, IsChunk, IsOpen, Reads, messages, state_after}
+use Rattle.chunk_reader.specs.Reads.{AreChunks, IsChunkWithin, IsOpen, Reads, messages, state_after}
 use Rattle.chunk_reader.specs.Laws.{SameReading}
 use Rattle.chunk_reader.proofs.Stopping.{size_more}
 
 -- the bytes of a chunk tell where it ends, whatever follows
-ends : (max : ℕ) (s : State) (c x : List ℕ) → IsChunk max s c → chunk_size s (c ++ x) ≡ length c
+ends : (max : ℕ) (s : State) (c x : List ℕ) → IsChunkWithin max s c → chunk_size s (c ++ x) ≡ length c
 ends max s c x i = let w = i.chunk.whole in size_more s c x (omega (arith, w)) ∙ sym w
 
 -- less than a chunk doesn't begin with a chunk
-pub no_chunk : (max : ℕ) (s : State) (c x q : List ℕ) → IsChunk max s c → q ≡ c ++ x → IsOpen max s q → ⊥
+pub no_chunk : (max : ℕ) (s : State) (c x q : List ℕ) → IsChunkWithin max s c → q ≡ c ++ x → IsOpen max s q → ⊥
 no_chunk max s c x q i e o = let z = ends max s c x i in let h = rw e at o.short in omega (arith, z, h, length-append c x)
 
-pub same_front : (max : ℕ) (s : State) (c d x y : List ℕ) → IsChunk max s c → IsChunk max s d → c ++ x ≡ d ++ y → (c ≡ d) × (x ≡ y)
+pub same_front : (max : ℕ) (s : State) (c d x y : List ℕ) → IsChunkWithin max s c → IsChunkWithin max s d → c ++ x ≡ d ++ y → (c ≡ d) × (x ≡ y)
 same_front max s c d x y i j e =
     let l : length c ≡ length d = sym (ends max s c x i) ∙ ap (chunk_size s) e ∙ ends max s d y j in
     let q : c ≡ d = sym (take_at c x (length c) refl) ∙ ap (take (length c)) e ∙ take_at d y (length c) (sym l) in

@@ -11,7 +11,7 @@ use Rattle.chunk_wire.proofs.Sizes.{basic_size_some}
 use Rattle.chunk_wire.proofs.Same.{basic_size_same, format_same, id_same, same_append, same_back, same_less}
 use Rattle.chunk_reader.specs.Control.{next}
 use Rattle.chunk_reader.specs.Laws.{ReadsPart}
-use Rattle.chunk_reader.specs.Reads.{Admits, AreChunks, IsChunk, IsOpen, Reads, ended, messages, state_after}
+use Rattle.chunk_reader.specs.Reads.{Admits, AreChunks, IsChunkWithin, IsOpen, Reads, ended, messages, state_after}
 use Rattle.chunk_reader.proofs.Reading.{held_short}
 use Rattle.chunk_reader.proofs.Running.{grown}
 use Rattle.chunk_reader.proofs.Stopping.{held_more, size_more, take_past}
@@ -70,7 +70,7 @@ part_rest max n m s r o =
       begins = refl;
     }
 
-part_first : (max n m : ℕ) (s : State) (c : List ℕ) (cs : List (List ℕ)) (r : List ℕ) → IsChunk max s c → n < length c → Part max n m s (c ∷ cs) r
+part_first : (max n m : ℕ) (s : State) (c : List ℕ) (cs : List (List ℕ)) (r : List ℕ) → IsChunkWithin max s c → n < length c → Part max n m s (c ∷ cs) r
 part_first max n m s c cs r i less =
     let e : take n c ++ drop n c ≡ c = take-append-drop n c in
     let P : List ℕ → Type 0 = λ t. Admits max s t in
@@ -87,7 +87,7 @@ part_first max n m s c cs r i less =
       begins = refl;
     }
 
-part_more : (max k m : ℕ) (s : State) (c : List ℕ) (cs : List (List ℕ)) (r : List ℕ) → IsChunk max s c → Part max k (m + length c) (next s c) cs r → Part max (length c + k) m s (c ∷ cs) r
+part_more : (max k m : ℕ) (s : State) (c : List ℕ) (cs : List (List ℕ)) (r : List ℕ) → IsChunkWithin max s c → Part max k (m + length c) (next s c) cs r → Part max (length c + k) m s (c ∷ cs) r
 part_more max k m s c cs r i p = record {
   ds = c ∷ p.ds;
   q = p.q;

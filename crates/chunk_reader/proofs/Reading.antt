@@ -10,7 +10,7 @@ use Rattle.chunk_wire.specs.Chunk.{header_size, message_of, opened}
 use Rattle.chunk_wire.proofs.Sizes.{basic_size_some}
 use Rattle.chunk_wire.proofs.Same.{basic_in_header}
 use Rattle.chunk_reader.specs.Control.{next}
-use Rattle.chunk_reader.specs.Reads.{AreChunks, IsChunk, IsOpen, Reads, ended, held_bytes, messages, part_limit, state_after}
+use Rattle.chunk_reader.specs.Reads.{AreChunks, IsChunkWithin, IsOpen, Reads, ended, held_bytes, messages, part_limit, state_after}
 
 pub held_short : (s : State) (r : List ℕ) → length r < header_size s r → held_bytes s r ≡ part_bytes s.kept
 unfolding held_bytes
@@ -34,7 +34,7 @@ open_empty max s h =
       short = omega arith;
     }
 
-are_chunks_more : (max : ℕ) (s : State) (cs : List (List ℕ)) (c : List ℕ) → AreChunks max s cs → IsChunk max (state_after s cs) c → AreChunks max s (cs ++ c ∷ [])
+are_chunks_more : (max : ℕ) (s : State) (cs : List (List ℕ)) (c : List ℕ) → AreChunks max s cs → IsChunkWithin max (state_after s cs) c → AreChunks max s (cs ++ c ∷ [])
 are_chunks_more max s [] c a i = (i, tt)
 are_chunks_more max s (d ∷ ds) c a i = (a.0, are_chunks_more max (next s d) ds c a.1 i)
 
@@ -70,7 +70,7 @@ open_more max b ms s r x q o h = record {
 }
 
 -- the chunk ends
-pub chunk_more : (max : ℕ) (b : List ℕ) (ms : List (ℕ × Message)) (s : State) (r x : List ℕ) → Reads max b ms s r → IsChunk max s (r ++ x) → IsOpen max (next s (r ++ x)) [] → length (b ++ x) ≤ 2 ^ 62
+pub chunk_more : (max : ℕ) (b : List ℕ) (ms : List (ℕ × Message)) (s : State) (r x : List ℕ) → Reads max b ms s r → IsChunkWithin max s (r ++ x) → IsOpen max (next s (r ++ x)) [] → length (b ++ x) ≤ 2 ^ 62
     → Reads max (b ++ x) (ms ++ ended (length (b ++ x)) (message_of s (r ++ x))) (next s (r ++ x)) []
 chunk_more max b ms s r x q i o h =
     let cs = q.chunks in
@@ -82,7 +82,7 @@ chunk_more max b ms s r x q i o h =
     ∙ ap (λ (t : State). messages 0 fresh_state cs ++ ended (length (b ++ x)) (message_of t c)) (sym q.state) in
     record {
       chunks = cs ++ c ∷ [];
-      are_chunks = are_chunks_more max fresh_state cs c q.are_chunks (let P : State → Type 0 = λ t. IsChunk max t c in subst P q.state i);
+      are_chunks = are_chunks_more max fresh_state cs c q.are_chunks (let P : State → Type 0 = λ t. IsChunkWithin max t c in subst P q.state i);
       whole = whole ∙ sym (append-nil (concat cs ++ c)) ∙ ap (λ (t : List ℕ). t ++ []) (sym (concat_more cs c));
       given = ap (λ t. t ++ ended (length (b ++ x)) (message_of s c)) q.given ∙ sym at;
       state = ap (λ (t : State). next t c) q.state ∙ sym (state_after_more fresh_state cs c);

@@ -12,7 +12,7 @@ use Rattle.chunk_wire.specs.Chunk.{after_chunk, chunk_size, filled, header_size,
 use Rattle.chunk_wire.proofs.Same.{basic_in_header, HeaderSame, header_same, same_append, same_back}
 use Rattle.chunk_reader.specs.declared.fields.Core.{Core}
 use Rattle.chunk_reader.specs.Control.{bad_size, controlled, next}
-use Rattle.chunk_reader.specs.Reads.{Admits, IsChunk, IsOpen, Reads, ended, has_room, held_bytes, part_limit}
+use Rattle.chunk_reader.specs.Reads.{Admits, IsChunkWithin, IsOpen, Reads, ended, has_room, held_bytes, part_limit}
 use Rattle.chunk_reader.specs.Core.{AtHead, InPayload, IsPlaceOf, IsStanding, the_state}
 use Rattle.chunk_reader.specs.Steps.{HeadGrows, HeadOpens, HeadTaken, IsFed, IsFinished, IsOpened, IsPassed, PayloadTaken, ended_state, slot_at, slot_message}
 use Rattle.chunk_reader.proofs.Reading.{chunk_more, header_some, held_short, held_whole, open_empty, open_more}
@@ -68,7 +68,7 @@ next_is : (s : State) (r : List ℕ) → next s r ≡ controlled (message_of s r
 unfolding next
 next_is s r = refl
 
-may_begin_room : (k : Bool) (f n : ℕ) → (k || (nat_lt f 2 && nat_lt n 64)) ≡ true → (k || nat_lt f 2) ≡ true
+pub may_begin_room : (k : Bool) (f n : ℕ) → (k || (nat_lt f 2 && nat_lt n 64)) ≡ true → (k || nat_lt f 2) ≡ true
 may_begin_room true f n e = refl
 may_begin_room false f n e = grind (arith, nat_tests)
 
@@ -80,7 +80,7 @@ pub record Stood (max : ℕ) (fed : List ℕ) (given : List (ℕ × Message)) (m
 pub running_open : (max : ℕ) (s : State) (r : List ℕ) (mid : Core) → Running max s r mid → 0 < mid.need → IsOpen max s r
 running_open max s r mid u some = record { admitted = admits_running max s r mid u; short = omega (arith, u.need) }
 
-pub running_chunk : (max : ℕ) (s : State) (r : List ℕ) (mid : Core) → Running max s r mid → mid.need ≡ 0 → bad_size (slot_message (slot_at mid)) ≡ None → IsChunk max s r
+pub running_chunk : (max : ℕ) (s : State) (r : List ℕ) (mid : Core) → Running max s r mid → mid.need ≡ 0 → bad_size (slot_message (slot_at mid)) ≡ None → IsChunkWithin max s r
 running_chunk max s r mid u zero sized =
     let message : slot_message (slot_at mid) ≡ message_of s r = ap slot_message (slot_is max s r mid u) ∙ message_is s r in
     record {

@@ -6,7 +6,7 @@ use Rattle.chunk_wire.specs.State.{State, fresh_state, part_bytes}
 use Rattle.chunk_reader.specs.declared.fields.Core.{Core}
 use Rattle.chunk_reader.specs.declared.fail.ReadFail.{ReadFail}
 use Rattle.chunk_reader.specs.declared.fail.ReadCause.{ReadCause}
-use Rattle.chunk_reader.specs.Known.{Known}
+use Rattle.chunk_reader.specs.ReaderKnown.{ReaderKnown}
 use Rattle.chunk_reader.specs.Reads.{Reads, ended}
 use Rattle.chunk_reader.specs.Core.{IsStanding, the_state}
 use Rattle.chunk_reader.specs.Sound.{IsRead, IsSound}
@@ -33,9 +33,10 @@ sound_new core fed given size slots head need held f g =
         counted = held ∙ sym (ap part_bytes slots);
       };
       empty = λ e. absurd (cc);
+      dropped = λ e. absurd (cc);
     }
 
-known : ℕ → List ℕ → List (ℕ × Message) → Option ReadFail → Known
+known : ℕ → List ℕ → List (ℕ × Message) → Option ReadFail → ReaderKnown
 known max fed given failed = record { max = max; fed = fed; given = given; failed = failed }
 
 end_by : (max max' : ℕ) (b b' : List ℕ) (g g' : List (ℕ × Message)) → max' ≡ max → b' ≡ b → g' ≡ g → ((s : State) × Reads max b g s []) → (s : State) × Reads max' b' g' s []
@@ -61,6 +62,7 @@ advance_ok old new count failed fed fed' given given' piece most used m sound no
         read = record { s = stands.s; r = stands.r; reads = stands.reads };
         standing = λ _. stands;
         empty = λ e. absurd (cc);
+        dropped = λ e. absurd (cc);
       };
       taken = record {
         within = omega (arith, t.within);
@@ -76,9 +78,9 @@ pub record Refused (old new : Core) (count after : ℕ) (e : ReadFail) (failed :
   pub sound : IsSound new (count + after) (Some e) fed' given
   pub refused : IsRefused (record { max = old.max; fed = fed; given = given; failed = failed }) piece e (record { max = new.max; fed = fed'; given = given; failed = Some e })
 
-pub advance_err : (old new : Core) (count after : ℕ) (cause : ReadCause) (failed : Option ReadFail) (fed fed' : List ℕ) (given : List (ℕ × Message)) (piece : List ℕ) → IsSound old count failed fed given → failed ≡ None → new.max ≡ old.max → new.held ≡ 0
+pub advance_err : (old new : Core) (count after : ℕ) (cause : ReadCause) (failed : Option ReadFail) (fed fed' : List ℕ) (given : List (ℕ × Message)) (piece : List ℕ) → IsSound old count failed fed given → failed ≡ None → new.max ≡ old.max → new.held ≡ 0 → new.slots.items ≡ []
     → TakeFails old piece count cause after → after < length piece → count + after ≤ 2 ^ 62 → fed' ≡ fed ++ take after piece → Refused old new count after (record { cause = cause; at = count + after }) failed fed fed' given piece
-advance_err old new count after cause failed fed fed' given piece sound none max held t within near f =
+advance_err old new count after cause failed fed fed' given piece sound none max held slots t within near f =
     let lives : is_some failed ≡ false = rw none refl in
     let st = sound.standing lives in
     let len : length (fed ++ take after piece) ≡ count + after = omega (arith, length-append fed (take after piece), length-take after piece, sound.counted) in
@@ -91,6 +93,7 @@ advance_err old new count after cause failed fed fed' given piece sound none max
         read = read;
         standing = λ e. absurd (cc);
         empty = λ _. held;
+        dropped = λ _. slots;
       };
       refused = record {
         after = after;

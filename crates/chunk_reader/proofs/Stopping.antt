@@ -14,7 +14,7 @@ use Rattle.chunk_reader.specs.declared.fields.Core.{Core}
 use Rattle.chunk_reader.specs.declared.fail.ReadCause.{ReadCause}
 use Rattle.chunk_reader.specs.declared.fail.ReadCause.TheVariants.{NoHead, TooManyIds, TooLong, TooMuch, BadChunkSize, OutOfMemory, TooFar}
 use Rattle.chunk_reader.specs.Control.{bad_size}
-use Rattle.chunk_reader.specs.Reads.{Admits, IsChunk, IsOpen, Reads, has_room, held_bytes, part_limit}
+use Rattle.chunk_reader.specs.Reads.{Admits, IsChunkWithin, IsOpen, Reads, has_room, held_bytes, part_limit}
 use Rattle.chunk_reader.specs.Stops.{Refuses, Stops}
 use Rattle.chunk_reader.specs.Core.{AtHead, InPayload, IsStanding, the_state}
 use Rattle.chunk_reader.specs.Steps.{HeadFails, HeadGrows, HeadOpens, IsPassed, IsTaken, PayloadFails, StepFails, TakeFails, slot_at, slot_message}
@@ -57,7 +57,7 @@ pub no_room : (k : Bool) (f n : ℕ) → k ≡ false → (2 ≤ f) ⊎ (64 ≤ n
 no_room k f n e h t = grind (arith, nat_tests)
 
 -- a basic header that isn't taken was not whole before
-basic_last : (max : ℕ) (s : State) (r x : List ℕ) → Admits max s r → length x ≡ 1 → basic_size (r ++ x) ≤ length (r ++ x) → is_known s (r ++ x) ≡ false → (2 ≤ format_in (r ++ x)) ⊎ (64 ≤ length s.kept) → length (r ++ x) ≡ basic_size (r ++ x)
+pub basic_last : (max : ℕ) (s : State) (r x : List ℕ) → Admits max s r → length x ≡ 1 → basic_size (r ++ x) ≤ length (r ++ x) → is_known s (r ++ x) ≡ false → (2 ≤ format_in (r ++ x)) ⊎ (64 ≤ length s.kept) → length (r ++ x) ≡ basic_size (r ++ x)
 basic_last max s r x a one le k f = elim (cases_lt (length r) (basic_size (r ++ x))) [
   | inl lt ↦ omega (arith, length-append r x)
   | inr whole ↦ (
@@ -163,17 +163,17 @@ payload_halts max fed given piece s r old n OutOfMemory after q p m held within 
 payload_halts max fed given piece s r old n TooFar after q p m held within need some near f = absurd f
 
 -- what a step took is less than a chunk, or a chunk
-taken_passed : (max : ℕ) (s : State) (r : List ℕ) (m : Option Message) (mid new : Core) → Running max s r mid → IsPassed mid m new → IsOpen max s r ⊎ IsChunk max s r
+taken_passed : (max : ℕ) (s : State) (r : List ℕ) (m : Option Message) (mid new : Core) → Running max s r mid → IsPassed mid m new → IsOpen max s r ⊎ IsChunkWithin max s r
 taken_passed max s r m mid new run (inl p) = inl (running_open max s r mid run p.0)
 taken_passed max s r m mid new run (inr p) = inr (running_chunk max s r mid run p.0 p.1.sized)
 
-taken_head : (max : ℕ) (s : State) (r x : List ℕ) (m : Option Message) (old new : Core) → Admits max s r → AtHead s r old → old.held ≡ held_bytes s r → length x ≡ 1 → HeadGrows s (r ++ x) m old new ⊎ HeadOpens max old.held s (r ++ x) m new → IsOpen max s (r ++ x) ⊎ IsChunk max s (r ++ x)
+taken_head : (max : ℕ) (s : State) (r x : List ℕ) (m : Option Message) (old new : Core) → Admits max s r → AtHead s r old → old.held ≡ held_bytes s r → length x ≡ 1 → HeadGrows s (r ++ x) m old new ⊎ HeadOpens max old.held s (r ++ x) m new → IsOpen max s (r ++ x) ⊎ IsChunkWithin max s (r ++ x)
 taken_head max s r x m old new a h held one (inl g) = inl (grows_open max s r x m old new a h g)
 taken_head max s r x m old new a h held one (inr t) =
     taken_passed max s (r ++ x) m t.mid new (opens_run max s (r ++ x) old t.mid (last_byte s r x h.short t.whole one) t.room t.fits t.opens (omega (arith, t.less, held, a.held)) a.before) t.passed
 
 -- a byte that isn't refused, though it is too far
-far_refused : (max n : ℕ) (s : State) (r : List ℕ) → n ≡ 2 ^ 62 → IsOpen max s r ⊎ IsChunk max s r → Refuses max s r n TooFar
+pub far_refused : (max n : ℕ) (s : State) (r : List ℕ) → n ≡ 2 ^ 62 → IsOpen max s r ⊎ IsChunkWithin max s r → Refuses max s r n TooFar
 far_refused max n s r e (inl o) = (e, o.admitted, λ w. absurd (omega (arith, o.short)))
 far_refused max n s r e (inr i) = (e, i.admitted, λ _. i.sized)
 
@@ -210,7 +210,7 @@ step_halts max fed given piece old most cause after st some le near (inr f) = el
   | inr p ↦ payload_halts max fed given piece st.s st.r old f.1.0 cause after st.reads p st.max_is st.held (omega (arith, f.1.1.1)) f.1.1.2 f.1.1.0 near f.1.1.3
 ]
 
-taken_admits : (max : ℕ) (fed : List ℕ) (given : List (ℕ × Message)) (piece : List ℕ) (old : Core) (used : ℕ) (m : Option Message) (new : Core) (st : IsStanding max fed given old) → 0 < length piece → IsTaken old piece 1 used m new → used ≡ 1 → IsOpen max st.s (st.r ++ take used piece) ⊎ IsChunk max st.s (st.r ++ take used piece)
+taken_admits : (max : ℕ) (fed : List ℕ) (given : List (ℕ × Message)) (piece : List ℕ) (old : Core) (used : ℕ) (m : Option Message) (new : Core) (st : IsStanding max fed given old) → 0 < length piece → IsTaken old piece 1 used m new → used ≡ 1 → IsOpen max st.s (st.r ++ take used piece) ⊎ IsChunkWithin max st.s (st.r ++ take used piece)
 taken_admits max fed given piece old used m new st some t one = elim t.taken [
   | inl f ↦ elim st.fields [
     | inl h ↦ (
@@ -229,7 +229,7 @@ far_halts max fed given piece old used m new st some near t =
     let one : used ≡ 1 = omega (arith, t.some, t.within) in
     let x = take_one piece some in
     let n : length fed + 0 ≡ 2 ^ 62 = omega arith in
-    let whole : IsOpen max st.s (st.r ++ take 1 piece) ⊎ IsChunk max st.s (st.r ++ take 1 piece) = subst (λ (k : ℕ). IsOpen max st.s (st.r ++ take k piece) ⊎ IsChunk max st.s (st.r ++ take k piece)) one (taken_admits max fed given piece old used m new st some t one) in
+    let whole : IsOpen max st.s (st.r ++ take 1 piece) ⊎ IsChunkWithin max st.s (st.r ++ take 1 piece) = subst (λ (k : ℕ). IsOpen max st.s (st.r ++ take k piece) ⊎ IsChunkWithin max st.s (st.r ++ take k piece)) one (taken_admits max fed given piece old used m new st some t one) in
     let far = far_refused max (length fed + 0) st.s (st.r ++ take 1 piece) n whole in
     record {
       s = st.s;

@@ -6,23 +6,28 @@ use Rattle.chunk_reader.specs.declared.fail.ReadFail.{ReadFail}
 use Rattle.chunk_reader.specs.declared.fail.ReadCause.TheVariants.{OutOfMemory}
 use Rattle.chunk_reader.specs.Reads.{Reads, ended, held_bytes}
 use Rattle.chunk_reader.specs.Stops.{Stops}
-use Rattle.chunk_reader.specs.Known.{Known}
+use Rattle.chunk_reader.specs.ReaderKnown.{ReaderKnown}
 use Rattle.chunk_reader.specs.Sound.{IsRead}
 
 -- what was fed and given reads so
-abbrev pub Stands : Known → Type 0
+abbrev pub Stands : ReaderKnown → Type 0
 Stands k = IsRead k.max k.fed k.given
 
 -- with the bytes given up to now the reader is at a chunk's end
-abbrev pub AtEnd : Known → Type 0
+abbrev pub AtEnd : ReaderKnown → Type 0
 AtEnd k = (s : State) × Reads k.max k.fed k.given s []
 
 -- the reader after so many bytes of the piece, and the message that they complete
-abbrev pub after_bytes : Known → List ℕ → ℕ → Option Message → Known
-after_bytes k piece used m = record { max = k.max; fed = k.fed ++ take used piece; given = k.given ++ ended (length (k.fed ++ take used piece)) m; failed = None }
+abbrev pub after_bytes : ReaderKnown → List ℕ → ℕ → Option Message → ReaderKnown
+after_bytes k piece used m = record {
+  max = k.max;
+  fed = k.fed ++ take used piece;
+  given = k.given ++ ended (length (k.fed ++ take used piece)) m;
+  failed = None;
+}
 
 -- the bytes up to a message's end, or all, were read
-pub record IsFedTo (old : Known) (piece : List ℕ) (used : ℕ) (m : Option Message) (new : Known) : Type 0 where
+pub record IsFedTo (old : ReaderKnown) (piece : List ℕ) (used : ℕ) (m : Option Message) (new : ReaderKnown) : Type 0 where
   pub within : used ≤ length piece
   pub some : is_some m ≡ true → 0 < used
   pub all : is_some m ≡ false → used ≡ length piece
@@ -31,7 +36,7 @@ pub record IsFedTo (old : Known) (piece : List ℕ) (used : ℕ) (m : Option Mes
   pub at_end : is_some m ≡ true → AtEnd new
 
 -- a byte of the piece was refused: the bytes before it were read, and they complete no message
-pub record IsRefused (old : Known) (piece : List ℕ) (e : ReadFail) (new : Known) : Type 0 where
+pub record IsRefused (old : ReaderKnown) (piece : List ℕ) (e : ReadFail) (new : ReaderKnown) : Type 0 where
   pub after : ℕ
   pub within : after < length piece
   pub now : new ≡ record { max = old.max; fed = old.fed ++ take after piece; given = old.given; failed = Some e }
@@ -40,11 +45,11 @@ pub record IsRefused (old : Known) (piece : List ℕ) (e : ReadFail) (new : Know
   pub cause : (e.cause ≡ OutOfMemory) ⊎ Stops old.max (old.fed ++ piece) e.cause e.at
 
 -- the bytes held of messages in progress
-abbrev pub IsHeld : Known → ℕ → Type 0
+abbrev pub IsHeld : ReaderKnown → ℕ → Type 0
 IsHeld k n = (s : State) × ((r : List ℕ) × Reads k.max k.fed k.given s r × (n ≡ held_bytes s r))
 
 -- some bytes were read, up to a message's end or before
-pub record IsTakenTo (old : Known) (piece : List ℕ) (used : ℕ) (m : Option Message) (new : Known) : Type 0 where
+pub record IsTakenTo (old : ReaderKnown) (piece : List ℕ) (used : ℕ) (m : Option Message) (new : ReaderKnown) : Type 0 where
   pub within : used ≤ length piece
   pub some : 0 < used
   pub now : new ≡ after_bytes old piece used m

@@ -1,9 +1,11 @@
 -- Laws of reading
-use Rattle.std.specs.Prelude.{◌≡◌, ℕ, List, ◌++◌, take}
+use Rattle.std.specs.Prelude.{◌≡◌, ◌⊎◌, ℕ, List, ◌++◌, take}
 use Rattle.chunk_wire.specs.declared.message.Message.{Message}
 use Rattle.chunk_wire.specs.State.{State}
 use Rattle.chunk_reader.specs.declared.fail.ReadCause.{ReadCause}
 use Rattle.chunk_reader.specs.Reads.{Reads}
+use Rattle.chunk_reader.specs.Sound.{IsRead}
+use Rattle.chunk_reader.specs.Stops.{Stops}
 
 -- two readings give the same messages and leave the same state and the same rest
 pub record SameReading (ms ns : List (ℕ × Message)) (s t : State) (q r : List ℕ) : Type 0 where
@@ -24,3 +26,7 @@ pub record ReadsPart (max : ℕ) (b : List ℕ) (n : ℕ) (ms : List (ℕ × Mes
 pub record SameStop (c d : ReadCause) (p q : ℕ) : Type 0 where
   pub cause_same : c ≡ d
   pub place_same : p ≡ q
+
+-- the bytes are read, or refused at a place
+abbrev pub IsReadOrRefused : ℕ → List ℕ → Type 0
+IsReadOrRefused max b = ((ms : List (ℕ × Message)) × IsRead max b ms) ⊎ ((cause : ReadCause) × ((place : ℕ) × Stops max b cause place))

@@ -1,7 +1,7 @@
 pub mod Control
 pub mod Reads
 pub mod Stops
-pub mod Known
+pub mod ReaderKnown
 pub mod Core
 pub mod Steps
 pub mod Sound

@@ -1,10 +1,11 @@
 -- What a list of bytes reads as: chunks, each from the state that the one before left, and then less than a chunk
-use Rattle.std.specs.Prelude.{◌≡◌, ℕ, ◌+◌, ◌-◌, ◌^◌, ◌<◌, ◌≤◌, nat_le, nat_lt, Bool, true, ◌&&◌, ◌||◌, if◌then◌else◌, List, [], ◌∷◌, ◌++◌, length, Option, Some, None}
+use Rattle.std.specs.Prelude.{◌≡◌, ℕ, ◌+◌, ◌-◌, ◌^◌, ◌<◌, ◌≤◌, nat_le, nat_lt, Bool, true, ◌&&◌, ◌||◌, if◌then◌else◌}
+use Rattle.std.specs.Prelude.{List, [], ◌∷◌, ◌++◌, length, Option, Some, None}
 use Rattle.std.specs.List.{concat}
 use Rattle.chunk_wire.specs.declared.message.Message.{Message}
 use Rattle.chunk_wire.specs.Layout.{basic_size, format_in}
 use Rattle.chunk_wire.specs.State.{State, fresh_state, part_bytes, put}
-use Rattle.chunk_wire.specs.Chunk.{Chunk, chunk_size, header_size, opened, is_known, message_of, after_chunk}
+use Rattle.chunk_wire.specs.Chunk.{IsChunk, chunk_size, header_size, opened, is_known, message_of, after_chunk}
 use Rattle.chunk_reader.specs.Control.{next, bad_size}
 
 -- the most bytes that messages in progress may have
@@ -34,15 +35,15 @@ pub record IsOpen (max : ℕ) (s : State) (r : List ℕ) : Type 0 where
   pub short : length r < chunk_size s r
 
 -- a chunk within the limits, with the state and the message that it gives
-pub record IsChunk (max : ℕ) (s : State) (c : List ℕ) : Type 0 where
-  pub chunk : Chunk s c (after_chunk s c) (message_of s c)
+pub record IsChunkWithin (max : ℕ) (s : State) (c : List ℕ) : Type 0 where
+  pub chunk : IsChunk s c (after_chunk s c) (message_of s c)
   pub admitted : Admits max s c
   pub sized : bad_size (message_of s c) ≡ None
 
 -- each is a chunk from the state that the one before left
 abbrev pub AreChunks : ℕ → State → List (List ℕ) → Type 0
 AreChunks max s [] = Unit {0}
-AreChunks max s (c ∷ cs) = IsChunk max s c × AreChunks max (next s c) cs
+AreChunks max s (c ∷ cs) = IsChunkWithin max s c × AreChunks max (next s c) cs
 
 abbrev pub state_after : State → List (List ℕ) → State
 state_after s [] = s

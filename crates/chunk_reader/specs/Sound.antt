@@ -1,5 +1,5 @@
 -- What a reader keeps true of its fields
-use Rattle.std.specs.Prelude.{◌≡◌, ℕ, List, Option, length, is_some, true, false}
+use Rattle.std.specs.Prelude.{◌≡◌, ℕ, List, [], Option, length, is_some, true, false}
 use Rattle.chunk_wire.specs.declared.message.Message.{Message}
 use Rattle.chunk_wire.specs.State.{State}
 use Rattle.chunk_reader.specs.declared.fields.Core.{Core}
@@ -19,3 +19,4 @@ pub record IsSound (core : Core) (count : ℕ) (failed : Option ReadFail) (fed :
   pub read : IsRead core.max fed given
   pub standing : is_some failed ≡ false → IsStanding core.max fed given core
   pub empty : is_some failed ≡ true → core.held ≡ 0
+  pub dropped : is_some failed ≡ true → core.slots.items ≡ []

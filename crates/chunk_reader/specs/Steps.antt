@@ -1,10 +1,11 @@
 -- What the steps of the reader leave, by its fields
-use Rattle.std.specs.Prelude.{◌≡◌, ℕ, ◌+◌, ◌^◌, ◌<◌, ◌≤◌, ◌⊎◌, nat_eq, nat_lt, if◌then◌else◌, Bool, true, false, List, [], ◌++◌, is_some, IfSome, length, take, Option, Some, None, get_or, set}
+use Rattle.std.specs.Prelude.{◌≡◌, ℕ, ◌+◌, ◌^◌, ◌<◌, ◌≤◌, ◌⊎◌, nat_eq, nat_lt, if◌then◌else◌, Bool, true, false}
+use Rattle.std.specs.Prelude.{Result, MatchOption, MatchResult, List, [], ◌++◌, is_some, IfSome, length, take, Option, Some, None, get_or, set}
 use Rattle.chunk_wire.specs.declared.kept.Kept.{Kept}
 use Rattle.chunk_wire.specs.declared.headers.Basic.{Basic}
 use Rattle.chunk_wire.specs.declared.message.Message.{Message}
 use Rattle.chunk_wire.specs.Layout.{basic_size, format_in, id_in}
-use Rattle.chunk_wire.specs.State.{State, part_bytes, place_of, fresh_kept}
+use Rattle.chunk_wire.specs.State.{State, at_place, part_bytes, place_of, put_at, fresh_kept}
 use Rattle.chunk_wire.specs.Chunk.{header_size, opened, with_part, is_known, payload_size}
 use Rattle.chunk_reader.specs.Control.{controlled, bad_size}
 use Rattle.chunk_reader.specs.Reads.{has_room, part_limit}
@@ -43,6 +44,10 @@ HeaderFails max s r TooManyIds = (basic_size r ≤ length r) × (is_known s r �
 HeaderFails max s r (TooLong found) = (header_size s r ≤ length r) × (has_room s r ≡ true) × (found ≡ (opened s r).terms.length) × (max < found)
 HeaderFails max s r _ = ⊥
 
+-- what is known of the header r as far as it came: it isn't whole, it says this, or it is refused
+abbrev pub HeaderGives : ℕ → State → List ℕ → Result (Option Opening) ReadCause → Type 0
+HeaderGives max s r result = MatchResult result (λ o. MatchOption o (IsShort s r) (λ o. IsOpening max s r o)) (λ e. HeaderFails max s r e)
+
 -- the message that a slot's part is, if it is whole
 abbrev pub slot_done : Kept → Bool
 slot_done k = nat_eq (length k.part) k.terms.length
@@ -54,6 +59,11 @@ slot_message k = if slot_done k then Some (record { kind = k.terms.kind; stream 
 abbrev pub IsBadSize : Option Message → ReadCause → Type 0
 IsBadSize m (BadChunkSize value) = bad_size m ≡ Some value
 IsBadSize m _ = ⊥
+
+-- the records, with what a header says in the slot of its id
+abbrev pub with_opening : Opening → List Kept → List Kept
+with_opening o kept =
+    put_at o.place (record { id = o.id; terms = o.terms; part = if o.drops then [] else (at_place o.id o.place kept).part }) kept
 
 -- the place of a slot that was put
 abbrev pub IsPutAt : Option ℕ → ℕ → ℕ → Type 0
@@ -75,7 +85,10 @@ slot_at core = get_or core.slots.items core.place (fresh_kept 0)
 
 -- the state after the chunk in progress, which has ended
 abbrev pub ended_state : Core → State
-ended_state core = record { size = core.size; kept = set core.slots.items core.place (with_part (slot_at core) (if slot_done (slot_at core) then [] else (slot_at core).part)) }
+ended_state core = record {
+  size = core.size;
+  kept = set core.slots.items core.place (with_part (slot_at core) (if slot_done (slot_at core) then [] else (slot_at core).part));
+}
 
 -- what no end of a chunk changes, and that the parts are counted
 pub record Keeps (old new : Core) : Type 0 where
@@ -118,7 +131,9 @@ pub record PayloadTaken (old : Core) (piece : List ℕ) (m : Option Message) (ne
 abbrev pub PayloadFails : Core → List ℕ → ReadCause → ℕ → Type 0
 PayloadFails old piece TooMuch after = (part_limit old.max < old.held + length piece) × (old.held + after ≡ part_limit old.max)
 PayloadFails old piece OutOfMemory after = after ≡ 0
-PayloadFails old piece (BadChunkSize value) after = (mid : Core) × (IsFed old piece mid × (old.held + length piece ≤ part_limit old.max) × (mid.need ≡ 0) × (bad_size (slot_message (slot_at mid)) ≡ Some value) × (after + 1 ≡ length piece))
+PayloadFails old piece (BadChunkSize value) after =
+    (mid : Core) × (IsFed old piece mid × (old.held + length piece ≤ part_limit old.max) × (mid.need ≡ 0)
+    × (bad_size (slot_message (slot_at mid)) ≡ Some value) × (after + 1 ≡ length piece))
 PayloadFails old piece _ after = ⊥
 
 -- a byte of a header was taken, by which the header r isn't whole, or is opened
@@ -143,7 +158,9 @@ pub record HeadOpens (max held : ℕ) (s : State) (r : List ℕ) (m : Option Mes
 -- a byte of a header was refused
 abbrev pub HeadFails : ℕ → ℕ → State → List ℕ → ReadCause → Type 0
 HeadFails max held s r OutOfMemory = Unit {0}
-HeadFails max held s r (BadChunkSize value) = (header_size s r ≤ length r) × (has_room s r ≡ true) × ((opened s r).terms.length ≤ max) × ((mid : Core) × (IsOpened max s r mid × (mid.held ≤ held) × (mid.need ≡ 0) × (bad_size (slot_message (slot_at mid)) ≡ Some value)))
+HeadFails max held s r (BadChunkSize value) =
+    (header_size s r ≤ length r) × (has_room s r ≡ true) × ((opened s r).terms.length ≤ max)
+    × ((mid : Core) × (IsOpened max s r mid × (mid.held ≤ held) × (mid.need ≡ 0) × (bad_size (slot_message (slot_at mid)) ≡ Some value)))
 HeadFails max held s r cause = HeaderFails max s r cause
 
 -- a byte of a header was taken
@@ -154,7 +171,12 @@ HeadTaken old r m new = HeadGrows (the_state old) r m old new ⊎ HeadOpens old.
 pub record IsTaken (old : Core) (piece : List ℕ) (most used : ℕ) (m : Option Message) (new : Core) : Type 0 where
   pub some : 0 < used
   pub within : used ≤ most
-  pub taken : ((old.need ≡ 0) × (used ≡ 1) × HeadTaken old (old.head.items ++ take used piece) m new) ⊎ ((0 < old.need) × PayloadTaken old (take used piece) m new)
+  pub taken : ((old.need ≡ 0) × (used ≡ 1) × HeadTaken old (old.head.items ++ take used piece) m new)
+      ⊎ ((0 < old.need) × PayloadTaken old (take used piece) m new)
+
+-- so many bytes were taken, of a piece that so many stand before
+abbrev pub IsTakenNear : Core → List ℕ → ℕ → ℕ → Option Message → Core → Type 0
+IsTakenNear old piece count used m new = (most : ℕ) × (IsTaken old piece most used m new × (most ≤ length piece) × (count + used ≤ 2 ^ 62))
 
 -- a byte of the piece was refused, with so many before it
 abbrev pub StepFails : Core → List ℕ → ℕ → ReadCause → ℕ → Type 0

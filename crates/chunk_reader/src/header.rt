@@ -1,10 +1,11 @@
-ghost use Rattle.std.specs.Prelude.{◌≡◌, ◌≤◌, ◌<◌, ◌+◌, ◌||◌, ◌&&◌, ◌^◌, if◌then◌else◌, ℕ, true, is_some, length, drop, nat_lt, IsTrue, IfSome, MatchOption, MatchResult};
+ghost use Rattle.std.specs.Prelude.{◌≡◌, ◌≤◌, ◌<◌, ◌+◌, ◌||◌, ◌&&◌, ◌^◌, if◌then◌else◌, ℕ, true, is_some, length, nat_lt};
+ghost use Rattle.std.specs.Prelude.{IsTrue, IfSome, MatchResult};
 ghost use Rattle.chunk_wire.specs.Layout.{basic_in, basic_size, head_size, format_in, id_in, IsBasicAt, IsHeadAt};
 ghost use Rattle.chunk_wire.specs.State.{kept_of, place_of};
 ghost use Rattle.chunk_wire.specs.Chunk.{head_fields, is_extended, kept_before, terms_by, value_in};
 ghost use Rattle.chunk_reader.specs.Core.{the_state};
 ghost use Rattle.chunk_reader.specs.Reads.{has_room};
-ghost use Rattle.chunk_reader.specs.Steps.{AdmitFails, HeaderFails, IsOpening, IsShort};
+ghost use Rattle.chunk_reader.specs.Steps.{AdmitFails, HeaderGives};
 
 use crate::fail::ReadCause;
 use crate::fields::Core;
@@ -188,7 +189,7 @@ fn after_head(
     requires part { before.part ≡ length (kept_before (the_state core.now) core.now.head.items).part }
     requires head { head ≡ head_fields core.now.head.items }
     requires room { has_room (the_state core.now) core.now.head.items ≡ true }
-    ensures { MatchResult result (λ o. MatchOption o (IsShort (the_state core.now) core.now.head.items) (λ o. IsOpening core.now.max (the_state core.now) core.now.head.items o)) (λ e. HeaderFails core.now.max (the_state core.now) core.now.head.items e) }
+    ensures { HeaderGives core.now.max (the_state core.now) core.now.head.items result }
 {
     let extended = extends(core, basic.format, head, before.terms);
     if core.head.len() < whole_size(at, extended) {
@@ -212,7 +213,7 @@ fn after_head(
 // The rest of a header whose basic header is whole.
 fn after_basic(core: &Core, basic: Basic, size: usize) -> Result<Option<Opening>, ReadCause>
     requires { IsBasicAt core.now.head.items basic size }
-    ensures { MatchResult result (λ o. MatchOption o (IsShort (the_state core.now) core.now.head.items) (λ o. IsOpening core.now.max (the_state core.now) core.now.head.items o)) (λ e. HeaderFails core.now.max (the_state core.now) core.now.head.items e) }
+    ensures { HeaderGives core.now.max (the_state core.now) core.now.head.items result }
 {
     let before = find(&core.slots, basic.id);
     admit(basic, before.place, core.slots.len())?;
@@ -224,7 +225,7 @@ fn after_basic(core: &Core, basic: Basic, size: usize) -> Result<Option<Opening>
 
 // The header that is being read, once it is whole.
 pub fn header(core: &Core) -> Result<Option<Opening>, ReadCause>
-    ensures { MatchResult result (λ o. MatchOption o (IsShort (the_state core.now) core.now.head.items) (λ o. IsOpening core.now.max (the_state core.now) core.now.head.items o)) (λ e. HeaderFails core.now.max (the_state core.now) core.now.head.items e) }
+    ensures { HeaderGives core.now.max (the_state core.now) core.now.head.items result }
 {
     match read_basic(&core.head) {
         None => Ok(None),

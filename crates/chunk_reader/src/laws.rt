@@ -1,14 +1,15 @@
-ghost use Rattle.std.specs.Prelude.{ℕ, ◌+◌, List, ◌++◌, take};
+ghost use Rattle.std.specs.Prelude.{ℕ, ◌+◌, ◌<◌, List, ◌++◌, length, take};
 ghost use Rattle.chunk_wire.specs.declared.message.Message.{Message};
 ghost use Rattle.chunk_wire.specs.State.{State};
-ghost use Rattle.chunk_reader.specs.Laws.{ReadsPart, SameReading, SameStop};
+ghost use Rattle.chunk_reader.specs.Laws.{IsReadOrRefused, ReadsPart, SameReading, SameStop};
 ghost use Rattle.chunk_reader.specs.Reads.{Reads};
 ghost use Rattle.chunk_reader.specs.Stops.{Stops};
 ghost use Rattle.chunk_reader.specs.declared.fail.ReadCause.{ReadCause};
 
 /// Two readings of the same bytes are one, so the cutting into pieces can't matter.
 pub fn one_reading()
-    ensures { (max : ℕ) (b : List ℕ) (ms ns : List (ℕ × Message)) (s t : State) (q r : List ℕ) → Reads max b ms s q → Reads max b ns t r → SameReading ms ns s t q r }
+    ensures { (max : ℕ) (b : List ℕ) (ms ns : List (ℕ × Message)) (s t : State) (q r : List ℕ)
+        → Reads max b ms s q → Reads max b ns t r → SameReading ms ns s t q r }
 {}
 
 /// The first bytes of what is read are read too, as the first of its messages.
@@ -18,10 +19,22 @@ pub fn beginnings_are_read()
 
 /// Where a byte is refused, no list that begins with the bytes up to it and with it is read.
 pub fn refused_bytes_are_not_read()
-    ensures { (max : ℕ) (b more : List ℕ) (cause : ReadCause) (place : ℕ) (ms : List (ℕ × Message)) (s : State) (r : List ℕ) → Stops max b cause place → Reads max (take (place + 1) b ++ more) ms s r → ⊥ }
+    ensures { (max : ℕ) (b more : List ℕ) (cause : ReadCause) (place : ℕ) (ms : List (ℕ × Message)) (s : State) (r : List ℕ)
+        → Stops max b cause place → Reads max (take (place + 1) b ++ more) ms s r → ⊥ }
 {}
 
 /// A list of bytes is refused at one place and for one cause.
 pub fn one_refusal()
     ensures { (max : ℕ) (b : List ℕ) (c d : ReadCause) (p q : ℕ) → Stops max b c p → Stops max b d q → SameStop c d p q }
+{}
+
+/// Each list of bytes is read, or refused at a place in it.
+pub fn each_is_read_or_refused()
+    ensures { (max : ℕ) (b : List ℕ) → IsReadOrRefused max b }
+{}
+
+/// What is refused stays refused, for the same cause and at the same place, whatever follows it.
+pub fn refused_bytes_stay_refused()
+    ensures stays { (max : ℕ) (b more : List ℕ) (cause : ReadCause) (place : ℕ) → Stops max b cause place → Stops max (b ++ more) cause place }
+    ensures inside { (max : ℕ) (b : List ℕ) (cause : ReadCause) (place : ℕ) → Stops max b cause place → place < length b }
 {}

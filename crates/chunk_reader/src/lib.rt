@@ -13,7 +13,10 @@ mod reader;
 mod take;
 
 pub use fail::{ReadCause, ReadFail};
-pub use laws::{beginnings_are_read, one_reading, one_refusal, refused_bytes_are_not_read};
+pub use laws::{
+    beginnings_are_read, each_is_read_or_refused, one_reading, one_refusal,
+    refused_bytes_are_not_read, refused_bytes_stay_refused,
+};
 pub use reader::{Fed, Reader};
 
 #[cfg(test)]

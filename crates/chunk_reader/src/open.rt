@@ -1,8 +1,8 @@
 ghost use Rattle.std.specs.Prelude.{◌≡◌, ◌≤◌, ◌<◌, ◌+◌, ◌-◌, length, min, OnOk, IfOk, IfSome, if◌then◌else◌, [], slice_get, Some};
 ghost use Rattle.chunk_wire.specs.Chunk.{header_size, payload_size};
-ghost use Rattle.chunk_wire.specs.State.{at_place, part_bytes, put_at};
+ghost use Rattle.chunk_wire.specs.State.{part_bytes};
 ghost use Rattle.chunk_reader.specs.Core.{the_state};
-ghost use Rattle.chunk_reader.specs.Steps.{IsOpened, IsOpening, IsPutAt};
+ghost use Rattle.chunk_reader.specs.Steps.{IsOpened, IsOpening, IsPutAt, with_opening};
 
 use crate::fields::Core;
 use crate::header::Opening;
@@ -34,7 +34,7 @@ fn put_slot(
 ) -> Result<usize, OutOfMemory>
     requires within { IfSome o.place (λ i. i < length slots.old.items) }
     requires counted { held.old ≡ part_bytes slots.old.items }
-    ensures slots { IfOk result (λ i. slots.new.items ≡ put_at o.place (record { id = o.id; terms = o.terms; part = if o.drops then [] else (at_place o.id o.place slots.old.items).part }) slots.old.items) }
+    ensures slots { IfOk result (λ i. slots.new.items ≡ with_opening o slots.old.items) }
     ensures place { IfOk result (λ i. IsPutAt o.place (length slots.old.items) i) }
     ensures counted { OnOk result (held.new ≡ part_bytes slots.new.items) }
     ensures less { held.new ≤ held.old }

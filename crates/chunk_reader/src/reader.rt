@@ -1,6 +1,6 @@
 ghost use Rattle.std.specs.Prelude.{◌≡◌, ◌≤◌, ◌<◌, [], ◌++◌, ◌∷◌, ℕ, length, take, true, false, is_some, IfOk, IfErr, IfSome, Some, None, Err};
 ghost use Rattle.chunk_reader.specs.Feeds.{IsFedTo, IsHeld, IsRefused, IsTakenTo, Stands};
-ghost use Rattle.chunk_reader.specs.Reads.{ended};
+ghost use Rattle.chunk_reader.specs.Reads.{ended, part_limit};
 
 use crate::fail::{ReadCause, ReadFail};
 use crate::fields::Core;
@@ -29,10 +29,10 @@ pub struct Reader {
 }
 
 impl Model for Reader {
-    ghost use Rattle.chunk_reader.specs.Known.{Known};
+    ghost use Rattle.chunk_reader.specs.ReaderKnown.{ReaderKnown};
     ghost use Rattle.chunk_reader.specs.Sound.{IsSound};
 
-    ghost Value = { Known };
+    ghost Value = { ReaderKnown };
 
     ghost view = { λ r. record { max = r.core.max; fed = r.fed; given = r.given; failed = r.failed } };
 
@@ -148,9 +148,11 @@ impl Reader {
         })
     }
 
-    /// The bytes held of messages in progress; none once the reader has failed.
+    /// The bytes held of messages in progress, at most 65,536 more than the longest message has; none once the reader
+    /// has failed.
     pub fn held(&self) -> u64
         ensures lives { is_some self.now.failed ≡ false → IsHeld self.now result }
+        ensures most { result ≤ part_limit self.now.max }
         ensures failed { is_some self.now.failed ≡ true → result ≡ 0 }
     {
         self.core.held

@@ -2,7 +2,7 @@ ghost use Rattle.std.specs.Prelude.{◌≡◌, ◌≤◌, ◌<◌, ◌+◌, ◌^
 ghost use Rattle.chunk_wire.specs.State.{part_bytes};
 ghost use Rattle.chunk_reader.specs.Core.{the_state};
 ghost use Rattle.chunk_reader.specs.Reads.{part_limit};
-ghost use Rattle.chunk_reader.specs.Steps.{HeadFails, HeadTaken, IsFed, IsTaken, PayloadFails, PayloadTaken, StepFails, TakeFails};
+ghost use Rattle.chunk_reader.specs.Steps.{HeadFails, HeadTaken, IsFed, IsTaken, IsTakenNear, PayloadFails, PayloadTaken, StepFails, TakeFails};
 
 use crate::fail::ReadCause;
 use crate::fields::Core;
@@ -56,7 +56,7 @@ fn append(core: &mut Core, piece: &[u8]) -> Result<(), OutOfMemory>
     ensures max { core.new.max ≡ core.old.max }
 {
     let slot = &mut core.slots[core.place];
-    slot.part.append(piece)?;
+    slot.part.append_within(piece, slot.terms.length as usize)?;
     core.need -= piece.len() as u32;
     core.held += piece.len() as u64;
     Ok(())
@@ -139,7 +139,7 @@ pub fn take_some(core: &mut Core, alloc: Global, piece: &[u8], count: u64) -> Re
     requires place { 0 < core.old.need → core.old.place < length core.old.slots.items }
     requires held { core.old.held ≤ part_limit core.old.max }
     requires near { count ≤ 2 ^ 62 }
-    ensures ok { IfOk result (λ t. (most : ℕ) × (IsTaken core.old piece.now most t.used t.message core.new × (most ≤ length piece.now) × (count + t.used ≤ 2 ^ 62))) }
+    ensures ok { IfOk result (λ t. IsTakenNear core.old piece.now count t.used t.message core.new) }
     ensures err { IfErr result (λ e. TakeFails core.old piece.now count e.cause e.after) }
     ensures after { IfErr result (λ e. (e.after < length piece.now) × (count + e.after ≤ 2 ^ 62)) }
     ensures max { core.new.max ≡ core.old.max }

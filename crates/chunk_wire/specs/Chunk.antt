@@ -1,5 +1,6 @@
 -- What the bytes of one chunk mean (5.3.1)
-use Rattle.std.specs.Prelude.{◌≡◌, ℕ, ◌+◌, ◌-◌, ◌%◌, ◌^◌, min, nat_eq, nat_lt, Bool, true, ◌||◌, if◌then◌else◌, is_some, List, [], ◌++◌, length, drop, Option, Some, None}
+use Rattle.std.specs.Prelude.{◌≡◌, ℕ, ◌+◌, ◌-◌, ◌%◌, ◌^◌, min, nat_eq, nat_lt, Bool, true, ◌||◌, if◌then◌else◌, is_some}
+use Rattle.std.specs.Prelude.{List, [], ◌++◌, length, drop, Option, Some, None}
 use Rattle.relay_base.specs.Numbers.{be32_of}
 use Rattle.chunk_wire.specs.declared.kept.Kept.{Kept}
 use Rattle.chunk_wire.specs.declared.kept.Terms.{Terms}
@@ -40,7 +41,14 @@ terms_by k part h v extended =
     if nat_eq h.format 0 then record { time = v; delta = v; length = h.length; kind = h.kind; stream = h.stream; extended = extended }
     else (if nat_eq h.format 1 then record { time = (k.time + v) % 2 ^ 32; delta = v; length = h.length; kind = h.kind; stream = k.stream; extended = extended }
     else (if nat_eq h.format 2 then record { time = (k.time + v) % 2 ^ 32; delta = v; length = k.length; kind = k.kind; stream = k.stream; extended = extended }
-    else (if nat_eq part 0 then record { time = (k.time + k.delta) % 2 ^ 32; delta = k.delta; length = k.length; kind = k.kind; stream = k.stream; extended = k.extended }
+    else (if nat_eq part 0 then record {
+      time = (k.time + k.delta) % 2 ^ 32;
+      delta = k.delta;
+      length = k.length;
+      kind = k.kind;
+      stream = k.stream;
+      extended = k.extended;
+    }
     else k)))
 
 -- the record of the id after the chunk's header: formats 0, 1 and 2 drop the part of a message in progress
@@ -69,7 +77,12 @@ is_done s b = nat_eq (length (filled s b)) (opened s b).terms.length
 
 -- the message that the chunk completes
 unfoldable pub message_of : State → List ℕ → Option Message
-message_of s b = if is_done s b then Some (record { kind = (opened s b).terms.kind; stream = (opened s b).terms.stream; time = (opened s b).terms.time; body = filled s b }) else None
+message_of s b = if is_done s b then Some (record {
+  kind = (opened s b).terms.kind;
+  stream = (opened s b).terms.stream;
+  time = (opened s b).terms.time;
+  body = filled s b;
+}) else None
 
 -- the record of the id with this part
 abbrev pub with_part : Kept → List ℕ → Kept
@@ -84,7 +97,7 @@ abbrev pub may_begin : State → List ℕ → Bool
 may_begin s b = is_known s b || nat_lt (format_in b) 2
 
 -- The bytes b are one chunk, which leads from s to s' and completes the message m, or none.
-pub record Chunk (s : State) (b : List ℕ) (s' : State) (m : Option Message) : Type 0 where
+pub record IsChunk (s : State) (b : List ℕ) (s' : State) (m : Option Message) : Type 0 where
   pub begins : may_begin s b ≡ true
   pub whole : length b ≡ chunk_size s b
   pub state : s' ≡ after_chunk s b

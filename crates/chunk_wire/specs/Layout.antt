@@ -19,7 +19,10 @@ basic_size b = if nat_eq (number_in b) 0 then 2 else (if nat_eq (number_in b) 1 
 
 -- the chunk stream id: 64 and the second byte, or 64, the second byte and 256 times the third, or the number itself
 unfoldable pub id_in : List ℕ → ℕ
-id_in b = if nat_eq (number_in b) 0 then slice_index b 1 + 64 else (if nat_eq (number_in b) 1 then slice_index b 2 * 256 + slice_index b 1 + 64 else number_in b)
+id_in b =
+    if nat_eq (number_in b) 0 then slice_index b 1 + 64
+    else (if nat_eq (number_in b) 1 then slice_index b 2 * 256 + slice_index b 1 + 64
+    else number_in b)
 
 abbrev pub basic_in : List ℕ → Basic
 basic_in b = record { format = format_in b; id = id_in b }
@@ -32,13 +35,24 @@ basic_of b = if nat_le (basic_size b) (length b) then Some (basic_in b, basic_si
 unfoldable pub head_size : ℕ → ℕ
 head_size format = if nat_eq format 0 then 11 else (if nat_eq format 1 then 7 else (if nat_eq format 2 then 3 else 0))
 
+-- a header with these fields
+abbrev pub head_with : Basic → ℕ → ℕ → ℕ → ℕ → Head
+head_with basic field len kind stream = record {
+  format = basic.format;
+  id = basic.id;
+  field = field;
+  length = len;
+  kind = kind;
+  stream = stream;
+}
+
 -- the fields of a message header, by its format
 unfoldable pub head_in : Basic → List ℕ → Head
 head_in basic b =
-    if nat_eq basic.format 0 then record { format = basic.format; id = basic.id; field = be24_of b; length = be24_of (drop 3 b); kind = slice_index b 6; stream = le32_of (drop 7 b) }
-    else (if nat_eq basic.format 1 then record { format = basic.format; id = basic.id; field = be24_of b; length = be24_of (drop 3 b); kind = slice_index b 6; stream = 0 }
-    else (if nat_eq basic.format 2 then record { format = basic.format; id = basic.id; field = be24_of b; length = 0; kind = 0; stream = 0 }
-    else record { format = basic.format; id = basic.id; field = 0; length = 0; kind = 0; stream = 0 }))
+    if nat_eq basic.format 0 then head_with basic (be24_of b) (be24_of (drop 3 b)) (slice_index b 6) (le32_of (drop 7 b))
+    else (if nat_eq basic.format 1 then head_with basic (be24_of b) (be24_of (drop 3 b)) (slice_index b 6) 0
+    else (if nat_eq basic.format 2 then head_with basic (be24_of b) 0 0 0
+    else head_with basic 0 0 0 0))
 
 -- the message header at the front, where its bytes are there
 abbrev pub head_of : Basic → List ℕ → Option (Head × ℕ)

@@ -3,3 +3,4 @@ pub mod Written
 pub mod State
 pub mod Chunk
 pub mod ReadBack
+pub mod Examples

@@ -37,4 +37,6 @@ pub record ReadsBack (h : Head) (rest : List ℕ) : Type 0 where
 
 -- no bytes that read as the same basic header are fewer
 abbrev pub IsShortest : ℕ → ℕ → Type 0
-IsShortest format id = (b : List ℕ) (n : ℕ) → ((i : ℕ) → slice_index b i < 256) → basic_of b ≡ Some (record { format = format; id = id }, n) → length (basic_bytes format id) ≤ n
+IsShortest format id =
+    (b : List ℕ) (n : ℕ) → ((i : ℕ) → slice_index b i < 256) → basic_of b ≡ Some (record { format = format; id = id }, n)
+    → length (basic_bytes format id) ≤ n

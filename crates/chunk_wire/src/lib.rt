@@ -12,7 +12,9 @@ mod write;
 
 pub use headers::{Basic, Head};
 pub use kept::{Kept, Terms};
-pub use laws::{heads_are_read_back, ids_are_written_shortest};
+pub use laws::{
+    chunks_are_read_so, headers_are_read_so, heads_are_read_back, ids_are_written_shortest,
+};
 pub use message::Message;
 pub use read::{read_basic, read_head};
 pub use write::write_head;

@@ -59,7 +59,9 @@ pub fn write_head(head: &Head, out: &mut Bytes) -> Result<(), OutOfMemory>
     requires length { head.now.length < 2 ^ 24 }
     ensures ok { OnOk result (out.new ≡ out.old ++ head_bytes head.now) }
     ensures err { OnErr result ((rest : List ℕ) × (out.new ≡ out.old ++ rest)) }
+    ensures range { (head.now.kind < 256) × (head.now.stream < 2 ^ 32) }
 {
+    let _range = (head.kind, head.stream);
     write_basic(head.format, head.id, out)?;
     write_fields(head, out)
 }

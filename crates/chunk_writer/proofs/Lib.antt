@@ -1,3 +1,4 @@
 pub mod Spread
 pub mod Recalling
 pub mod Going
+pub mod Chunked

@@ -13,7 +13,7 @@ spread_run h size zero more (b ∷ p) rest e = absurd (omega (arith, e))
 spread_run h size (suc room) more (b ∷ p) rest e = ap (λ (l : List ℕ). b ∷ l) (spread_run h size room more p rest (omega (arith, e)))
 
 -- with no room left, a header stands before the next byte
-spread_full : (h : List ℕ) (size : ℕ) (rest : List ℕ) → 1 ≤ size → 0 < length rest → spread h size 0 rest ≡ h ++ spread h size size rest
+pub spread_full : (h : List ℕ) (size : ℕ) (rest : List ℕ) → 1 ≤ size → 0 < length rest → spread h size 0 rest ≡ h ++ spread h size size rest
 unfolding spread
 spread_full h zero rest some more = absurd (omega (arith, some))
 spread_full h (suc size) [] some more = absurd (omega (arith, more))
@@ -25,7 +25,7 @@ spread_chunk h size p rest some len more =
     ∙ ap (λ (l : List ℕ). p ++ l) (spread_full h size rest some more)
     ∙ sym (append_assoc p h (spread h size size rest))
 
-spread_nil : (h : List ℕ) (size more : ℕ) → spread h size more [] ≡ []
+pub spread_nil : (h : List ℕ) (size more : ℕ) → spread h size more [] ≡ []
 unfolding spread
 spread_nil h size more = refl
 

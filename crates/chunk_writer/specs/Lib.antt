@@ -1,4 +1,5 @@
 pub mod Rule
-pub mod Known
+pub mod WriterKnown
 pub mod Written
+pub mod InHand
 pub mod Sound

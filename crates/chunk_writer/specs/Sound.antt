@@ -1,7 +1,8 @@
 -- What a writer keeps true of its fields
-use Rattle.std.specs.Prelude.{◌≡◌, ℕ, ◌+◌, ◌<◌, ◌≤◌, nat_eq, if◌then◌else◌, List, [], ◌∷◌, length, Option, Some, None}
+use Rattle.std.specs.Prelude.{◌≡◌, Bool, true, ℕ, ◌+◌, ◌<◌, ◌≤◌, nat_eq, if◌then◌else◌, List, [], ◌∷◌, length, Option, Some, None}
 use Rattle.chunk_writer.specs.declared.begun.Begun.{Begun}
 use Rattle.chunk_writer.specs.Rule.{last_on}
+use Rattle.chunk_writer.specs.Written.{IsBegun}
 
 -- how many stand before the first on a chunk stream
 abbrev pub place : ℕ → List Begun → ℕ
@@ -26,3 +27,10 @@ pub record AreLasts (lasts said : List Begun) : Type 0 where
 pub record IsSound (size : ℕ) (lasts said : List Begun) : Type 0 where
   pub some : 1 ≤ size
   pub lasts_are : AreLasts lasts said
+
+-- what a message in hand keeps true of its fields
+pub record IsSending (begun : Begun) (size sent : ℕ) (fresh : Bool) : Type 0 where
+  pub begun_is : IsBegun begun
+  pub some : 1 ≤ size
+  pub within : sent ≤ begun.terms.length
+  pub none : fresh ≡ true → sent ≡ 0

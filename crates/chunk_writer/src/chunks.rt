@@ -44,6 +44,37 @@ fn write_header(format: u8, begun: &Begun, out: &mut Bytes) -> Result<(), OutOfM
     write_extended(begun, out)
 }
 
+// Appends a chunk.
+fn write_parts(format: u8, begun: &Begun, piece: &[u8], out: &mut Bytes) -> Result<(), OutOfMemory>
+    requires format { format < 4 }
+    requires begun { IsBegun begun.now }
+    ensures ok { OnOk result (out.new ≡ out.old ++ (header_with format begun.now ++ piece.now)) }
+    ensures err { OnErr result ((rest : List ℕ) × (out.new ≡ out.old ++ rest)) }
+{
+    write_header(format, begun, out)?;
+    out.append(piece)
+}
+
+/// Appends a chunk. Want of memory leaves `out` as it was.
+pub(crate) fn write_chunk(
+    format: u8,
+    begun: &Begun,
+    piece: &[u8],
+    out: &mut Bytes,
+) -> Result<(), OutOfMemory>
+    requires format { format < 4 }
+    requires begun { IsBegun begun.now }
+    ensures ok { OnOk result (out.new ≡ out.old ++ (header_with format begun.now ++ piece.now)) }
+    ensures err { OnErr result (out.new ≡ out.old) }
+{
+    let before = out.len();
+    let result = write_parts(format, begun, piece, out);
+    if result.is_err() {
+        out.truncate(before);
+    }
+    result
+}
+
 // Appends a chunk's payload and the header of the next chunk.
 fn write_full(begun: &Begun, piece: &[u8], out: &mut Bytes) -> Result<(), OutOfMemory>
     requires begun { IsBegun begun.now }

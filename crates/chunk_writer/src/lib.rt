@@ -5,13 +5,18 @@
 
 mod begun;
 mod chunks;
+mod heading;
 mod lasts;
 mod laws;
 mod rule;
+mod sending;
 mod writer;
 
 pub use begun::Begun;
-pub use laws::writing_goes_on;
+pub use heading::Heading;
+pub use laws::{chunks_are_those_of_put, writing_goes_on};
+pub use rule::chunk_stream;
+pub use sending::Sending;
 pub use writer::Writer;
 
 #[cfg(test)]

@@ -1,11 +1,11 @@
 //! How a message is begun.
-ghost use Rattle.std.specs.Prelude.{◌≡◌, ◌-◌, ◌<◌, ◌≤◌, ◌^◌, false, length};
+ghost use Rattle.std.specs.Prelude.{◌≡◌, ◌<◌, ◌≤◌, false};
 ghost use Rattle.chunk_writer.specs.Rule.{begun_after, begun_with, delta_after, format_after, id_for, is_alike, repeats, starts_anew};
-ghost use Rattle.chunk_writer.specs.Written.{IsBegun};
+ghost use Rattle.chunk_writer.specs.Written.{IsBegun, IsHeading};
 
-use crate::Begun;
 use crate::begun::EXTENDED;
-use chunk_wire::{Message, Terms};
+use crate::{Begun, Heading};
+use chunk_wire::Terms;
 
 // Types of message: the last of the control messages, and the others whose chunk streams aren't that of video.
 const LAST_CONTROL: u8 = 6;
@@ -16,9 +16,10 @@ const DATA: u8 = 18;
 
 const COMMAND: u8 = 20;
 
-/// The chunk stream of messages of a type.
+/// The chunk stream on which the messages of a type are written: 2 for control messages (types 1 to 6), 3 for commands
+/// (20), 5 for data (18), 6 for audio (8), and 7 for video (9) and any other.
 #[tactic(auto, using(std::proofs::lemmas::Bool::Decides::nat_tests), unfolding(crate::specs::Rule::id_for))]
-pub(crate) fn id_of(kind: u8) -> u32
+pub fn chunk_stream(kind: u8) -> u32
     ensures value { result ≡ id_for kind }
     ensures low { 2 ≤ result }
     ensures high { result ≤ 65599 }
@@ -36,19 +37,19 @@ pub(crate) fn id_of(kind: u8) -> u32
 
 // Whether a message has another message stream than the one before, or goes back in time.
 #[tactic(auto, using(std::proofs::lemmas::Bool::Decides::nat_tests), unfolding(crate::specs::Rule::starts_anew))]
-fn begins_anew(last: &Terms, message: &Message) -> bool
-    ensures value { result ≡ starts_anew last.now message.now }
-    ensures forward { result ≡ false → last.now.time ≤ message.now.time }
+fn begins_anew(last: &Terms, heading: &Heading) -> bool
+    ensures value { result ≡ starts_anew last.now heading.now }
+    ensures forward { result ≡ false → last.now.time ≤ heading.now.time }
 {
-    message.stream != last.stream || message.time < last.time
+    heading.stream != last.stream || heading.time < last.time
 }
 
 // Whether a message has the length and type of the one before.
 #[tactic(auto, using(std::proofs::lemmas::Bool::Decides::nat_tests), unfolding(crate::specs::Rule::is_alike))]
-fn has_same_header(last: &Terms, message: &Message) -> bool
-    ensures { result ≡ is_alike last.now message.now }
+fn has_same_header(last: &Terms, heading: &Heading) -> bool
+    ensures { result ≡ is_alike last.now heading.now }
 {
-    message.body.len() == last.length as usize && message.kind == last.kind
+    heading.length == last.length && heading.kind == last.kind
 }
 
 // Whether a message that comes after this delta may begin as the one before did.
@@ -60,24 +61,21 @@ fn repeats_delta(last: &Begun, delta: u32) -> bool
 }
 
 // How a message is begun in this format.
-fn begun_in_format(format: u8, id: u32, delta: u32, message: &Message) -> Begun
+fn begun_in_format(format: u8, delta: u32, heading: &Heading) -> Begun
     requires format { format < 4 }
-    requires id { id ≡ id_for message.now.kind }
-    requires low { 2 ≤ id }
-    requires high { id ≤ 65599 }
-    requires length { length message.now.body < 2 ^ 24 }
-    ensures value { result ≡ begun_with format delta message.now }
+    requires heading { IsHeading heading.now }
+    ensures value { result ≡ begun_with format delta heading.now }
     ensures begun { IsBegun result }
 {
     Begun {
-        id,
+        id: heading.id,
         format,
         terms: Terms {
-            time: message.time,
+            time: heading.time,
             delta,
-            length: message.body.len() as u32,
-            kind: message.kind,
-            stream: message.stream,
+            length: heading.length,
+            kind: heading.kind,
+            stream: heading.stream,
             extended: delta >= EXTENDED,
         },
     }
@@ -85,26 +83,23 @@ fn begun_in_format(format: u8, id: u32, delta: u32, message: &Message) -> Begun
 
 /// How a message is begun on its chunk stream after the last one there.
 #[tactic(auto, unfolding(crate::specs::Rule::format_after, crate::specs::Rule::delta_after))]
-pub(crate) fn begin(id: u32, last: Option<Begun>, message: &Message) -> Begun
-    requires id { id ≡ id_for message.now.kind }
-    requires low { 2 ≤ id }
-    requires high { id ≤ 65599 }
-    requires length { length message.now.body < 2 ^ 24 }
-    ensures value { result ≡ begun_after last message.now }
+pub(crate) fn begin(last: Option<Begun>, heading: &Heading) -> Begun
+    requires heading { IsHeading heading.now }
+    ensures value { result ≡ begun_after last heading.now }
     ensures begun { IsBegun result }
 {
     let Some(last) = last else {
-        return begun_in_format(0, id, message.time, message);
+        return begun_in_format(0, heading.time, heading);
     };
-    if begins_anew(&last.terms, message) {
-        return begun_in_format(0, id, message.time, message);
+    if begins_anew(&last.terms, heading) {
+        return begun_in_format(0, heading.time, heading);
     }
-    let delta = message.time - last.terms.time;
-    if !has_same_header(&last.terms, message) {
-        return begun_in_format(1, id, delta, message);
+    let delta = heading.time - last.terms.time;
+    if !has_same_header(&last.terms, heading) {
+        return begun_in_format(1, delta, heading);
     }
     if repeats_delta(&last, delta) {
-        return begun_in_format(3, id, delta, message);
+        return begun_in_format(3, delta, heading);
     }
-    begun_in_format(2, id, delta, message)
+    begun_in_format(2, delta, heading)
 }

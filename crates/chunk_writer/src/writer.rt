@@ -1,20 +1,25 @@
-ghost use Rattle.std.specs.Prelude.{◌≡◌, ◌≤◌, ◌<◌, ◌^◌, ◌∷◌, ◌++◌, List, ℕ, length, true, MatchOption, OnOk, OnErr};
-ghost use Rattle.chunk_writer.specs.Known.{fresh, sized};
-ghost use Rattle.chunk_writer.specs.Rule.{begun_in, is_written};
-ghost use Rattle.chunk_writer.specs.Written.{after, bytes_of};
+ghost use Rattle.std.specs.Prelude.{◌≡◌, ◌≤◌, ◌<◌, ◌^◌, ◌++◌, List, ℕ, length, true, IfOk, OnOk, OnErr};
+ghost use Rattle.chunk_writer.specs.WriterKnown.{fresh, sized};
+ghost use Rattle.chunk_writer.specs.Rule.{begun_on, is_written};
+ghost use Rattle.chunk_writer.specs.Written.{IsHeading, IsWritable, after, after_heading, bytes_of, heading_with, message_bytes, message_with, next};
+ghost use Rattle.chunk_writer.specs.InHand.{in_hand};
 
-use crate::Begun;
 use crate::chunks::write_message;
 use crate::lasts::{Found, find, keep};
-use crate::rule::{begin, id_of};
+use crate::rule::{begin, chunk_stream};
+use crate::{Begun, Heading, Sending};
 use av_unit::{Bytes, OutOfMemory};
 use chunk_wire::Message;
 use past::History;
+use relay_base::be32;
 use std::alloc::Global;
 use std::marker::Model;
 
-/// A writer of chunks. It keeps its chunk size and how the last message on each chunk stream was begun, which are five
-/// at most.
+// The type of a Set Chunk Size message (5.4.1).
+const SET_CHUNK_SIZE: u8 = 1;
+
+/// A writer of chunks. It keeps its chunk size and how the last message on each chunk stream was begun. By `put` these
+/// are five at most.
 #[derive(Drop)]
 pub struct Writer {
     size: u32,
@@ -23,10 +28,10 @@ pub struct Writer {
 }
 
 impl Model for Writer {
-    ghost use Rattle.chunk_writer.specs.Known.{Known};
+    ghost use Rattle.chunk_writer.specs.WriterKnown.{WriterKnown};
     ghost use Rattle.chunk_writer.specs.Sound.{IsSound};
 
-    ghost Value = { Known };
+    ghost Value = { WriterKnown };
 
     ghost view = { λ w. record { size = w.size; said = w.said } };
 
@@ -56,41 +61,113 @@ impl Writer {
     }
 
     // Appends a message and keeps how it was begun.
-    fn write(&mut self, message: &Message, out: &mut Bytes) -> Result<(), OutOfMemory>
-        requires length { length message.now.body < 2 ^ 24 }
-        ensures ok { OnOk result ((self.new ≡ after self.old message.now) × (out.new ≡ out.old ++ bytes_of self.old message.now)) }
+    fn write(&mut self, heading: &Heading, body: &[u8], out: &mut Bytes) -> Result<(), OutOfMemory>
+        requires heading { IsHeading heading.now }
+        requires length { length body.now ≡ heading.now.length }
+        ensures writer { OnOk result (self.new ≡ after_heading self.old heading.now) }
+        ensures bytes { OnOk result (out.new ≡ out.old ++ message_bytes self.old.size (begun_on self.old.said heading.now) body.now) }
         ensures err { OnErr result ((self.new ≡ self.old) × ((rest : List ℕ) × (out.new ≡ out.old ++ rest))) }
     {
-        let id = id_of(message.kind);
-        let Found { place, last } = find(&self.lasts, id);
-        let begun = begin(id, last, message);
-        write_message(self.size as usize, &begun, message.body.as_slice(), out)?;
+        let Found { place, last } = find(&self.lasts, heading.id);
+        let begun = begin(last, heading);
+        write_message(self.size as usize, &begun, body, out)?;
         keep(&mut self.lasts, place, begun)?;
         self.said.add(&begun);
         Ok(())
     }
 
-    /// Appends a message as chunks (5.3.1).
+    /// Appends a message of this type, message stream, time in milliseconds and body as chunks (5.3.1).
     ///
-    /// Its chunk stream is 2 for control messages (types 1 to 6), 3 for commands (20), 5 for data (18), 6 for audio
-    /// (8) and 7 for video (9). It begins with format 0 where it is the first on its chunk stream, where its message
-    /// stream is another than that of the message before there, or where its time is less; else with format 1 where
-    /// its length or type is another; else with format 3 where the one before didn't begin with format 0 and came
-    /// after the same delta, below 0xFFFFFF; else with format 2. Further chunks have format 3. Want of memory changes
-    /// neither the writer nor `out`.
-    pub fn put(&mut self, message: &Message, out: &mut Bytes) -> Result<(), OutOfMemory>
-        requires kind { is_written message.now.kind ≡ true }
-        requires length { length message.now.body < 2 ^ 24 }
-        ensures ok { OnOk result ((self.new ≡ after self.old message.now) × (out.new ≡ out.old ++ bytes_of self.old message.now)) }
+    /// Its chunk stream is that of `chunk_stream`. It begins with format 0 where it is the first on its chunk stream,
+    /// where its message stream is another than that of the message before there, or where its time is less; else with
+    /// format 1 where its length or type is another; else with format 3 where the one before didn't begin with format
+    /// 0 and came after the same delta, below 0xFFFFFF; else with format 2. Further chunks have format 3. Want of
+    /// memory changes neither the writer nor `out`.
+    #[tactic(auto, unfolding(crate::specs::Written::bytes_of))]
+    pub fn put(
+        &mut self,
+        kind: u8,
+        stream: u32,
+        time: u32,
+        body: &[u8],
+        out: &mut Bytes,
+    ) -> Result<(), OutOfMemory>
+        requires kind { is_written kind ≡ true }
+        requires length { length body.now < 2 ^ 24 }
+        ensures writer { OnOk result (self.new ≡ after self.old (message_with kind stream time body.now)) }
+        ensures bytes { OnOk result (out.new ≡ out.old ++ bytes_of self.old (message_with kind stream time body.now)) }
         ensures err { OnErr result ((self.new ≡ self.old) × (out.new ≡ out.old)) }
     {
+        let heading = Heading {
+            id: chunk_stream(kind),
+            kind,
+            stream,
+            time,
+            length: body.len() as u32,
+        };
         let before = out.len();
-        match self.write(message, out) {
+        match self.write(&heading, body, out) {
             Ok(()) => Ok(()),
             Err(e) => {
                 out.truncate(before);
                 Err(e)
             }
         }
+    }
+
+    /// Appends a message, and writes what comes after a Set Chunk Size message in chunks of the size that it says
+    /// (5.4.1). Want of memory changes neither the writer nor `out`.
+    #[tactic(auto, using(std::proofs::lemmas::Bool::Decides::nat_tests), unfolding(crate::specs::Written::resized_by))]
+    pub fn put_message(&mut self, message: &Message, out: &mut Bytes) -> Result<(), OutOfMemory>
+        requires { IsWritable message.now }
+        ensures writer { OnOk result (self.new ≡ next self.old message.now) }
+        ensures bytes { OnOk result (out.new ≡ out.old ++ bytes_of self.old message.now) }
+        ensures err { OnErr result ((self.new ≡ self.old) × (out.new ≡ out.old)) }
+        ensures range { (message.now.stream < 2 ^ 32) × (message.now.time < 2 ^ 32) }
+    {
+        let Message {
+            kind,
+            stream,
+            time,
+            ref body,
+        } = *message;
+        let body = body.as_slice();
+        self.put(kind, stream, time, body, out)?;
+        if kind == SET_CHUNK_SIZE && body.len() >= 4 {
+            self.set_size(be32(body));
+        }
+        Ok(())
+    }
+
+    /// Begins a message whose chunks are written one by one, on a chunk stream from 2 to 65,599: its type, its message
+    /// stream, its time in milliseconds, and the length of its body in bytes. It begins as by `put`, and its chunks
+    /// have the size of now. Want of memory changes nothing.
+    pub fn begin(
+        &mut self,
+        id: u32,
+        kind: u8,
+        stream: u32,
+        time: u32,
+        length: u32,
+    ) -> Result<Sending, OutOfMemory>
+        requires id_low { 2 ≤ id }
+        requires id_high { id ≤ 65599 }
+        requires length { length < 2 ^ 24 }
+        ensures writer { OnOk result (self.new ≡ after_heading self.old (heading_with id kind stream time length)) }
+        ensures sending { IfOk result (λ s. s ≡ in_hand self.old.size (begun_on self.old.said (heading_with id kind stream time length))) }
+        ensures err { OnErr result (self.new ≡ self.old) }
+    {
+        let heading = Heading {
+            id,
+            kind,
+            stream,
+            time,
+            length,
+        };
+        let Found { place, last } = find(&self.lasts, id);
+        let begun = begin(last, &heading);
+        keep(&mut self.lasts, place, begun)?;
+        self.said.add(&begun);
+        Ok(Sending::new(self.size, begun))
     }
 }

@@ -40,7 +40,15 @@ fn write(alloc: Global, message: &Message) -> Result<u64, AllocError>
     let mut made = 0u64;
     for _ in 0..MESSAGES {
         out.truncate(0);
-        writer.put(message, &mut out).map_err(|_| AllocError)?;
+        writer
+            .put(
+                message.kind,
+                message.stream,
+                message.time,
+                message.body.as_slice(),
+                &mut out,
+            )
+            .map_err(|_| AllocError)?;
         made = made.saturating_add(out.len() as u64);
     }
     Ok(made)

@@ -1,5 +1,5 @@
 -- How the fields of a handshake stand for what it read.
-use Rattle.std.specs.Prelude.{◌≡◌, ℕ, ◌≤◌, ◌<◌, List, [], length, Option, None}
+use Rattle.std.specs.Prelude.{◌≡◌, ◌≢◌, ℕ, ◌≤◌, ◌<◌, List, [], length, Option, None}
 use Rattle.rtmp_handshake.specs.declared.fail.HandFail.{HandFail}
 use Rattle.rtmp_handshake.specs.Answer.{bad_version}
 use Rattle.rtmp_handshake.specs.Echo.{kept_of}
@@ -12,3 +12,4 @@ pub record IsSound (count : ℕ) (kept : List ℕ) (failed : Option HandFail) (f
   pub kept_is : failed ≡ None → length fed < 1537 → kept ≡ kept_of 0 fed
   pub kept_most : length kept ≤ 1532
   pub let_go : 1537 ≤ length fed → kept ≡ []
+  pub dropped : failed ≢ None → kept ≡ []

@@ -50,6 +50,7 @@ invariant_of-self-2 c =
         | inr le ↦ rw (gone le) (omega arith)
       ];
       let_go = gone;
+      dropped = λ failed. absurd (failed c.in_default.is);
     }
 
 pub returns-clause-out : goal.returns-clause-out

@@ -4,7 +4,7 @@ use Rattle.std.specs.Prelude.{ℕ, List, Option}
 use Rattle.chunk_wire.specs.declared.message.Message.{Message}
 use Rattle.chunk_reader.specs.declared.fail.ReadFail.{ReadFail}
 
-pub record Known : Type 0 where
+pub record ReaderKnown : Type 0 where
   pub max : ℕ
   pub fed : List ℕ
   pub given : List (ℕ × Message)

@@ -2,13 +2,13 @@
 use Rattle.std.specs.Prelude.{ℕ, List, []}
 use Rattle.chunk_writer.specs.declared.begun.Begun.{Begun}
 
-pub record Known : Type 0 where
+pub record WriterKnown : Type 0 where
   pub size : ℕ
   pub said : List Begun
 
 -- the chunk size is 128 at first (5.4.1)
-abbrev pub fresh : Known
+abbrev pub fresh : WriterKnown
 fresh = record { size = 128; said = [] }
 
-abbrev pub sized : ℕ → Known → Known
+abbrev pub sized : ℕ → WriterKnown → WriterKnown
 sized n w = record { size = n; said = w.said }
