@@ -1,5 +1,5 @@
 -- What a step of the link in memory means.
-use Rattle.std.proofs.Common.{◌≡◌, ◌≢◌, ℕ, zero, suc, ◌<◌, ◌≤◌, List, [], ◌++◌, length, take, drop, Option, Some, None, refl, ap, sym, ◌∙◌, arith}
+use Rattle.std.proofs.Common.{◌≡◌, ◌≢◌, ℕ, zero, suc, ◌<◌, ◌≤◌, List, [], ◌++◌, length, take, drop, Option, Some, None, refl, ap, sym, ◌∙◌, arith, append_assoc}
 use Rattle.std.specs.Option.{unwrap_or}
 use Rattle.std.proofs.Math.Seq.{take-append_seam, drop-append_seam}
 use Rattle.std.specs.List.{concat}
@@ -7,7 +7,6 @@ use Rattle.relay_outside.specs.MemoryLaws.{rose-risen, gives_front}
 use Rattle.relay_outside.specs.Heard.{Came, CameBytes, CameEnd, CameNotYet, CameFailed, HearStep}
 use Rattle.relay_outside.specs.Said.{SayStep}
 use Rattle.relay_outside.specs.Pieces.{nonempty_from, first_bytes, cut_first}
-use Rattle.relay_outside.specs.Told.{link_counts}
 use Rattle.relay_outside.specs.MemLinks.{MemLinkState, MemHears, MemSays, mem_told, room_for}
 use Rattle.relay_outside.specs.declared.link.Said.{Said}
 use Rattle.relay_outside.specs.declared.link.Said.TheVariants.{Took, NotYet, Failed, OutOfMemory}
@@ -31,8 +30,7 @@ first_bytes-front room pieces bytes some is =
     }
 
 pub mem_hears_mean : (l : MemLinkState) (room : ℕ) (answer : Came) (m : MemLinkState) → 0 < room → MemHears l room answer m
-    → HearStep room (Some (mem_told l)) (Some (mem_told m)) (link_counts l.counts.faults l.counts.waits l.counts.ends)
-    (link_counts m.counts.faults m.counts.waits m.counts.ends) answer
+    → HearStep room (Some (mem_told l)) (Some (mem_told m)) l.counts m.counts answer
 mem_hears_mean l room (CameBytes bytes) m some step =
     let front = first_bytes-front room l.pieces bytes some step.1 in
     rw (step.2, front.others) (record { count = front.count; told = (front.first, refl); counts = (refl, refl, refl) })
@@ -50,11 +48,15 @@ room_for-some (Some zero) n some free = absurd (free refl)
 room_for-some (Some (suc k)) n some free = (omega arith, omega arith)
 
 pub mem_says_mean : (l : MemLinkState) (piece : List ℕ) (answer : Said) (m : MemLinkState) → 0 < length piece → MemSays l piece answer m
-    → SayStep piece (Some (mem_told l)) (Some (mem_told m)) (link_counts l.counts.faults l.counts.waits l.counts.ends)
-    (link_counts m.counts.faults m.counts.waits m.counts.ends) answer
+    → SayStep piece (Some (mem_told l)) (Some (mem_told m)) l.counts m.counts answer
 mem_says_mean l piece (Took n) m some step =
     let fits = rw (sym step.2) at (room_for-some l.room (length piece) some step.1) in
-    rw step.3 (record { count = fits; told = refl; counts = (refl, refl, refl) })
+    let joined = sym (append_assoc l.handed l.sent (take n piece)) in
+    rw step.3 (record {
+      count = fits;
+      told = ap (λ (all : List ℕ). Some (record { left = concat l.pieces; gave = l.gave; took = all })) joined;
+      counts = (refl, refl, refl);
+    })
 mem_says_mean l piece NotYet m some step =
     rw step.2 (record { count = tt; told = refl; counts = (refl, rose-risen l.counts.waits, refl) })
 mem_says_mean l piece Failed m some step =

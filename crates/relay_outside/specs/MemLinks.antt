@@ -16,9 +16,9 @@ pub record MemLinkState : Type 0 where
   pub ended : Bool
   -- all that it gave
   pub gave : List ℕ
-  -- all that it took
-  pub took : List ℕ
-  -- what of it was not handed over
+  -- what it took and has handed over
+  pub handed : List ℕ
+  -- what it took and has not handed over
   pub sent : List ℕ
   -- how many bytes it takes yet, None being any number
   pub room : Option ℕ
@@ -30,7 +30,7 @@ pub record MemLinkState : Type 0 where
 
 -- what it tells
 abbrev pub mem_told : MemLinkState → LinkTold
-mem_told l = record { left = concat l.pieces; gave = l.gave; took = l.took }
+mem_told l = record { left = concat l.pieces; gave = l.gave; took = l.handed ++ l.sent }
 
 -- one more of each, where the count can rise
 abbrev pub with_fault : LinkCounts → LinkCounts
@@ -60,7 +60,7 @@ room_for (Some room) n = min n room
 -- a send takes as many bytes of the piece as there is room for, or none for want of memory
 abbrev pub MemSays : MemLinkState → List ℕ → Said → MemLinkState → Type 0
 MemSays l piece (Took n) m = (l.send_fails ≡ false) × (l.room ≢ Some 0) × (n ≡ room_for l.room (length piece))
-    × (m ≡ record l { took = l.took ++ take n piece; sent = l.sent ++ take n piece; room = option_map (λ room. room - n) l.room })
+    × (m ≡ record l { sent = l.sent ++ take n piece; room = option_map (λ room. room - n) l.room })
 MemSays l piece NotYet m = (l.send_fails ≡ false) × (l.room ≡ Some 0) × (m ≡ record l { counts = with_wait l.counts })
 MemSays l piece Failed m = (l.send_fails ≡ true) × (m ≡ record l { send_fails = false; counts = with_fault l.counts })
 MemSays l piece OutOfMemory m = (l.send_fails ≡ false) × (l.room ≢ Some 0) × (m ≡ l)

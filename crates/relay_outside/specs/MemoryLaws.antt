@@ -1,5 +1,6 @@
 -- What a step of the source and the sink in memory means.
-use Rattle.std.proofs.Common.{◌≡◌, ℕ, ◌≤◌, ◌<◌, List, [], ◌∷◌, ◌++◌, length, take, drop, Some, Bool, true, false, refl, ap, sym, ◌∙◌, subst, arith, append_assoc, take-append-drop, if◌then◌else◌}
+use Rattle.std.proofs.Common.{◌≡◌, ℕ, ◌≤◌, ◌<◌, List, [], ◌∷◌, ◌++◌, length, take, drop, Some, Bool, true, false, if◌then◌else◌}
+use Rattle.std.proofs.Common.{refl, ap, sym, ◌∙◌, subst, arith, append_assoc, take-append-drop}
 use Rattle.std.proofs.lemmas.List.{length-take, take_all}
 use Rattle.std.proofs.lemmas.Bool.Decides.{nat_tests}
 use Rattle.std.specs.List.{concat}
@@ -25,17 +26,20 @@ some_bytes room byte bytes some = (rw length-take (omega arith), rw length-take 
 
 -- what a get that doesn't fail gives is the front of what was left
 pub gives_front : (room faults : ℕ) (pieces : List (List ℕ)) → 0 < room →
-    GetStep room (Some (concat pieces)) (Some (concat (cut_first room (nonempty_from pieces)))) faults faults (gave_first (first_bytes room (nonempty_from pieces)))
+    GetStep room (Some (concat pieces)) (Some (concat (cut_first room (nonempty_from pieces)))) faults faults
+    (gave_first (first_bytes room (nonempty_from pieces)))
 gives_front room faults [] some = record { count = tt; bytes = (refl, refl); cause = refl }
 gives_front room faults ([] ∷ pieces) some = gives_front room faults pieces some
 gives_front room faults ((byte ∷ bytes) ∷ pieces) some = record {
   count = some_bytes room byte bytes some;
-  bytes = ap (λ (l : List ℕ). Some (l ++ concat pieces)) (sym (take-append-drop room (byte ∷ bytes))) ∙ ap (λ (l : List ℕ). Some l) (append_assoc (take room (byte ∷ bytes)) (drop room (byte ∷ bytes)) (concat pieces));
+  bytes = ap (λ (l : List ℕ). Some (l ++ concat pieces)) (sym (take-append-drop room (byte ∷ bytes)))
+      ∙ ap (λ (l : List ℕ). Some l) (append_assoc (take room (byte ∷ bytes)) (drop room (byte ∷ bytes)) (concat pieces));
   cause = refl;
 }
 
 means_by : (fails : Bool) (room faults : ℕ) (pieces : List (List ℕ)) → 0 < room →
-    GetStep room (Some (concat pieces)) (Some (concat (if fails then pieces else cut_first room (nonempty_from pieces)))) faults (if fails then risen faults else faults)
+    GetStep room (Some (concat pieces)) (Some (concat (if fails then pieces else cut_first room (nonempty_from pieces)))) faults
+    (if fails then risen faults else faults)
     (if fails then GaveFailed else gave_first (first_bytes room (nonempty_from pieces)))
 means_by true room faults pieces some = record { count = tt; bytes = refl; cause = rose-risen faults }
 means_by false room faults pieces some = gives_front room faults pieces some

@@ -30,6 +30,3 @@ pub record LinkCounts : Type 0 where
   pub faults : ℕ
   pub waits : ℕ
   pub ends : ℕ
-
-abbrev pub link_counts : ℕ → ℕ → ℕ → LinkCounts
-link_counts faults waits ends = record { faults = faults; waits = waits; ends = ends }

@@ -43,4 +43,11 @@ impl Calls {
         }
         fails
     }
+
+    /// How many calls have failed.
+    pub(crate) fn failed(&self) -> u64
+        ensures { result ≡ self.now.faults }
+    {
+        self.failed
+    }
 }

@@ -1,7 +1,7 @@
 ghost use Rattle.std.specs.Prelude.{◌<◌, length, List, ℕ};
 ghost use Rattle.std.specs.declared.option.Option.{Option};
 ghost use Rattle.relay_outside.specs.declared.link.Said.{Said};
-ghost use Rattle.relay_outside.specs.Told.{LinkTold, link_counts};
+ghost use Rattle.relay_outside.specs.Told.{LinkTold, LinkCounts};
 ghost use Rattle.relay_outside.specs.Heard.{Came, came, HeardCount, CameTold, CameCounts, HearStep};
 ghost use Rattle.relay_outside.specs.Said.{SaidCount, SaidTold, SaidCounts, SayStep};
 
@@ -37,14 +37,8 @@ pub enum Said {
 /// Its three counts never fall. One that stands at the last value of a u64 stays there, and is said
 /// to rise. Each answer lets at most one of them rise, as the answer says; the others stay.
 pub trait Link: Drop {
-    /// How often it has failed.
-    ghost faults: { Self → ℕ };
-
-    /// How often it could not give, or not take, yet.
-    ghost waits: { Self → ℕ };
-
-    /// How often it was at its end.
-    ghost ends: { Self → ℕ };
+    /// How often it has failed, could not give or not take yet, and was at its end.
+    ghost counts: { Self → LinkCounts };
 
     /// The bytes that are left, those that it gave and those that it took, where it tells them.
     ghost told: { Self → Option LinkTold };
@@ -61,8 +55,7 @@ pub trait Link: Drop {
         ensures step { hears self.old (length into.old) (came result into.new) self.new }
         ensures count { HeardCount into.new result }
         ensures told { CameTold (told self.old) (told self.new) (came result into.new) }
-        ensures cause { CameCounts (link_counts (faults self.old) (waits self.old) (ends self.old))
-            (link_counts (faults self.new) (waits self.new) (ends self.new)) (came result into.new) };
+        ensures cause { CameCounts (counts self.old) (counts self.new) (came result into.new) };
 
     /// Takes some of the bytes. After each other answer what it tells is as before.
     fn send(&mut self, piece: &[u8]) -> Said
@@ -70,13 +63,12 @@ pub trait Link: Drop {
         ensures step { says self.old piece.now result self.new }
         ensures count { SaidCount piece.now result }
         ensures told { SaidTold (told self.old) (told self.new) piece.now result }
-        ensures cause { SaidCounts (link_counts (faults self.old) (waits self.old) (ends self.old))
-            (link_counts (faults self.new) (waits self.new) (ends self.new)) result };
+        ensures cause { SaidCounts (counts self.old) (counts self.new) result };
 
     // What a step means, for callers that know only that it was made.
     ghost hears_mean: { (l : Self) (room : ℕ) (answer : Came) (m : Self) → 0 < room → hears l room answer m
-        → HearStep room (told l) (told m) (link_counts (faults l) (waits l) (ends l)) (link_counts (faults m) (waits m) (ends m)) answer };
+        → HearStep room (told l) (told m) (counts l) (counts m) answer };
 
     ghost says_mean: { (l : Self) (piece : List ℕ) (answer : Said) (m : Self) → 0 < length piece → says l piece answer m
-        → SayStep piece (told l) (told m) (link_counts (faults l) (waits l) (ends l)) (link_counts (faults m) (waits m) (ends m)) answer };
+        → SayStep piece (told l) (told m) (counts l) (counts m) answer };
 }

@@ -21,7 +21,7 @@ pub struct MemLink {
     queue: Pieces,
     closed: bool,
     given: Flow<u8>,
-    taken: Flow<u8>,
+    handed: Flow<u8>,
     output: Vec<u8>,
     space: Option<u64>,
     recv_due: bool,
@@ -38,7 +38,7 @@ impl Model for MemLink {
       pieces = l.queue;
       ended = l.closed;
       gave = l.given;
-      took = l.taken;
+      handed = l.handed;
       sent = l.output.items;
       room = l.space;
       recv_fails = l.recv_due;
@@ -74,7 +74,7 @@ impl MemLink {
           pieces = [];
           ended = false;
           gave = [];
-          took = [];
+          handed = [];
           sent = [];
           room = None;
           recv_fails = false;
@@ -87,7 +87,7 @@ impl MemLink {
             queue: Pieces::new(Vec::new(alloc)),
             closed: false,
             given: Flow::new(),
-            taken: Flow::new(),
+            handed: Flow::new(),
             output: Vec::new(alloc),
             space: None,
             recv_due: false,
@@ -142,18 +142,15 @@ impl MemLink {
     /// Hands over what it took, and keeps nothing of it.
     pub fn take_sent(&mut self) -> Vec<u8>
         ensures handed { result.items ≡ self.old.sent }
-        ensures left { self.new ≡ record self.old { sent = [] } }
+        ensures left { self.new ≡ record self.old { handed = self.old.handed ++ self.old.sent; sent = [] } }
     {
+        self.handed.add_all(&self.output);
         std::mem::replace(&mut self.output, Vec::new(self.alloc))
     }
 }
 
 impl Link for MemLink {
-    ghost faults = { λ l. l.counts.faults };
-
-    ghost waits = { λ l. l.counts.waits };
-
-    ghost ends = { λ l. l.counts.ends };
+    ghost counts = { λ l. l.counts };
 
     ghost told = { λ l. Some (mem_told l) };
 
@@ -194,7 +191,6 @@ impl Link for MemLink {
         }
         match self.output.extend_from_slice(&piece[..count]) {
             Ok(()) => {
-                self.taken.add_all(&piece[..count]);
                 self.space = lessened(self.space, count);
                 Said::Took(count)
             }

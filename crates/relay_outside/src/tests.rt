@@ -1,6 +1,11 @@
-ghost use Rattle.std.specs.Prelude.{◌<◌, length};
+ghost use Rattle.std.specs.Prelude.{◌<◌, ◌≤◌, ◌+◌, ◌^◌, length, IfOk};
+ghost use Rattle.relay_outside.specs.Doors.{IsNewDoor};
+ghost use Rattle.relay_outside.specs.MemDoors.{IsNewMemLink};
 
-use crate::{Got, Heard, Link, MemLink, MemSink, MemSource, Put, Said, Sink, Source};
+use crate::{
+    Door, Got, Heard, House, Knock, Link, MemDoor, MemHouse, MemLink, MemSink, MemSource, Put,
+    Rest, Said, Sink, Source,
+};
 use std::alloc::{AllocError, Global};
 use std::test::Fail;
 
@@ -139,5 +144,122 @@ fn a_link_answers_as_its_input_its_room_and_its_faults_say(rt: HostRuntime) -> R
         let given = answers(rt.alloc(), calls)?;
         assert_eq!(rt; given.as_slice(), want);
     }
+    Ok(())
+}
+
+fn new_link(alloc: Global, input: &[u8]) -> Result<MemLink, AllocError>
+    ensures { IfOk result IsNewMemLink }
+{
+    let mut link = MemLink::new(alloc);
+    link.give(input.to_vec(alloc)?)?;
+    Ok(link)
+}
+
+// Asks a door for a link. Writes what the link gives, says two bytes to it and hands it back; writes a
+// letter where there is none.
+fn knock<D: Door>(door: &mut D, out: &mut Vec<u8>) -> Result<(), AllocError>
+    requires { (D.told door.old).given < 2 ^ 40 }
+    ensures { (D.told door.new).given ≤ (D.told door.old).given + 1 }
+{
+    match door.next() {
+        Knock::Link(link) => {
+            let mut link = link;
+            hear(&mut link, out)?;
+            say(&mut link, out)?;
+            door.back(link)
+        }
+        Knock::NotYet => out.extend_from_slice(b"N"),
+        Knock::Closed => out.extend_from_slice(b"C"),
+        Knock::Failed => out.extend_from_slice(b"F"),
+    }
+}
+
+#[test]
+fn a_door_gives_its_links_in_order_and_closes(rt: HostRuntime) -> Result<(), Fail> {
+    let alloc = rt.alloc();
+    let links = vec![in alloc; new_link(alloc, b"ab")?, new_link(alloc, b"cd")?]?;
+    let mut door = MemDoor::new(alloc, links, vec![in alloc; 1]?);
+    let mut out = Vec::new(alloc);
+    knock(&mut door, &mut out)?;
+    knock(&mut door, &mut out)?;
+    knock(&mut door, &mut out)?;
+    knock(&mut door, &mut out)?;
+    out.extend_from_slice(door.link_took(1).unwrap_or(b"-"))?;
+    out.extend_from_slice(door.link_took(2).unwrap_or(b"-"))?;
+    assert_eq!(rt; out.as_slice(), b"ab2Fcd2Cxy-".as_slice());
+    Ok(())
+}
+
+// Asks a house for the door of a worker, knocks, and shuts the door once it is closed. Writes a letter
+// where there is no door.
+fn visit<H: House>(house: &mut H, worker: u32, out: &mut Vec<u8>) -> Result<(), AllocError> {
+    match house.door(worker, b"", 1) {
+        None => out.extend_from_slice(b"F"),
+        Some(door) => leave(house, worker, door, out),
+    }
+}
+
+fn leave<H: House>(
+    house: &mut H,
+    worker: u32,
+    mut door: H::Door,
+    out: &mut Vec<u8>,
+) -> Result<(), AllocError>
+    requires { IsNewDoor (H.Door.told door) }
+{
+    knock(&mut door, out)?;
+    match door.next() {
+        Knock::Closed => house.shut(worker, door),
+        _ => out.extend_from_slice(b"?"),
+    }
+}
+
+// Asks a house for a rest, and rests. Writes a letter.
+fn rest<H: House>(house: &mut H, out: &mut Vec<u8>) -> Result<(), AllocError> {
+    match house.rest(0) {
+        None => out.extend_from_slice(b"F"),
+        Some(mut rest) => {
+            rest.moved();
+            rest.pause();
+            out.extend_from_slice(b"R")
+        }
+    }
+}
+
+// Keeps a file of that name with three bytes. Writes a letter.
+fn keep<H: House>(house: &mut H, name: &[u8], out: &mut Vec<u8>) -> Result<(), AllocError> {
+    match house.file(name) {
+        None => out.extend_from_slice(b"F"),
+        Some(mut file) => {
+            let _put = file.put(b"123");
+            house.keep(name, file)?;
+            out.extend_from_slice(b"K")
+        }
+    }
+}
+
+// Makes the call of that letter.
+fn ask(house: &mut MemHouse, letter: u8, out: &mut Vec<u8>) -> Result<(), AllocError> {
+    match letter {
+        b'0' => visit(house, 0, out),
+        b'1' => visit(house, 1, out),
+        b'r' => rest(house, out),
+        b'k' => keep(house, b"a", out),
+        b'f' => out.extend_from_slice(house.file_bytes(b"a").unwrap_or(b"-")),
+        _ => out.extend_from_slice(house.link_sent(0, 0).unwrap_or(b"-")),
+    }
+}
+
+#[test]
+fn a_house_gives_doors_and_keeps_what_comes_back(rt: HostRuntime) -> Result<(), Fail> {
+    let alloc = rt.alloc();
+    let links = vec![in alloc; new_link(alloc, b"ab")?]?;
+    let doors = vec![in alloc; MemDoor::new(alloc, links, vec![in alloc]?)]?;
+    let mut house = MemHouse::new(alloc, doors, vec![in alloc; 1]?);
+    let mut out = Vec::new(alloc);
+    for letter in b"fs0rr10kkfs" {
+        ask(&mut house, *letter, &mut out)?;
+    }
+    assert_eq!(rt; out.as_slice(), b"--ab2FRCCKK123xy".as_slice());
     Ok(())
 }

@@ -1,0 +1,59 @@
+ghost use Rattle.std.specs.Prelude.{◌≡◌, IfSome, IfNone, OnOk, OnErr};
+ghost use Rattle.relay_outside.specs.Doors.{IsNewDoor, IsDone};
+ghost use Rattle.relay_outside.specs.Houses.{HouseTold, IsNewFile, Refuses, Keeps, kept_file, with_shut, shut_door};
+
+use crate::{Door, Sink};
+use std::alloc::AllocError;
+
+/// Lets a worker wait until there is something to do.
+pub trait Rest: Drop {
+    /// Called after a round in which nothing moved. It may wait.
+    fn pause(&mut self);
+
+    /// Called after a turn that moved something. It never waits.
+    fn moved(&mut self);
+}
+
+/// Gives workers their doors and rests and recorders their files, and takes doors and files back.
+pub trait House: Drop {
+    type Door: Door + Send;
+
+    type Rest: Rest + Send;
+
+    type File: Sink + Send;
+
+    /// How often it has failed, how many files were kept that had faults and, where it tells them, the
+    /// files that were kept and the doors that were shut. Its counts never fall; one that stands at the
+    /// last value of a u64 stays there, and is said to rise.
+    ghost told: { Self → HouseTold };
+
+    /// Gives the door of a worker, which is new. It is to listen at that address and to close after so many
+    /// links, 0 being any number. `None` comes only where the house's faults rose.
+    fn door(&mut self, worker: u32, listen: &[u8], accept: u32) -> Option<Self::Door>
+        ensures new { IfSome result (λ d. IsNewDoor (Self.Door.told d) × (told self.new ≡ told self.old)) }
+        ensures none { IfNone result (Refuses (told self.old) (told self.new)) };
+
+    /// Gives the rest of a worker. `None` comes only where the house's faults rose.
+    fn rest(&mut self, worker: u32) -> Option<Self::Rest>
+        ensures new { IfSome result (λ _. told self.new ≡ told self.old) }
+        ensures none { IfNone result (Refuses (told self.old) (told self.new)) };
+
+    /// Gives a new file of that name. `None` comes only where the house's faults rose.
+    fn file(&mut self, name: &[u8]) -> Option<Self::File>
+        ensures new { IfSome result (λ f. IsNewFile (Self.File.holds f) (Self.File.faults f) × (told self.new ≡ told self.old)) }
+        ensures none { IfNone result (Refuses (told self.old) (told self.new)) };
+
+    /// Keeps a file under a name. It counts as spoiled exactly where the file has faults. A refusal, for
+    /// want of memory, drops the file and changes nothing.
+    fn keep(&mut self, name: &[u8], file: Self::File) -> Result<(), AllocError>
+        ensures kept { OnOk result (Keeps (told self.old) (told self.new) (Self.File.faults file)
+            (kept_file name.now (Self.File.holds file) (Self.File.faults file))) }
+        ensures refused { OnErr result (told self.new ≡ told self.old) };
+
+    /// Takes back the door of a worker, which is closed or has given 2^40 links. A refusal, for want of
+    /// memory, drops the door and changes nothing.
+    fn shut(&mut self, worker: u32, door: Self::Door) -> Result<(), AllocError>
+        requires { IsDone (Self.Door.told door) }
+        ensures shut { OnOk result (told self.new ≡ with_shut (told self.old) (shut_door worker (Self.Door.told door))) }
+        ensures refused { OnErr result (told self.new ≡ told self.old) };
+}
