@@ -1,8 +1,8 @@
 -- Whole chains of frames, item by item.
-use Rattle.std.proofs.Common.{◌≡◌, ℕ, zero, suc, ◌+◌, ◌<◌, ◌≤◌, Bool, true, false, ◌&&◌, if◌then◌else◌, nat_lt, List, [], ◌∷◌, ◌++◌, length, take, drop, Some, None, Option, inl, inr, refl, ap, sym, ◌∙◌, arith, add-one}
+use Rattle.std.proofs.Common.{◌≡◌, ℕ, zero, suc, ◌+◌, ◌<◌, ◌≤◌, Bool, true, false, ◌&&◌, if◌then◌else◌, nat_lt, List, [], ◌∷◌, ◌++◌, length, take, drop, Some, None, Option, refl, ap, sym, ◌∙◌, arith, add-one}
 use Rattle.std.specs.List.{slice_get}
 use Rattle.std.proofs.lemmas.List.{length-take, length-drop, drop-append-le, drop_all}
-use Rattle.std.proofs.lemmas.Bool.{cases_lt, false≢true}
+use Rattle.std.proofs.lemmas.Bool.{false≢true}
 use Rattle.std.proofs.lemmas.Option.{slice_get_within}
 use Rattle.av_unit.specs.declared.item.Item.{Item}
 use Rattle.av_unit.specs.declared.item.Item.TheVariants as item
@@ -13,7 +13,7 @@ use Rattle.stream_model.specs.Items.{last_where, last_of, after, has_kind, same_
 use Rattle.stream_model.specs.Chain.{has_number, is_frame, frames_sent, chain_sent, whole}
 use Rattle.stream_model.specs.Slots.{head_of, is_video}
 use Rattle.stream_model.proofs.Last.{passes_at}
-use Rattle.stream_model.proofs.Pushes.{Below, last_where-below, last_of-push, last_after}
+use Rattle.stream_model.proofs.Pushes.{Below, last_where-below, last_of-push}
 use Rattle.player_cursor.specs.CursorState.{flag_after, flag_after_kind}
 
 pub get_some : {X : Type 0} (xs : List X) (n : ℕ) → n < length xs → (x : X) × (slice_get xs n ≡ Some x)

@@ -1,7 +1,7 @@
 -- What each call makes of what a cursor stands for.
-use Rattle.std.proofs.Common.{◌≡◌, ℕ, zero, suc, ◌+◌, ◌-◌, ◌<◌, ◌≤◌, ◌==◌, Bool, true, false, ◌&&◌, if◌then◌else◌, nat_lt, List, [], ◌∷◌, ◌++◌, length, Some, None, Option, ◌⊎◌, inl, inr, refl, ap, sym, ◌∙◌, arith, length-append}
+use Rattle.std.proofs.Common.{◌≡◌, ℕ, ◌+◌, ◌-◌, ◌<◌, ◌≤◌, ◌==◌, Bool, true, false, ◌&&◌, if◌then◌else◌, List, [], ◌∷◌, ◌++◌, length, Some, None, Option, ◌⊎◌, inl, inr, refl, sym, ◌∙◌, arith, length-append}
 use Rattle.std.specs.List.{slice_get, All}
-use Rattle.std.proofs.lemmas.Bool.{cases_lt, cases_Bool, false≢true, ltb-true, lt-ltb, le-ltb, eqb-true}
+use Rattle.std.proofs.lemmas.Bool.{cases_lt, cases_Bool, false≢true, lt-ltb, le-ltb, eqb-true}
 use Rattle.std.proofs.lemmas.Option.{slice_get_within, slice_get_cases}
 use Rattle.std.proofs.lemmas.List.Elements.{All-nil, All-push, All-weaker}
 use Rattle.std.proofs.lemmas.List.Folds.{Any-from_list_any}
@@ -11,7 +11,7 @@ use Rattle.av_unit.specs.declared.unit.Kind.{Kind}
 use Rattle.av_unit.specs.declared.unit.Kind.TheVariants.{Meta, VConfig, AConfig, Key, Inter}
 use Rattle.av_unit.specs.declared.head.Slot.{Slot}
 use Rattle.av_unit.specs.declared.head.Slot.TheVariants as slot
-use Rattle.stream_model.specs.Items.{last_where, has_kind, same_kind, is_begin}
+use Rattle.stream_model.specs.Items.{last_where, has_kind, same_kind}
 use Rattle.stream_model.specs.Chain.{has_number, is_frame, whole}
 use Rattle.stream_model.specs.Take.{at_kind, last_sent}
 use Rattle.stream_model.specs.Slots.{slot_kind, head_of, is_video}

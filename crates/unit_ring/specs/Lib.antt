@@ -1,0 +1,4 @@
+pub mod RingKnown
+pub mod Marks
+pub mod Kept
+pub mod IsWindow

@@ -1,0 +1,146 @@
+ghost use Rattle.std.specs.Prelude.{◌≡◌, ℕ, ◌+◌, ◌*◌, ◌<◌, ◌≤◌, ◌^◌, [], ◌∷◌, ◌++◌, length, Some, IfOk, option_map};
+ghost use Rattle.std.specs.Option.{IfSome};
+ghost use Rattle.std.specs.List.{slice_get};
+ghost use Rattle.stream_model.specs.Items.{config_at, last_where};
+ghost use Rattle.stream_model.specs.Window.{base, join, newest_key, number_or};
+ghost use Rattle.stream_model.specs.Slots.{slot_kind, is_video};
+ghost use Rattle.stream_model.specs.Held.{held};
+
+use crate::newest::Newest;
+use crate::window::{Window, unit_of};
+use av_unit::{Item, OutOfMemory, Slot, UnitArc};
+use std::alloc::Global;
+use std::marker::Model;
+use stream_model::StreamLimits;
+
+/// All items that were pushed, of which those in the window are kept.
+#[derive(Drop)]
+pub struct Ring {
+    limits: StreamLimits,
+    window: Window,
+    newest: Newest,
+}
+
+impl Model for Ring {
+    ghost use Rattle.std.specs.Prelude.{◌≤◌, ◌*◌, ◌^◌, length};
+    ghost use Rattle.unit_ring.specs.RingKnown.{RingKnown};
+    ghost use Rattle.unit_ring.specs.IsWindow.{IsWindow, IsLeast};
+    ghost use Rattle.unit_ring.specs.Marks.{IsNewest};
+
+    ghost Value = { RingKnown };
+
+    ghost view = { λ r. record { limits = r.limits; items = r.window.items } };
+
+    ghost invariant = { λ r. IsWindow r.limits r.window × IsLeast r.limits r.window × IsNewest r.window.items r.newest };
+}
+
+impl Ring {
+    /// A ring with these limits and no item. It takes all its slots.
+    pub fn new(alloc: Global, limits: StreamLimits) -> Result<Ring, OutOfMemory>
+        ensures { IfOk result (λ ring. ring ≡ record { limits = limits; items = [] }) }
+    {
+        Ok(Ring {
+            limits,
+            window: Window::new(alloc, limits)?,
+            newest: Newest::none(),
+        })
+    }
+
+    /// Adds an item at the end, and drops what falls below the base; on condition that fewer than 3 × 2^62 items were
+    /// pushed. It takes no memory.
+    pub fn push(&mut self, item: Item)
+        requires { length self.old.items < 3 * 2 ^ 62 }
+        ensures { self.new ≡ record self.old { items = self.old.items ++ item ∷ [] } }
+    {
+        let before = self.newest.marks;
+        self.newest.add(&item);
+        self.window.push(&self.limits, item, before);
+    }
+
+    /// The base: the least number such that the items from it on fit the limits.
+    pub fn base(&self) -> u64
+        ensures { result ≡ base self.now.limits self.now.items }
+    {
+        self.window.base
+    }
+
+    /// The number of items that were pushed.
+    pub fn end(&self) -> u64
+        ensures { result ≡ length self.now.items }
+    {
+        self.newest.end
+    }
+
+    /// The lengths of the bodies of the items from the base on and of the configurations in effect there, in bytes.
+    pub fn held(&self) -> u64
+        ensures sum { result ≡ held self.now.limits self.now.items }
+        ensures most { result ≤ self.now.limits.bytes + 196608 }
+    {
+        self.window.held()
+    }
+
+    /// Item `n`, on condition that it lies in the window.
+    pub fn get(&self, n: u64) -> &Item
+        requires { (base self.now.limits self.now.items ≤ n) × (n < length self.now.items) }
+        ensures { slice_get self.now.items n ≡ Some result.now }
+    {
+        self.window.item(n)
+    }
+
+    /// The configuration in effect at `n`, with its number, on condition that `n` isn't below the base or above the number
+    /// of items. None exactly where no configuration of that kind is in effect there.
+    pub fn config_at(&self, n: u64, slot: Slot) -> Option<(u64, &UnitArc)>
+        requires { (base self.now.limits self.now.items ≤ n) × (n ≤ length self.now.items) }
+        ensures number { option_map (λ c. c.0) result ≡ config_at (slot_kind slot) self.now.items n }
+        ensures unit { IfSome result (λ c. slice_get self.now.items c.0 ≡ Some (Item.Unit c.1.now)) }
+    {
+        let number = self.mark_at(n, slot)?;
+        if number < self.window.base {
+            let kept = self.window.kept.of(slot)?;
+            Some((kept.number, &kept.unit))
+        } else {
+            Some((number, unit_of(self.window.item(number))?))
+        }
+    }
+
+    // The number of the configuration in effect at `n`.
+    fn mark_at(&self, n: u64, slot: Slot) -> Option<u64>
+        requires { (base self.now.limits self.now.items ≤ n) × (n ≤ length self.now.items) }
+        ensures { result ≡ config_at (slot_kind slot) self.now.items n }
+    {
+        if n < self.newest.end {
+            self.window.marks(n).of(slot)
+        } else {
+            self.newest.marks.of(slot)
+        }
+    }
+
+    /// The keyframe at which a player joins, if there is one: the newest that lies in the window and after the last Begin,
+    /// where the broadcast hasn't ended.
+    pub fn newest_key(&self) -> Option<u64>
+        ensures key { result ≡ newest_key self.now.limits self.now.items }
+        ensures join { join self.now.limits self.now.items ≡ number_or (length self.now.items) result }
+    {
+        self.key_in_window()
+    }
+
+    fn key_in_window(&self) -> Option<u64>
+        ensures { result ≡ newest_key self.now.limits self.now.items }
+    {
+        if !self.newest.live {
+            return None;
+        }
+        let key = self.newest.key?;
+        if key < self.window.base {
+            return None;
+        }
+        Some(key)
+    }
+
+    /// The number of the last frame or Begin that was ever pushed.
+    pub fn last_video(&self) -> Option<u64>
+        ensures { result ≡ last_where is_video self.now.items }
+    {
+        self.newest.video
+    }
+}
