@@ -5,7 +5,7 @@ use Rattle.amf0_value.specs.Encoding.{items_spelling}
 use Rattle.rtmp_command.specs.declared.answer.Why.TheVariants as why
 use Rattle.rtmp_command.specs.declared.answer.Answer.{Answer}
 use Rattle.rtmp_command.specs.declared.answer.Answer.TheVariants as answer
-use Rattle.rtmp_command.specs.Answers.{status_values, values_of}
+use Rattle.rtmp_command.specs.Answers.{status_values, values_of, body_of}
 
 so_long : (a : Answer) (n : ℕ) → length (items_spelling (values_of a)) ≡ n → n ≤ 190 → length (items_spelling (values_of a)) ≤ 190
 so_long a n is most = omega (arith, is)
@@ -28,3 +28,7 @@ body_short (answer.PlayRefused why.InUse) = so_long (answer.PlayRefused why.InUs
 body_short (answer.PlayRefused why.Full) = so_long (answer.PlayRefused why.Full) 99 refl (omega arith)
 body_short answer.PublishNotify = so_long answer.PublishNotify 104 refl (omega arith)
 body_short answer.UnpublishNotify = so_long answer.UnpublishNotify 108 refl (omega arith)
+
+pub body_of_short : (a : Answer) → length (body_of a) ≤ 190
+unfolding body_of
+body_of_short a = body_short a

@@ -1,0 +1,245 @@
+ghost use Rattle.std.specs.Prelude.{◌≡◌, ◌≤◌, ◌⊎◌, length, Ok, Err, IfOk, OnErr, MatchResult};
+ghost use Rattle.command_dialog.specs.State.{fresh, playing_in, app_length};
+ghost use Rattle.command_dialog.specs.Meaning.{meaning, commands};
+ghost use Rattle.command_dialog.specs.Dialog.{says, makes, after, told};
+
+use crate::lists::{App, MessageList};
+use crate::meaning::{
+    ask, asked_role, close, connect, fail_of, free_id, is_published, remove, role_without,
+    told_role, turn,
+};
+use crate::says::{
+    begun, call_by, connected, end_of, joined, nothing, one, push_of, refuse, refuse_by,
+};
+use crate::types::{Acts, DialogFail, Grant, Meant, Phase, Playing, Role, Switch};
+use chunk_wire::Message;
+use rtmp_command::{Answer, Heard, Why, hear};
+use std::alloc::Global;
+use std::marker::Model;
+use stream_model::Reply;
+
+/// The dialogue with one peer.
+#[derive(Drop)]
+pub struct Dialog {
+    window: u32,
+    app: Option<App>,
+    ids: Vec<u32>,
+    phase: Phase,
+}
+
+impl Model for Dialog {
+    ghost use Rattle.command_dialog.specs.State.{State};
+
+    ghost Value = { State };
+
+    ghost view = { λ d. record { window = d.window; app = d.app; ids = d.ids.items; phase = d.phase } };
+}
+
+impl Dialog {
+    /// Nothing was said yet. The window, in bytes, is the one that the connect answer tells. It takes no
+    /// memory.
+    pub fn new(alloc: Global, window: u32) -> Dialog
+        ensures { result ≡ fresh window }
+    {
+        Dialog {
+            window,
+            app: None,
+            ids: Vec::new(alloc),
+            phase: Phase::Idle,
+        }
+    }
+
+    /// What a message means where the dialogue stands (RTMP 1.0, section 7.2). Where that is `Asks`, the
+    /// caller finds the grant before it hands the meaning to `step`. It answers every refusal:
+    /// `BadCommand` for the body of a command message that is no command, `TooManyStreams` for a
+    /// createStream while 16 message streams are open.
+    #[tactic(auto, unfolding(crate::specs::Meaning::meaning))]
+    pub fn asks(&self, alloc: Global, message: &Message) -> Result<Meant, DialogFail>
+        ensures { MatchResult result (λ m. meaning self.now message.now ≡ Ok m)
+            (λ e. (e ≡ DialogFail.OutOfMemory) ⊎ (meaning self.now message.now ≡ Err e)) }
+    {
+        match message.kind {
+            20 => match hear(alloc, message.body.as_slice()) {
+                Ok(heard) => self.command(alloc, message.stream, &heard),
+                Err(fail) => Err(fail_of(fail)),
+            },
+            8 | 9 | 18 => {
+                if is_published(&self.phase, message.stream) {
+                    Ok(Meant::Media)
+                } else {
+                    Ok(Meant::Passed)
+                }
+            }
+            _ => Ok(Meant::Passed),
+        }
+    }
+
+    fn command(&self, alloc: Global, stream: u32, heard: &Heard) -> Result<Meant, DialogFail>
+        ensures { MatchResult result (λ m. commands self.now stream heard.now ≡ Ok m)
+            (λ e. (e ≡ DialogFail.OutOfMemory) ⊎ (commands self.now stream heard.now ≡ Err e)) }
+    {
+        let name = heard.name.as_slice();
+        if name == b"connect".as_slice() {
+            return Ok(connect(alloc, &self.app, heard.transaction, &heard.app)?);
+        }
+        let app = match &self.app {
+            None => return Ok(Meant::Passed),
+            Some(app) => app,
+        };
+        if name == b"createStream".as_slice() {
+            return match free_id(&self.ids) {
+                None => Err(DialogFail::TooManyStreams),
+                Some(id) => Ok(Meant::Creates {
+                    transaction: heard.transaction,
+                    id,
+                }),
+            };
+        }
+        if name == b"publish".as_slice() {
+            return Ok(ask(
+                alloc,
+                &self.phase,
+                &self.ids,
+                Role::Publish,
+                stream,
+                app,
+                &heard.fourth,
+            )?);
+        }
+        if name == b"play".as_slice() {
+            return Ok(ask(
+                alloc,
+                &self.phase,
+                &self.ids,
+                Role::Play,
+                stream,
+                app,
+                &heard.fourth,
+            )?);
+        }
+        if name == b"deleteStream".as_slice() {
+            return Ok(close(&self.ids, &heard.fourth));
+        }
+        if name == b"receiveAudio".as_slice() {
+            return Ok(turn(&self.phase, stream, Switch::Audio, &heard.fourth));
+        }
+        if name == b"receiveVideo".as_slice() {
+            return Ok(turn(&self.phase, stream, Switch::Video, &heard.fourth));
+        }
+        if name == b"pause".as_slice() {
+            return Ok(turn(&self.phase, stream, Switch::Pause, &heard.fourth));
+        }
+        Ok(Meant::Passed)
+    }
+
+    /// Does what a message makes, by its meaning and its grant. Where the meaning asks for no grant, none
+    /// is looked at; where it asks for one and there is none, that counts as `NoName`. Only memory can
+    /// be wanting, and then nothing has changed.
+    #[tactic(auto, unfolding(crate::specs::Dialog::says, crate::specs::Dialog::makes, crate::specs::Dialog::after))]
+    pub fn step(
+        &mut self,
+        alloc: Global,
+        message: Message,
+        meant: Meant,
+        grant: Option<Grant>,
+    ) -> Result<Acts, DialogFail>
+        requires read { meaning self.old message ≡ Ok meant }
+        requires short { length message.body ≤ 4194304 }
+        ensures says { IfOk result (λ acts. acts.says ≡ says self.old grant meant) }
+        ensures makes { IfOk result (λ acts. acts.makes ≡ makes self.old message grant meant) }
+        ensures state { IfOk result (λ _. self.new ≡ after self.old grant meant) }
+        ensures err { OnErr result (self.new ≡ self.old) }
+        ensures memory { OnErr result (result ≡ Err DialogFail.OutOfMemory) }
+    {
+        let mut acts = Acts {
+            says: nothing(alloc),
+            makes: None,
+        };
+        match meant {
+            Meant::Passed => {}
+            Meant::Connects { transaction, app } => {
+                acts.says = connected(alloc, self.window, transaction)?;
+                self.app = Some(app);
+            }
+            Meant::Creates { transaction, id } => {
+                acts.says = one(alloc, 0, &Answer::Created { transaction, id })?;
+                self.ids.push(id)?;
+            }
+            Meant::Busy { role, id } => {
+                acts.says = refuse(alloc, role, id, Why::RoleActive)?;
+            }
+            Meant::Asks { ask, id } => {
+                acts.says = refuse_by(alloc, ask.role, id, grant)?;
+                acts.makes = call_by(ask.role, grant);
+                self.phase = asked_role(ask.role, id, grant);
+            }
+            Meant::Closes { id } => {
+                acts.makes = end_of(id, self.phase);
+                remove(&mut self.ids, id);
+                self.phase = role_without(id, self.phase);
+            }
+            Meant::Turns(playing) => {
+                self.phase = Phase::Plays(playing);
+            }
+            Meant::Media => {
+                acts.makes = push_of(message);
+            }
+        }
+        Ok(acts)
+    }
+
+    /// Does what the stream's reply to a Begin or Join makes: the answer to the peer. Where no such call
+    /// is out, or the reply is to another call, nothing is said. Only memory can be wanting, and then
+    /// nothing has changed.
+    #[tactic(auto, unfolding(crate::specs::Dialog::told))]
+    pub fn answered(&mut self, alloc: Global, reply: &Reply) -> Result<MessageList, DialogFail>
+        ensures says { IfOk result (λ list. list ≡ (told self.old reply.now).says) }
+        ensures state { IfOk result (λ _. self.new ≡ (told self.old reply.now).state) }
+        ensures err { OnErr result (self.new ≡ self.old) }
+        ensures memory { OnErr result (result ≡ Err DialogFail.OutOfMemory) }
+    {
+        let says = match self.phase {
+            Phase::Asked {
+                role: Role::Publish,
+                id,
+            } => begun(alloc, id, reply)?,
+            Phase::Asked {
+                role: Role::Play,
+                id,
+            } => joined(alloc, id, reply)?,
+            Phase::Idle | Phase::Publishes { .. } | Phase::Plays(_) => nothing(alloc),
+        };
+        self.phase = told_role(self.phase, reply);
+        Ok(says)
+    }
+
+    /// The role.
+    pub fn phase(&self) -> Phase
+        ensures { result ≡ self.now.phase }
+    {
+        self.phase
+    }
+
+    /// The granted play; `None` exactly where none is active.
+    pub fn playing(&self) -> Option<Playing>
+        ensures { result ≡ playing_in self.now.phase }
+    {
+        match self.phase {
+            Phase::Plays(playing) => Some(playing),
+            Phase::Idle => None,
+            Phase::Asked { .. } => None,
+            Phase::Publishes { .. } => None,
+        }
+    }
+
+    /// How many bytes of its peer the dialogue keeps: the length of the app, at most 64.
+    pub fn held(&self) -> u64
+        ensures value { result ≡ app_length self.now.app }
+        ensures most { result ≤ 64 }
+    {
+        match &self.app {
+            None => 0,
+            Some(app) => app.as_slice().len() as u64,
+        }
+    }
+}

@@ -1,0 +1,61 @@
+//! Laws on the definition of the dialogue. Each stands on a function that does nothing.
+
+ghost use Rattle.std.specs.Prelude.{◌≡◌, ℕ, List, [], ◌∷◌, Some, None, codes, All, Option};
+ghost use Rattle.av_unit.specs.declared.head.Want.{Want};
+ghost use Rattle.av_unit.specs.declared.item.Item.{Item};
+ghost use Rattle.rtmp_command.specs.declared.answer.Why.TheVariants as why;
+ghost use Rattle.chunk_wire.specs.declared.message.Message.{Message};
+ghost use Rattle.stream_model.specs.declared.calls.Call.TheVariants as call;
+ghost use Rattle.stream_model.specs.declared.replies.Reply.{Reply};
+ghost use Rattle.stream_model.specs.declared.replies.Reply.TheVariants as reply;
+ghost use Rattle.command_dialog.specs.declared.types.Role.{Role};
+ghost use Rattle.command_dialog.specs.declared.types.Role.TheVariants as role;
+ghost use Rattle.command_dialog.specs.declared.types.Ask.{Ask};
+ghost use Rattle.command_dialog.specs.declared.types.Grant.{Grant};
+ghost use Rattle.command_dialog.specs.declared.types.Grant.TheVariants as grant;
+ghost use Rattle.command_dialog.specs.declared.types.Act.{Act};
+ghost use Rattle.command_dialog.specs.declared.types.Phase.{Phase};
+ghost use Rattle.command_dialog.specs.declared.types.Phase.TheVariants as phase;
+ghost use Rattle.command_dialog.specs.declared.types.Meant.{Meant};
+ghost use Rattle.command_dialog.specs.declared.types.Meant.TheVariants as meant;
+ghost use Rattle.command_dialog.specs.State.{State, with_phase};
+ghost use Rattle.command_dialog.specs.Words.{app_in, name_in, key_in};
+ghost use Rattle.command_dialog.specs.Meaning.{asks_while, least_free, closed_in};
+ghost use Rattle.command_dialog.specs.Dialog.{refuses, says, does, told, shows, call_of};
+ghost use Rattle.command_dialog.specs.Writable.{IsSaid, IsShown, HasRoom};
+
+/// No message asks a stream for an item.
+pub fn no_act_is_a_take()
+    ensures { (a : Act) (player : ℕ) (want : Want) → call_of a ≡ call.Take player want → ⊥ }
+{}
+
+/// What is said and shown is of a type that is written, and isn't too long; the chunk size that is
+/// told is 4,096.
+pub fn what_is_said_can_be_written()
+    ensures step { (s : State) (g : Option Grant) (m : Meant) → All IsSaid (says s g m) }
+    ensures message { (desk : Ask → Grant) (s : State) (m : Message) → All IsSaid (does desk s m).says }
+    ensures reply { (s : State) (r : Reply) → All IsSaid (told s r).says }
+    ensures item { (s : State) (i : Item) → HasRoom i → All IsShown (shows s i) }
+{}
+
+/// A publish or play is refused by the first of these: a role is active, no place has that name, the
+/// guard refuses, the stream is in use or full.
+pub fn the_first_refusal_is_told()
+    ensures active { (p : Phase) (r : Role) (id : ℕ) (app text : List ℕ) → (p ≡ phase.Idle → ⊥) → asks_while p r id app text ≡ meant.Busy r id }
+    ensures busy { (s : State) (r : Role) (id : ℕ) → says s None (meant.Busy r id) ≡ refuses r id why.RoleActive }
+    ensures no_name { (s : State) (a : Ask) (id : ℕ) → says s (Some grant.NoName) (meant.Asks a id) ≡ refuses a.role id why.NoName }
+    ensures guard { (s : State) (a : Ask) (id : ℕ) → says s (Some grant.Refused) (meant.Asks a id) ≡ refuses a.role id why.Refused }
+    ensures in_use { (s : State) (id by : ℕ)
+        → (told (with_phase s (phase.Asked role.Publish id)) (reply.InUse by)).says ≡ refuses role.Publish id why.InUse }
+    ensures full { (s : State) (id : ℕ)
+        → (told (with_phase s (phase.Asked role.Play id)) reply.Full).says ≡ refuses role.Play id why.Full }
+{}
+
+/// Some texts with the app, the name and the key that they are, and the least free of some ids.
+pub fn worked_examples()
+    ensures app { (app_in (codes "live/?a=b") ≡ codes "live") × (app_in (codes "live//") ≡ codes "live/") × (app_in (codes "?live") ≡ []) }
+    ensures name { (name_in (codes "cam?abc?d") ≡ codes "cam") × (key_in (codes "cam?abc?d") ≡ codes "abc?d") × (key_in (codes "cam") ≡ []) }
+    ensures ids { (least_free [] ≡ Some 1) × (least_free (1 ∷ 3 ∷ 2 ∷ []) ≡ Some 4)
+        × (least_free (1 ∷ 2 ∷ 3 ∷ 4 ∷ 5 ∷ 6 ∷ 7 ∷ 8 ∷ 9 ∷ 10 ∷ 11 ∷ 12 ∷ 13 ∷ 14 ∷ 15 ∷ 16 ∷ []) ≡ None) }
+    ensures closes { (closed_in 4607182418800017408 (2 ∷ 1 ∷ []) ≡ Some 1) × (closed_in 4607182418800017409 (2 ∷ 1 ∷ []) ≡ None) }
+{}
