@@ -2,6 +2,7 @@
 #![tactic(auto)]
 
 mod chunks;
+mod flv;
 mod gate;
 mod rates;
 mod writing;
@@ -18,6 +19,9 @@ fn main(rt: HostRuntime) -> io::Result<()> {
         }
         if word.as_str() == "writer" {
             writing::measure(&rt, rt.alloc())?;
+        }
+        if word.as_str() == "flv" {
+            flv::measure(&rt, rt.alloc())?;
         }
     }
     Ok(())

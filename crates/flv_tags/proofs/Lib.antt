@@ -1,0 +1,9 @@
+pub mod More
+pub mod Reading
+pub mod Parts
+pub mod Feeding
+pub mod Once
+pub mod Beginnings
+pub mod Apart
+pub mod Single
+pub mod Back

@@ -1,0 +1,10 @@
+pub mod Layout
+pub mod Written
+pub mod Reads
+pub mod Stops
+pub mod Known
+pub mod Feeds
+pub mod Sound
+pub mod Steps
+pub mod Text
+pub mod Laws
