@@ -1,5 +1,5 @@
 -- Bytes that are refused are not read
-use Rattle.std.proofs.Common.{◌≡◌, ◌≢◌, ℕ, ◌+◌, ◌-◌, ◌<◌, ◌≤◌, ◌⊎◌, inl, inr, true, false, List, ◌++◌, ◌∷◌, [], length, take, slice_index, refl}
+use Rattle.std.proofs.Common.{◌≡◌, ℕ, ◌+◌, ◌-◌, inl, inr, true, false, List, ◌++◌, ◌∷◌, [], length, take, slice_index, refl}
 use Rattle.std.proofs.Common.{sym, ap, ◌∙◌, subst, arith, append_assoc, append-nil, length-append}
 use Rattle.std.proofs.lemmas.List.{get_or-append_right, length-take, take-append-le, take_all, take_at, take_more}
 use Rattle.std.proofs.lemmas.Bool.{cases_lt}
@@ -7,10 +7,8 @@ use Rattle.std.specs.List.{AllByRecursion, concat}
 use Rattle.flv_tags.specs.declared.tag.Tag.{Tag}
 use Rattle.flv_tags.specs.declared.fail.FlvFail.{FlvFail}
 use Rattle.flv_tags.specs.declared.fail.FlvFail.TheVariants.{BadHeader, BadTag, BadBack, OutOfMemory}
-use Rattle.flv_tags.specs.Layout.{is_kind, kind_in, size_in, tag_size}
-use Rattle.flv_tags.specs.Written.{header}
-use Rattle.flv_tags.specs.Reads.{Admits, InHeader, InTags, IsFile, IsOpen, IsTag, Reads}
-use Rattle.flv_tags.specs.Stops.{BadCount, BadKind, Refuses, RefusesHeader, RefusesTag, Stops, TooLong}
+use Rattle.flv_tags.specs.Reads.{Admits, InTags, IsOpen, IsTag, Reads}
+use Rattle.flv_tags.specs.Stops.{Refuses, RefusesHeader, RefusesTag, Stops}
 use Rattle.flv_tags.proofs.Reading.{empty_is, in_tags_long}
 use Rattle.flv_tags.proofs.Once.{after_head, no_tag, same_cut, same_front}
 use Rattle.flv_tags.proofs.Beginnings.{read_as_header, reads_part, take_past}

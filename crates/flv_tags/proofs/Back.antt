@@ -1,5 +1,5 @@
 -- What is written is read back
-use Rattle.std.proofs.Common.{◌≡◌, ℕ, ◌+◌, ◌*◌, ◌<◌, ◌≤◌, ◌^◌, inl, inr, true, List, ◌++◌, ◌∷◌, [], length, take, drop, map, slice_index, refl, sym}
+use Rattle.std.proofs.Common.{◌≡◌, ℕ, ◌+◌, ◌<◌, ◌≤◌, ◌^◌, inr, true, List, ◌++◌, ◌∷◌, [], length, take, drop, map, refl, sym}
 use Rattle.std.proofs.Common.{ap, ◌∙◌, subst, arith, append_assoc, append-nil, length-append}
 use Rattle.std.proofs.lemmas.List.{take-append-drop, take_at}
 use Rattle.std.specs.List.{AllByRecursion, concat, flat_map}
@@ -14,9 +14,9 @@ use Rattle.av_unit.specs.Media.{Media}
 use Rattle.relay_base.specs.Numbers.{be24_of, be32_of}
 use Rattle.relay_base.proofs.ReadBack.{be24_of-bytes, be32_of-bytes}
 use Rattle.flv_tags.specs.declared.tag.Tag.{Tag}
-use Rattle.flv_tags.specs.Layout.{is_kind, kind_in, most_bytes, size_in, time_in, back_in, tag_in, tag_size}
+use Rattle.flv_tags.specs.Layout.{is_kind, kind_in, size_in, time_in, back_in, tag_in}
 use Rattle.flv_tags.specs.declared.fail.FlvFail.{FlvFail}
-use Rattle.flv_tags.specs.Written.{IsWritable, IsWritten, back_bytes, head_bytes, header, tag_bytes, tags_text}
+use Rattle.flv_tags.specs.Written.{IsWritten, back_bytes, head_bytes, header, tag_bytes, tags_text}
 use Rattle.flv_tags.specs.Text.{IsUnit, IsHeld, flv_text, item_bytes, tag_of, tags_of}
 use Rattle.flv_tags.specs.Reads.{IsFile, IsTag, Reads}
 use Rattle.flv_tags.specs.Stops.{Stops}

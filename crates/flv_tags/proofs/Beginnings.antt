@@ -1,15 +1,14 @@
 -- The first bytes of what is read are read
-use Rattle.std.proofs.Common.{◌≡◌, ℕ, ◌+◌, ◌-◌, ◌<◌, ◌≤◌, inl, inr, List, ◌++◌, ◌∷◌, [], length, take, drop, map, min, slice_index, refl, sym, ap}
-use Rattle.std.proofs.Common.{suc, ◌∙◌, subst, arith, append_assoc, append-nil, length-append}
-use Rattle.std.proofs.lemmas.List.{get_or-take, get_or_append_left, length-take, take-append-drop, take-append-le, take_at, map-append}
+use Rattle.std.proofs.Common.{◌≡◌, ℕ, ◌+◌, ◌-◌, ◌<◌, ◌≤◌, inl, inr, List, ◌++◌, ◌∷◌, [], length, take, drop, map, refl, sym, ap}
+use Rattle.std.proofs.Common.{suc, ◌∙◌, subst, arith, append_assoc, length-append}
+use Rattle.std.proofs.lemmas.List.{get_or-take, get_or_append_left, length-take, take-append-drop, take-append-le, map-append}
 use Rattle.std.proofs.lemmas.Bool.{cases_lt}
 use Rattle.std.specs.List.{AllByRecursion, concat}
 use Rattle.flv_tags.specs.declared.tag.Tag.{Tag}
-use Rattle.flv_tags.specs.Layout.{size_in, tag_in, tag_size}
-use Rattle.flv_tags.specs.Reads.{Admits, InHeader, InTags, IsAsHeader, IsFile, IsOpen, IsTag, Reads}
+use Rattle.flv_tags.specs.Layout.{tag_in, tag_size}
+use Rattle.flv_tags.specs.Reads.{Admits, InTags, IsAsHeader, IsOpen, IsTag, Reads}
 use Rattle.flv_tags.specs.Laws.{ReadsPart}
 use Rattle.flv_tags.proofs.More.{back_more, kind_more, size_more}
-use Rattle.flv_tags.proofs.Reading.{in_tags_long}
 use Rattle.flv_tags.proofs.Once.{after_head}
 
 pub take_past : (c x : List ℕ) (k : ℕ) → take (length c + k) (c ++ x) ≡ c ++ take k x

@@ -2,7 +2,6 @@
 use Rattle.std.proofs.Common.{◌≡◌, ◌≢◌, ℕ, ◌+◌, ◌-◌, ◌<◌, ◌≤◌, ◌⊎◌, inl, inr, true, false, List, [], ◌∷◌, ◌++◌, length, take, drop, slice_index}
 use Rattle.std.proofs.Common.{Option, Some, None, IfSome, is_some, refl, sym, ap, ◌∙◌, subst, arith, append_assoc, append-nil, length-append}
 use Rattle.std.proofs.Common.{length-drop}
-use Rattle.std.specs.List.{concat}
 use Rattle.std.specs.Option.{option_to_list}
 use Rattle.std.proofs.lemmas.List.{get_or-append_right, length-take, length-take-le, take-append-drop, take_all, take_at}
 use Rattle.std.proofs.Math.Seq.{take-add}
@@ -10,15 +9,15 @@ use Rattle.std.proofs.lemmas.Bool.{cases_lt}
 use Rattle.flv_tags.specs.declared.tag.Tag.{Tag}
 use Rattle.flv_tags.specs.declared.part.Part.{Part}
 use Rattle.flv_tags.specs.declared.fail.FlvFail.{FlvFail}
-use Rattle.flv_tags.specs.declared.fail.FlvFail.TheVariants.{BadHeader, BadTag, BadBack, OutOfMemory}
+use Rattle.flv_tags.specs.declared.fail.FlvFail.TheVariants.{OutOfMemory}
 use Rattle.flv_tags.specs.Layout.{size_in, tag_in}
 use Rattle.flv_tags.specs.Written.{IsWritable, header}
 use Rattle.flv_tags.specs.Reads.{InHeader, InTags, IsAsHeader, IsFile, IsOpen, IsTag, Reads}
-use Rattle.flv_tags.specs.Stops.{Ends, Refuses, RefusesHeader, RefusesTag, Stops}
+use Rattle.flv_tags.specs.Stops.{Refuses, RefusesHeader, RefusesTag, Stops}
 use Rattle.flv_tags.specs.Known.{Known}
 use Rattle.flv_tags.specs.Feeds.{IsFedTo, IsRefused, IsTakenTo, Stands, after_bytes}
 use Rattle.flv_tags.specs.Sound.{IsPart, IsSound, IsStanding, part_bytes}
-use Rattle.flv_tags.specs.Steps.{Completes, Grows, Passes, IsHeaderByte, IsStepped, IsTaken, TakeFails}
+use Rattle.flv_tags.specs.Steps.{Completes, Grows, Passes, IsHeaderByte, IsTaken, TakeFails}
 use Rattle.flv_tags.proofs.Reading.{as_header_more, file_stands, header_file, in_tags_long, in_tags_more, in_tags_tag}
 
 pub first_is : (piece : List ℕ) → 0 < length piece → take 1 piece ≡ slice_index piece 0 ∷ []

@@ -1,10 +1,9 @@
 -- What the bytes of a tag mean is the same with more bytes after them
-use Rattle.std.proofs.Common.{◌≡◌, ℕ, ◌+◌, ◌-◌, ◌*◌, ◌<◌, ◌≤◌, List, [], ◌∷◌, ◌++◌, length, take, drop, slice_index, refl, sym, ap, ◌∙◌, arith}
-use Rattle.std.proofs.Common.{append_assoc, append-nil, length-append, length-drop}
+use Rattle.std.proofs.Common.{◌≡◌, ℕ, ◌+◌, ◌-◌, ◌<◌, ◌≤◌, List, ◌++◌, length, take, drop, slice_index, refl, sym, ap, ◌∙◌, arith}
+use Rattle.std.proofs.Common.{append_assoc, length-append, length-drop}
 use Rattle.std.proofs.lemmas.List.{get_or-drop, get_or_append_left, drop-append-le, take-append-le, take_at, drop_at}
 use Rattle.relay_base.specs.Numbers.{be24_of, be32_of}
-use Rattle.flv_tags.specs.declared.tag.Tag.{Tag}
-use Rattle.flv_tags.specs.Layout.{kind_in, size_in, time_in, body_in, back_in, tag_size, tag_in}
+use Rattle.flv_tags.specs.Layout.{kind_in, size_in, time_in, back_in, tag_size, tag_in}
 
 -- the first n bytes are the same
 abbrev pub Same : ℕ → List ℕ → List ℕ → Type 0

@@ -1,11 +1,11 @@
 -- Bytes read in one way
-use Rattle.std.proofs.Common.{◌≡◌, ℕ, ◌+◌, ◌<◌, ◌≤◌, inl, inr, List, ◌++◌, ◌∷◌, [], length, take, map, refl, sym, ap, ◌∙◌, subst, arith}
+use Rattle.std.proofs.Common.{◌≡◌, ℕ, ◌+◌, inl, inr, List, ◌++◌, ◌∷◌, [], length, take, map, refl, sym, ap, ◌∙◌, arith}
 use Rattle.std.proofs.Common.{append_assoc, length-append}
 use Rattle.std.proofs.lemmas.List.{append_cancel_left, take_at}
 use Rattle.std.specs.List.{AllByRecursion, concat}
 use Rattle.flv_tags.specs.declared.tag.Tag.{Tag}
-use Rattle.flv_tags.specs.Layout.{size_in, tag_in, tag_size}
-use Rattle.flv_tags.specs.Reads.{InHeader, InTags, IsFile, IsOpen, IsTag, Reads}
+use Rattle.flv_tags.specs.Layout.{size_in, tag_in}
+use Rattle.flv_tags.specs.Reads.{InTags, IsOpen, IsTag, Reads}
 use Rattle.flv_tags.specs.Laws.{SameReading}
 use Rattle.flv_tags.proofs.More.{size_more}
 use Rattle.flv_tags.proofs.Reading.{in_tags_long}

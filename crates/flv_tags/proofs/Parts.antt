@@ -1,16 +1,16 @@
 -- What comes to the part of a tag
-use Rattle.std.proofs.Common.{◌≡◌, ◌≢◌, ℕ, ◌+◌, ◌-◌, ◌<◌, ◌≤◌, ◌⊎◌, inl, inr, true, false, List, [], ◌∷◌, ◌++◌, length, take, drop, slice_index}
-use Rattle.std.proofs.Common.{refl, sym, ap, ◌∙◌, subst, arith, append_assoc, append-nil, length-append}
+use Rattle.std.proofs.Common.{◌≡◌, ◌≢◌, ℕ, ◌+◌, ◌<◌, ◌≤◌, true, List, [], ◌∷◌, ◌++◌, length}
+use Rattle.std.proofs.Common.{sym, ap, ◌∙◌, subst, arith, append_assoc, append-nil, length-append}
 use Rattle.relay_base.specs.Numbers.{be32_of}
 use Rattle.flv_tags.specs.declared.tag.Tag.{Tag}
 use Rattle.flv_tags.specs.declared.part.Part.{Part}
-use Rattle.flv_tags.specs.Layout.{is_kind, kind_in, most_bytes, size_in, time_in, back_in, tag_size, tag_in}
-use Rattle.flv_tags.specs.Reads.{IsOpen, IsTag}
-use Rattle.flv_tags.specs.Stops.{BadCount, BadKind, TooLong}
+use Rattle.flv_tags.specs.Layout.{is_kind, kind_in, most_bytes, size_in, time_in, back_in, tag_in}
+use Rattle.flv_tags.specs.Reads.{IsOpen}
+use Rattle.flv_tags.specs.Stops.{BadCount}
 use Rattle.flv_tags.specs.Sound.{IsPart, part_bytes}
 use Rattle.flv_tags.specs.Steps.{Completes, Grows}
 use Rattle.flv_tags.proofs.More.{kind_more, size_more, parts_back, parts_tag}
-use Rattle.flv_tags.proofs.Reading.{empty_is, open_head, open_more, open_nil, tag_last}
+use Rattle.flv_tags.proofs.Reading.{open_head, open_more, tag_last}
 
 all_head : (h b k : List ℕ) → length b ≡ 0 → length k ≡ 0 → h ++ (b ++ k) ≡ h
 all_head h [] [] b k = append-nil h

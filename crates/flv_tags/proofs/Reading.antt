@@ -1,5 +1,5 @@
 -- What bytes read as, with more bytes
-use Rattle.std.proofs.Common.{◌≡◌, ◌≢◌, ℕ, ◌+◌, ◌-◌, ◌<◌, ◌≤◌, ◌⊎◌, inl, inr, true, List, [], ◌∷◌, ◌++◌, length, map, slice_index, refl, sym, ap}
+use Rattle.std.proofs.Common.{◌≡◌, ◌≢◌, ℕ, ◌+◌, ◌-◌, ◌<◌, ◌≤◌, inl, inr, true, List, [], ◌∷◌, ◌++◌, length, slice_index, refl, sym, ap}
 use Rattle.std.proofs.Common.{◌∙◌, arith, append_assoc, append-nil, length-append}
 use Rattle.std.proofs.lemmas.List.{get_or_append_left, get_or-append_right, map-append}
 use Rattle.std.proofs.lemmas.List.Folds.{concat-append}
@@ -8,7 +8,7 @@ use Rattle.std.specs.List.{AllByRecursion, concat}
 use Rattle.flv_tags.specs.declared.tag.Tag.{Tag}
 use Rattle.flv_tags.specs.Layout.{is_kind, kind_in, most_bytes, size_in, back_in, tag_size, tag_in}
 use Rattle.flv_tags.specs.Written.{header}
-use Rattle.flv_tags.specs.Reads.{Admits, InHeader, InTags, IsAsHeader, IsFile, IsOpen, IsTag, Reads}
+use Rattle.flv_tags.specs.Reads.{InTags, IsAsHeader, IsFile, IsOpen, IsTag}
 use Rattle.flv_tags.proofs.More.{kind_more, size_more}
 
 pub empty_is : (xs : List ℕ) → length xs ≡ 0 → xs ≡ []

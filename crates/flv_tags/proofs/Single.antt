@@ -1,13 +1,12 @@
 -- One list of bytes is refused once
-use Rattle.std.proofs.Common.{◌≡◌, ◌≢◌, ℕ, ◌+◌, ◌-◌, ◌<◌, ◌≤◌, ◌⊎◌, inl, inr, true, false, List, ◌++◌, ◌∷◌, [], length, take, drop, slice_index}
+use Rattle.std.proofs.Common.{◌≡◌, ℕ, ◌+◌, ◌<◌, ◌⊎◌, inl, inr, List, ◌++◌, ◌∷◌, [], length, take, drop, slice_index}
 use Rattle.std.proofs.Common.{refl, sym, ap, ◌∙◌, subst, arith}
 use Rattle.std.proofs.lemmas.List.{length-take, take-append-drop, take-append-le}
 use Rattle.std.proofs.lemmas.Bool.{cases_lt}
 use Rattle.flv_tags.specs.declared.tag.Tag.{Tag}
 use Rattle.flv_tags.specs.declared.fail.FlvFail.{FlvFail}
 use Rattle.flv_tags.specs.declared.fail.FlvFail.TheVariants.{BadHeader, BadTag, BadBack, OutOfMemory}
-use Rattle.flv_tags.specs.Layout.{is_kind, kind_in, size_in, back_in, tag_size}
-use Rattle.flv_tags.specs.Reads.{InHeader, InTags, Reads}
+use Rattle.flv_tags.specs.Reads.{Reads}
 use Rattle.flv_tags.specs.Stops.{BadCount, BadKind, Refuses, RefusesHeader, RefusesTag, Stops, TooLong}
 use Rattle.flv_tags.specs.Laws.{SameStop}
 use Rattle.flv_tags.proofs.Reading.{in_tags_long}

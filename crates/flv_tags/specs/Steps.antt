@@ -1,5 +1,5 @@
 -- What the steps of the reader leave, by its fields
-use Rattle.std.specs.Prelude.{◌≡◌, ◌≢◌, ◌⊎◌, ◌<◌, ◌≤◌, ℕ, ◌+◌, ◌-◌, List, [], ◌∷◌, ◌++◌, length, take, slice_index, Option, Some, None}
+use Rattle.std.specs.Prelude.{◌≡◌, ◌≢◌, ◌⊎◌, ◌<◌, ◌≤◌, ℕ, ◌+◌, ◌-◌, List, [], ◌++◌, length, take, slice_index, Option, Some, None}
 use Rattle.flv_tags.specs.declared.tag.Tag.{Tag}
 use Rattle.flv_tags.specs.declared.part.Part.{Part}
 use Rattle.flv_tags.specs.declared.part.Cause.{Cause}

@@ -5,7 +5,7 @@ use Rattle.flv_tags.specs.declared.fail.FlvFail.{FlvFail}
 use Rattle.flv_tags.specs.declared.fail.FlvFail.TheVariants.{BadHeader, BadTag, BadBack, OutOfMemory}
 use Rattle.flv_tags.specs.Layout.{is_kind, most_bytes, kind_in, size_in, back_in, tag_size}
 use Rattle.flv_tags.specs.Written.{header}
-use Rattle.flv_tags.specs.Reads.{IsFile, InHeader, InTags}
+use Rattle.flv_tags.specs.Reads.{InHeader, InTags}
 
 -- the last of the bytes r of a tag says a type that isn't read
 pub record BadKind (r : List ℕ) : Type 0 where

@@ -1,4 +1,4 @@
-use Rattle.std.proofs.Common.{◌≡◌, ◌<◌, ◌≤◌, ◌+◌, ◌∷◌, [], ◌++◌, ◌∙◌, length, ap, sym, refl, arith}
+use Rattle.std.proofs.Common.{◌≡◌, ◌<◌, ◌≤◌, ◌+◌, ◌∙◌, length, ap, sym, refl, arith}
 use Rattle.relay_base.specs.Numbers.{be32_of}
 use Rattle.flv_tags.specs.Layout.{size_in}
 use Rattle.flv_tags.proofs.Parts.{back_completes, back_grows, back_refused, whole_tag}

@@ -1,4 +1,4 @@
-use Rattle.std.proofs.Common.{◌≡◌, ◌∷◌, [], ◌++◌, refl}
+use Rattle.std.proofs.Common.{refl}
 use Rattle.flv_tags.proofs.Parts.{head_grows}
 use Rattle.flv_tags.proofs.part.head_byte.Goals as goal
 
