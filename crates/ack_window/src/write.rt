@@ -1,5 +1,5 @@
 ghost use Rattle.std.specs.Prelude.{◌≡◌, IfOk};
-ghost use Rattle.ack_window.specs.Controls.{message_of};
+ghost use Rattle.ack_window.specs.Controls.{InRange, message_of};
 
 use crate::Control;
 use crate::control::{
@@ -11,7 +11,8 @@ use std::alloc::Global;
 
 /// The message that says a control: on message stream 0, at time 0, with all bytes of its fields and no more.
 pub fn control_message(alloc: Global, control: Control) -> Result<Message, OutOfMemory>
-    ensures { IfOk result (λ m. m ≡ message_of control) }
+    ensures message { IfOk result (λ m. m ≡ message_of control) }
+    ensures range { InRange control }
 {
     match control {
         Control::ChunkSize(size) => message(alloc, SET_CHUNK_SIZE, &size.to_be_bytes()),

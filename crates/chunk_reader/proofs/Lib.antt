@@ -12,3 +12,4 @@ pub mod Apart
 pub mod Single
 pub mod Totals
 pub mod Settled
+pub mod Before

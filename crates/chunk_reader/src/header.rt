@@ -1,6 +1,6 @@
-ghost use Rattle.std.specs.Prelude.{◌≡◌, ◌≤◌, ◌<◌, ◌+◌, ◌||◌, ◌&&◌, ◌^◌, if◌then◌else◌, ℕ, true, is_some, length, nat_lt};
+ghost use Rattle.std.specs.Prelude.{◌≡◌, ◌≤◌, ◌<◌, ◌+◌, ◌||◌, ◌&&◌, ◌^◌, if◌then◌else◌, true, is_some, length, nat_lt};
 ghost use Rattle.std.specs.Prelude.{IsTrue, IfSome, MatchResult};
-ghost use Rattle.chunk_wire.specs.Layout.{basic_in, basic_size, head_size, format_in, id_in, IsBasicAt, IsHeadAt};
+ghost use Rattle.chunk_wire.specs.Layout.{basic_in, basic_size, head_size, format_in, id_in, IsBasicAt};
 ghost use Rattle.chunk_wire.specs.State.{kept_of, place_of};
 ghost use Rattle.chunk_wire.specs.Chunk.{head_fields, is_extended, kept_before, terms_by, value_in};
 ghost use Rattle.chunk_reader.specs.Core.{the_state};

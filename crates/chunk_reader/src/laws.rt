@@ -1,8 +1,9 @@
-ghost use Rattle.std.specs.Prelude.{ℕ, ◌+◌, ◌<◌, List, ◌++◌, length, take};
+ghost use Rattle.std.specs.Prelude.{ℕ, ◌+◌, ◌-◌, ◌<◌, List, [], ◌∷◌, ◌++◌, length, take};
 ghost use Rattle.chunk_wire.specs.declared.message.Message.{Message};
 ghost use Rattle.chunk_wire.specs.State.{State};
 ghost use Rattle.chunk_reader.specs.Laws.{IsReadOrRefused, ReadsPart, SameReading, SameStop};
 ghost use Rattle.chunk_reader.specs.Reads.{Reads};
+ghost use Rattle.chunk_reader.specs.Sound.{IsRead};
 ghost use Rattle.chunk_reader.specs.Stops.{Stops};
 ghost use Rattle.chunk_reader.specs.declared.fail.ReadCause.{ReadCause};
 
@@ -15,6 +16,13 @@ pub fn one_reading()
 /// The first bytes of what is read are read too, as the first of its messages.
 pub fn beginnings_are_read()
     ensures { (max : ℕ) (b : List ℕ) (n : ℕ) (ms : List (ℕ × Message)) (s : State) (r : List ℕ) → Reads max b ms s r → ReadsPart max b n ms }
+{}
+
+/// Where bytes more end a message, all but the last of them read as the messages before it.
+pub fn a_message_ends_with_its_last_byte()
+    ensures { (max : ℕ) (a c : List ℕ) (ms : List (ℕ × Message)) (m : Message) (s t : State) (q r : List ℕ) → 0 < length c
+        → Reads max a ms s q → Reads max (a ++ c) (ms ++ (length (a ++ c), m) ∷ []) t r
+        → IsRead max (take (length (a ++ c) - 1) (a ++ c)) ms }
 {}
 
 /// Where a byte is refused, no list that begins with the bytes up to it and with it is read.

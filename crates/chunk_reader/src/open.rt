@@ -1,5 +1,4 @@
-ghost use Rattle.std.specs.Prelude.{◌≡◌, ◌≤◌, ◌<◌, ◌+◌, ◌-◌, length, min, OnOk, IfOk, IfSome, if◌then◌else◌, [], slice_get, Some};
-ghost use Rattle.chunk_wire.specs.Chunk.{header_size, payload_size};
+ghost use Rattle.std.specs.Prelude.{◌≡◌, ◌≤◌, ◌<◌, ◌+◌, ◌-◌, length, min, OnOk, IfOk, IfSome, if◌then◌else◌, [], Some};
 ghost use Rattle.chunk_wire.specs.State.{part_bytes};
 ghost use Rattle.chunk_reader.specs.Core.{the_state};
 ghost use Rattle.chunk_reader.specs.Steps.{IsOpened, IsOpening, IsPutAt, with_opening};

@@ -1,5 +1,5 @@
-ghost use Rattle.std.specs.Prelude.{◌≡◌, ◌≤◌, ◌<◌, [], ◌++◌, ◌∷◌, ℕ, length, take, true, false, is_some, IfOk, IfErr, IfSome, Some, None, Err};
-ghost use Rattle.chunk_reader.specs.Feeds.{IsFedTo, IsHeld, IsRefused, IsTakenTo, Stands};
+ghost use Rattle.std.specs.Prelude.{◌≡◌, ◌≤◌, ◌<◌, [], ◌++◌, length, take, true, false, is_some, IfOk, IfErr, IfSome, Some, None, Err};
+ghost use Rattle.chunk_reader.specs.Feeds.{IsFedTo, IsHeld, IsRefused, IsTakenTo};
 ghost use Rattle.chunk_reader.specs.Reads.{ended, part_limit};
 
 use crate::fail::{ReadCause, ReadFail};

@@ -1,4 +1,4 @@
-ghost use Rattle.std.specs.Prelude.{◌≡◌, ◌≤◌, ◌<◌, ◌+◌, ◌^◌, ◌++◌, ◌∷◌, [], ℕ, length, vec_len, OnOk, IfOk, IfErr};
+ghost use Rattle.std.specs.Prelude.{◌≡◌, ◌≤◌, ◌<◌, ◌+◌, ◌^◌, ◌++◌, ◌∷◌, [], length, vec_len, OnOk, IfOk, IfErr};
 ghost use Rattle.chunk_wire.specs.State.{part_bytes};
 ghost use Rattle.chunk_reader.specs.Core.{the_state};
 ghost use Rattle.chunk_reader.specs.Reads.{part_limit};

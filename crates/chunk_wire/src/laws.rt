@@ -1,4 +1,4 @@
-ghost use Rattle.std.specs.Prelude.{◌≡◌, ◌∷◌, ◌++◌, [], ℕ, List, true, false, replicate, Some, None};
+ghost use Rattle.std.specs.Prelude.{◌≡◌, ◌∷◌, ◌++◌, [], ℕ, List, replicate, Some, None};
 ghost use Rattle.chunk_wire.specs.declared.headers.Head.{Head};
 ghost use Rattle.chunk_wire.specs.Chunk.{after_chunk, chunk_size, header_size, message_of, opened};
 ghost use Rattle.chunk_wire.specs.Examples.{basic, far_first, far_second, head, message, ping_response};
