@@ -1,0 +1,9 @@
+pub mod Counting
+pub mod Walking
+pub mod Windows
+pub mod Growing
+pub mod Together
+pub mod Writing
+pub mod Standing
+pub mod Encoding
+pub mod Publishing
