@@ -14,7 +14,8 @@ use Rattle.key_guard.specs.declared.check.Mode.TheVariants.{Plain, Digest}
 use Rattle.key_guard.specs.Allowed.{Allowed, Has, has, is_allowed}
 
 -- one key more has been compared
-pub found_more : (found same all : Bool) (keys : List (List ℕ)) (i : ℕ) (key asked : List ℕ) → i < length keys → key ≡ get_or keys i key → IsTrue same ↔ (asked ≡ key)
+pub found_more : (found same all : Bool) (keys : List (List ℕ)) (i : ℕ) (key asked : List ℕ) → i < length keys → key ≡ get_or keys i key
+    → IsTrue same ↔ (asked ≡ key)
     → (found || list_any (pointwise nat_eq asked) (drop i keys)) ≡ all
     → ((found || same) || list_any (pointwise nat_eq asked) (drop (i + 1) keys)) ≡ all
 found_more found same all keys i key asked within is here before =

@@ -1,0 +1,40 @@
+-- The bound on the memory that a relay holds, in bytes
+use Rattle.std.specs.Prelude.{ℕ, ◌+◌, ◌*◌, ◌<◌, ◌≤◌, ◌^◌, List, length, count_by, is_some}
+use Rattle.std.specs.Int.{div_ceil}
+use Rattle.relay_base.specs.declared.limits.Limits.{Limits}
+use Rattle.relay_config.specs.declared.config.Config.{Config}
+use Rattle.relay_config.specs.declared.config.PlaceRule.{PlaceRule}
+
+-- a stream: its ring, and one configuration of each kind
+abbrev pub stream_bytes : Limits → ℕ
+stream_bytes limits = limits.ring_bytes + 196608
+
+-- a session: its input, what its reader assembles, its answers, and the unit in its hand as it is and in chunks
+abbrev pub session_bytes : Limits → ℕ
+session_bytes limits = 4096 + (limits.max_message + 65536) + 32768 + limits.max_message + div_ceil limits.max_message 512
+
+abbrev pub recorder_bytes : Limits → ℕ
+recorder_bytes limits = 4 * limits.max_message + 262144
+
+abbrev pub total_of : Limits → ℕ → ℕ → ℕ → ℕ
+total_of limits streams sessions recorders =
+    streams * stream_bytes limits + sessions * session_bytes limits + recorders * recorder_bytes limits
+
+-- the recordings that a configuration names
+abbrev pub recorders_of : List PlaceRule → ℕ
+recorders_of places = count_by (λ p. is_some p.flv) places + count_by (λ p. is_some p.ts) places
+
+-- the configured sum
+abbrev pub configured_sum : Config → ℕ
+configured_sum config = total_of config.limits (length config.places) (config.workers * config.links) (recorders_of config.places)
+
+-- the ranges of a configuration's numbers
+pub record InRange (config : Config) : Type 0 where
+  pub workers : (1 ≤ config.workers) × (config.workers ≤ 16)
+  pub links : (1 ≤ config.links) × (config.links ≤ 64)
+  pub accept : config.accept ≤ 1000000
+  pub max_message : (4096 ≤ config.limits.max_message) × (config.limits.max_message ≤ 4194304)
+  pub ring_bytes : (config.limits.max_message + 64 ≤ config.limits.ring_bytes) × (config.limits.ring_bytes ≤ 268435456)
+  pub ring_items : (16 ≤ config.limits.ring_items) × (config.limits.ring_items ≤ 65536)
+  pub players : (4 ≤ config.limits.players) × (config.limits.players ≤ 256)
+  pub window : (1000 ≤ config.limits.window) × (config.limits.window < 2 ^ 31)

@@ -1,0 +1,96 @@
+ghost use Rattle.std.specs.Prelude.{◌≡◌, ◌⊎◌, not, IsTrue, Some, None, map, option_map, option_copied, string_bytes, is_none};
+ghost use Rattle.std.specs.List.{find};
+ghost use Rattle.std.specs.BTreeMap.{keys};
+ghost use Rattle.toml.specs.View.{view, table_view};
+ghost use Rattle.relay_config.specs.Refusals.{Tells, is_known, keys_of_members, unknown_in, lacks, is_outside, first_key, table_refusal};
+ghost use Rattle.relay_config.specs.Refusals.{relay_refusal, streams_refusal, stream_rows};
+
+use crate::forms::{fits, value_at};
+use crate::rows::Row;
+use crate::{ConfigFail, Key};
+use av_unit::Bytes;
+use std::alloc::Global;
+use toml::{Table, Value};
+
+fn is_known(rows: &[Row], key: &str) -> bool
+    ensures { result ≡ is_known rows.now key.now }
+{
+    rows.iter().any(|row| key == row.key.name())
+}
+
+fn unknown_of<'a>(rows: &[Row], table: &'a Table) -> Option<&'a String>
+    ensures { option_map (λ s. s.now) result ≡ find (λ k. not (is_known rows.now (string_bytes k))) (keys table.now) }
+{
+    table.keys().find(|key| !is_known(rows, key.as_str()))
+}
+
+fn unknown_key<'a>(rows: &[Row], table: &'a Value) -> Option<&'a str>
+    ensures { option_copied result ≡ unknown_in rows.now (view table.now) }
+{
+    match unknown_of(rows, table.as_table()?) {
+        Some(key) => Some(key.as_str()),
+        None => None,
+    }
+}
+
+fn lacks(table: &Value, row: &Row) -> bool
+    ensures { result ≡ lacks (view table.now) row.now }
+{
+    row.required && value_at(table, row.key).is_none()
+}
+
+fn missing_key(rows: &[Row], table: &Value) -> Option<Key>
+    ensures { result ≡ first_key (lacks (view table.now)) rows.now }
+{
+    match rows.iter().find(|row| lacks(table, row)) {
+        Some(row) => Some(row.key),
+        None => None,
+    }
+}
+
+fn is_outside(table: &Value, row: &Row) -> bool
+    ensures { result ≡ is_outside (view table.now) row.now }
+{
+    match value_at(table, row.key) {
+        Some(value) => !fits(row.form, table, value),
+        None => false,
+    }
+}
+
+fn outside_key(rows: &[Row], table: &Value) -> Option<Key>
+    ensures { result ≡ first_key (is_outside (view table.now)) rows.now }
+{
+    match rows.iter().find(|row| is_outside(table, row)) {
+        Some(row) => Some(row.key),
+        None => None,
+    }
+}
+
+/// The tests of one table: that it has no key but those of the rows, then that it has the required ones, then that
+/// each value has its form.
+pub(crate) fn check_table(alloc: Global, rows: &[Row], table: &Value) -> Result<(), ConfigFail>
+    ensures { Tells result (table_refusal rows.now (view table.now)) }
+{
+    if let Some(key) = unknown_key(rows, table) {
+        return Err(unknown(alloc, key));
+    }
+    if let Some(key) = missing_key(rows, table) {
+        return Err(ConfigFail::Missing { key });
+    }
+    if let Some(key) = outside_key(rows, table) {
+        return Err(ConfigFail::Range { key });
+    }
+    Ok(())
+}
+
+// The refusal of a key, or of the memory to name it.
+fn unknown(alloc: Global, key: &str) -> ConfigFail
+    ensures { (result ≡ ConfigFail.OutOfMemory) ⊎ (result ≡ ConfigFail.Unknown key.now) }
+{
+    match key.as_bytes().to_vec(alloc) {
+        Ok(key) => ConfigFail::Unknown {
+            key: Bytes::from_vec(key),
+        },
+        Err(_) => ConfigFail::OutOfMemory,
+    }
+}

@@ -1,0 +1,69 @@
+use crate::Key;
+use av_unit::{Bytes, Listed, OutOfMemory};
+use key_guard::{Grants, Mode};
+use relay_base::Limits;
+
+/// What a relay is told.
+#[derive(Debug, Drop)]
+pub struct Config {
+    /// The address at which it listens, as it was written.
+    pub listen: Bytes,
+    /// How many workers serve it.
+    pub workers: u32,
+    /// How many links each worker has at most.
+    pub links: u32,
+    /// After how many links it accepts no more; 0 stands for no such number.
+    pub accept: u32,
+    /// What its readers take and its streams keep.
+    pub limits: Limits,
+    /// Its streams, each at its place.
+    pub places: PlaceList,
+}
+
+/// One stream: the pair of names by which it is asked for, who may publish and play it, and where it is recorded.
+#[derive(Debug, Drop)]
+pub struct PlaceRule {
+    pub app: Bytes,
+    pub name: Bytes,
+    pub publish: Grants,
+    pub play: Grants,
+    /// How the keys of both lists are kept.
+    pub mode: Mode,
+    /// The file of an FLV recording.
+    pub flv: Option<Bytes>,
+    /// The file of a transport stream recording.
+    pub ts: Option<Bytes>,
+}
+
+/// Streams, in order.
+pub type PlaceList = Listed<PlaceRule>;
+
+/// Why a configuration is refused: the first test that it fails.
+#[derive(Debug, PartialEq, Eq, Drop)]
+pub enum ConfigFail {
+    /// The text is too long, isn't UTF-8, or is no TOML.
+    NotToml,
+    /// A table has a key that it may not have.
+    Unknown { key: Bytes },
+    /// A table lacks a key, or there is no stream.
+    Missing { key: Key },
+    /// A value has a wrong form or is out of its range, or there are too many streams.
+    Range { key: Key },
+    /// The stream at this place has the names of an earlier one.
+    Twice { place: u32 },
+    /// The configured sum passes the bound.
+    TooMuch { sum: u64 },
+    /// Memory was refused.
+    OutOfMemory,
+}
+
+impl From<OutOfMemory> for ConfigFail {
+    ghost use Rattle.std.specs.Prelude.{◌≡◌};
+    ghost use Rattle.relay_config.specs.declared.config.ConfigFail.TheVariants.{OutOfMemory};
+
+    ghost from_gives = { λ _ e. e ≡ OutOfMemory };
+
+    fn from(_: OutOfMemory) -> Self {
+        ConfigFail::OutOfMemory
+    }
+}

@@ -1,0 +1,54 @@
+ghost use Rattle.std.specs.Prelude.{◌≡◌};
+ghost use Rattle.relay_config.specs.Names.{name_of};
+
+/// The keys that a configuration may have: `relay` and `stream` of the whole, then those of the table `relay`,
+/// then those of each table `stream`.
+#[derive(Clone, Copy, Debug, PartialEq, Eq)]
+pub enum Key {
+    Relay,
+    Stream,
+    Listen,
+    Workers,
+    Links,
+    Accept,
+    MaxMessage,
+    RingBytes,
+    RingItems,
+    Players,
+    Window,
+    App,
+    Name,
+    Publish,
+    Play,
+    Digest,
+    Flv,
+    Ts,
+}
+
+impl Key {
+    /// How the key is written.
+    pub fn name(self) -> &'static str
+        ensures { result.now ≡ name_of self }
+    {
+        match self {
+            Key::Relay => "relay",
+            Key::Stream => "stream",
+            Key::Listen => "listen",
+            Key::Workers => "workers",
+            Key::Links => "links",
+            Key::Accept => "accept",
+            Key::MaxMessage => "max_message",
+            Key::RingBytes => "ring_bytes",
+            Key::RingItems => "ring_items",
+            Key::Players => "players",
+            Key::Window => "window",
+            Key::App => "app",
+            Key::Name => "name",
+            Key::Publish => "publish",
+            Key::Play => "play",
+            Key::Digest => "digest",
+            Key::Flv => "flv",
+            Key::Ts => "ts",
+        }
+    }
+}

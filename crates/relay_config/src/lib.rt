@@ -1,0 +1,28 @@
+//! What a relay is told before it starts: where it listens, how much it takes, which streams it has and who may
+//! publish and play each. A configuration is a TOML text of at most 1,048,576 bytes; docs/configuration.md has
+//! each key with its range and its default.
+//!
+//! `read_config` answers the configuration of a text that is accepted, and else the first test that the text
+//! fails. A configuration tells its bound of memory, its sum, before anything runs, and one whose sum passes
+//! 6,442,450,944 bytes is refused.
+#![tactic(auto)]
+
+mod check;
+mod config;
+mod forms;
+mod key;
+mod read;
+mod report_line;
+mod rows;
+mod total;
+mod values;
+mod whole;
+
+pub use config::{Config, ConfigFail, PlaceList, PlaceRule};
+pub use key::Key;
+pub use read::read_config;
+pub use report_line::report;
+pub use total::{sum, sum_of};
+
+#[cfg(test)]
+mod tests;

@@ -1,0 +1,73 @@
+ghost use Rattle.std.specs.Prelude.{◌≡◌, ◌++◌, codes, map, IfOk, OnOk, string_bytes};
+ghost use Rattle.std.specs.Fmt.{decimal};
+ghost use Rattle.relay_config.specs.Report.{shown, cause_text, report_text};
+
+use crate::ConfigFail;
+use av_unit::{Bytes, OutOfMemory};
+use std::alloc::Global;
+
+const DELETE: u8 = 127;
+
+fn shown(b: u8) -> u8
+    ensures { result ≡ shown b }
+{
+    if b < 32 || b == DELETE { b'?' } else { b }
+}
+
+// Adds a key of the text to the line, with `?` for each control character.
+fn append_shown(line: &mut Vec<u8>, key: &[u8]) -> Result<(), OutOfMemory>
+    ensures { OnOk result (line.new.items ≡ line.old.items ++ map shown key.now) }
+{
+    for b in key {
+        line.push(shown(*b))?;
+    }
+    Ok(())
+}
+
+fn append_cause(alloc: Global, line: &mut Vec<u8>, fail: &ConfigFail) -> Result<(), OutOfMemory>
+    ensures { OnOk result (line.new.items ≡ line.old.items ++ cause_text fail.now) }
+{
+    match fail {
+        ConfigFail::NotToml => line.extend_from_slice(b"not toml")?,
+        ConfigFail::Unknown { key } => {
+            line.extend_from_slice(b"unknown ")?;
+            append_shown(line, key.as_slice())?;
+        }
+        ConfigFail::Missing { key } => {
+            line.extend_from_slice(b"missing ")?;
+            line.extend_from_slice(key.name().as_bytes())?;
+        }
+        ConfigFail::Range { key } => {
+            line.extend_from_slice(b"range ")?;
+            line.extend_from_slice(key.name().as_bytes())?;
+        }
+        ConfigFail::Twice { place } => line.extend_from_slice(twice(alloc, *place)?.as_bytes())?,
+        ConfigFail::TooMuch { sum } => line.extend_from_slice(too_much(alloc, *sum)?.as_bytes())?,
+        ConfigFail::OutOfMemory => line.extend_from_slice(b"out of memory")?,
+    }
+    Ok(())
+}
+
+fn twice(alloc: Global, place: u32) -> Result<String, OutOfMemory>
+    ensures { IfOk result (λ text. string_bytes text ≡ codes "twice " ++ decimal place) }
+{
+    Ok(format!(in alloc; "twice {place}")?)
+}
+
+fn too_much(alloc: Global, sum: u64) -> Result<String, OutOfMemory>
+    ensures { IfOk result (λ text. string_bytes text ≡ codes "too much " ++ decimal sum) }
+{
+    Ok(format!(in alloc; "too much {sum}")?)
+}
+
+/// The line that reports a refused configuration: `bad configuration`, and then `not toml`, `unknown KEY`,
+/// `missing KEY`, `range KEY`, `twice PLACE` or `too much SUM`. A key that the text has is written as it is there,
+/// but with `?` for each control character.
+pub fn report(alloc: Global, fail: &ConfigFail) -> Result<Bytes, OutOfMemory>
+    ensures { IfOk result (λ line. line ≡ report_text fail.now) }
+{
+    let mut line = b"bad configuration ".to_vec(alloc)?;
+    append_cause(alloc, &mut line, fail)?;
+    line.push(b'\n')?;
+    Ok(Bytes::from_vec(line))
+}

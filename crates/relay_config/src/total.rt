@@ -1,0 +1,71 @@
+ghost use Rattle.std.specs.Prelude.{◌≡◌, ◌+◌, ◌*◌, ◌≤◌, ◌<◌, ◌^◌, count_by, is_some, length};
+ghost use Rattle.std.specs.Int.{div_ceil};
+ghost use Rattle.relay_config.specs.Sum.{stream_bytes, session_bytes, recorder_bytes, total_of, recorders_of, configured_sum, InRange};
+
+use crate::{Config, PlaceRule};
+use relay_base::Limits;
+
+fn stream_bytes(limits: &Limits) -> u64
+    requires { limits.now.ring_bytes ≤ 268435456 }
+    ensures value { result ≡ stream_bytes limits.now }
+    ensures most { result < 2 ^ 29 }
+{
+    limits.ring_bytes + 196_608
+}
+
+fn session_bytes(limits: &Limits) -> u64
+    requires { limits.now.max_message ≤ 4194304 }
+    ensures value { result ≡ session_bytes limits.now }
+    ensures most { result < 2 ^ 24 }
+{
+    let message = limits.max_message as u64;
+    4_096 + (message + 65_536) + 32_768 + message + message.div_ceil(512)
+}
+
+fn recorder_bytes(limits: &Limits) -> u64
+    requires { limits.now.max_message ≤ 4194304 }
+    ensures value { result ≡ recorder_bytes limits.now }
+    ensures most { result < 2 ^ 25 }
+{
+    4 * limits.max_message as u64 + 262_144
+}
+
+/// How many bytes so many streams, sessions and recorders hold at most, with these limits: each stream its ring
+/// and a configuration of each kind, each session its input, its answers and the unit in its hand, each recorder
+/// the unit that it writes.
+pub fn sum_of(limits: &Limits, streams: u32, sessions: u32, recorders: u32) -> u64
+    requires ring { limits.now.ring_bytes ≤ 268435456 }
+    requires message { limits.now.max_message ≤ 4194304 }
+    ensures { result ≡ total_of limits.now streams sessions recorders }
+{
+    streams as u64 * stream_bytes(limits)
+        + sessions as u64 * session_bytes(limits)
+        + recorders as u64 * recorder_bytes(limits)
+}
+
+fn recorders_of(places: &[PlaceRule]) -> usize
+    requires { length places.now ≤ 64 }
+    ensures value { result ≡ recorders_of places.now }
+    ensures most { result ≤ 128 }
+{
+    let flv = places.iter().filter(|place| place.flv.is_some()).count();
+    let ts = places.iter().filter(|place| place.ts.is_some()).count();
+    flv + ts
+}
+
+/// How many bytes a relay of this configuration holds at most: the configured sum.
+pub fn sum(config: &Config) -> u64
+    requires numbers { InRange config.now }
+    requires streams { length config.now.places ≤ 64 }
+    ensures { result ≡ configured_sum config.now }
+{
+    let places = config.places.as_slice();
+    let sessions = config.workers * config.links;
+    let recorders = recorders_of(places);
+    sum_of(
+        &config.limits,
+        places.len() as u32,
+        sessions,
+        recorders as u32,
+    )
+}
