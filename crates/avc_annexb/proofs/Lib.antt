@@ -1,0 +1,5 @@
+pub mod Triples
+pub mod Units
+pub mod Prefixes
+pub mod Streams
+pub mod Sets

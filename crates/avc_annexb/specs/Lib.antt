@@ -1,0 +1,4 @@
+pub mod Nal
+pub mod Prefixed
+pub mod AnnexB
+pub mod Record

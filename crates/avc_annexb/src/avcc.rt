@@ -1,0 +1,96 @@
+ghost use Rattle.std.specs.Prelude.{◌≡◌, ℕ, ◌≤◌, ◌<◌, List, length, Ok, Err, IfOk};
+ghost use Rattle.avc_annexb.specs.Nal.{Gives};
+ghost use Rattle.avc_annexb.specs.Prefixed.{IsSize};
+ghost use Rattle.avc_annexb.specs.Record.{IsConfig, record_of, sets_in, size_read, SetsGiven};
+
+use crate::nal::after;
+use crate::prefixed::front;
+use crate::{AvcFail, NalList};
+use av_unit::Bytes;
+use std::alloc::Global;
+use std::marker::Model;
+
+/// What a configuration record tells of a stream of pictures: how many bytes the length before a unit has, 1, 2 or 4, and
+/// the sequence and picture parameter sets.
+#[derive(Debug, Drop)]
+pub struct Avcc {
+    pub size: u8,
+    pub sps: NalList,
+    pub pps: NalList,
+}
+
+impl Model for Avcc {
+    ghost use Rattle.avc_annexb.specs.Record.{Config, IsConfig};
+
+    ghost Value = { Config };
+
+    ghost view = { λ a. record { size = a.size; sps = a.sps; pps = a.pps } };
+
+    ghost invariant = { λ a. IsConfig (record { size = a.size; sps = a.sps; pps = a.pps }) };
+}
+
+/// The length size in a record whose sets follow: the version, the length size and the count of sequence parameter sets
+/// are there.
+#[tactic(auto, using(std::proofs::lemmas::Bool::Decides::nat_tests), unfolding(crate::specs::Record::size_read))]
+fn length_size(body: &[u8]) -> Result<u8, AvcFail>
+    ensures value { result ≡ size_read body.now }
+    ensures size { IfOk result (λ size. IsSize size) }
+    ensures whole { IfOk result (λ _. 6 ≤ length body.now) }
+{
+    if body.first() != Some(&1) {
+        return Err(AvcFail::Short { at: 0 });
+    }
+    if body.len() < 5 {
+        return Err(AvcFail::Short { at: body.len() });
+    }
+    let size = body[4] % 4 + 1;
+    if size == 3 {
+        return Err(AvcFail::LengthSize { size });
+    }
+    if body.len() < 6 {
+        return Err(AvcFail::Short { at: body.len() });
+    }
+    Ok(size)
+}
+
+/// So many parameter sets, and what is behind them, in a record of `total` bytes in which `nal` sets stand before.
+fn sets(
+    alloc: Global,
+    count: u8,
+    bytes: &[u8],
+    total: usize,
+    nal: usize,
+) -> Result<(NalList, &[u8]), AvcFail>
+    requires { nal < 256 }
+    ensures exact { SetsGiven result (sets_in count total nal bytes.now) }
+    ensures most { IfOk result (λ p. length p.0 ≡ count) }
+{
+    let mut list = Vec::new(alloc);
+    let mut left = bytes;
+    for _ in 0..count {
+        let (unit, rest) = front(left, 2, nal + list.len(), AvcFail::Short { at: total })?;
+        list.push(Bytes::from_vec(Vec::from_slice(alloc, unit)?))?;
+        left = rest;
+    }
+    Ok((NalList::from_vec(list), left))
+}
+
+impl Avcc {
+    /// Reads a configuration record. What stands behind the picture parameter sets isn't read, nor are profile,
+    /// compatibility and level.
+    ///
+    /// Refusals are `Short`, `LengthSize`, `EmptyNal` and `Dirty`, and want of memory; picture parameter sets are numbered
+    /// on after the sequence parameter sets.
+    pub fn read(alloc: Global, body: &[u8]) -> Result<Avcc, AvcFail>
+        ensures exact { Gives result (record_of body.now) }
+        ensures found { IfOk result (λ c. IsConfig c) }
+    {
+        let size = length_size(body)?;
+        let (sps, rest) = sets(alloc, body[5] % 32, after(body, 6), body.len(), 0)?;
+        let [count, ..] = rest else {
+            return Err(AvcFail::Short { at: body.len() });
+        };
+        let (pps, _) = sets(alloc, *count, after(rest, 1), body.len(), sps.len())?;
+        Ok(Avcc { size, sps, pps })
+    }
+}
