@@ -32,6 +32,8 @@ impl Guards {
     pub fn new(plain: Guard, digest: Guard) -> Guards
         requires plain_is { plain.mode ≡ Mode.Plain }
         requires digest_is { digest.mode ≡ Mode.Digest }
+        ensures plain { result.plain ≡ plain }
+        ensures digest { result.digest ≡ digest }
     {
         Guards { plain, digest }
     }

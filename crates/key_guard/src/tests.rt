@@ -12,12 +12,17 @@ fn only(alloc: Global, key: &[u8]) -> Result<Grants, AllocError> {
     Ok(Grants::Keys(KeyList::from_vec(vec![in alloc; key]?)))
 }
 
+// Guards may be handed to a thread and lent to several.
+fn crosses_threads<T: Send + Sync>(value: T) -> T {
+    value
+}
+
 #[test]
 fn a_guard_answers_what_its_mode_allows(rt: HostRuntime) -> Result<(), Fail> {
     let alloc = rt.alloc();
     let plain = Guard::new(Mode::Plain, Box::new(alloc, by_name)?);
     let digest = Guard::new(Mode::Digest, Box::new(alloc, by_digest)?);
-    let guards = Guards::new(plain, digest);
+    let guards = crosses_threads(Guards::new(plain, digest));
     let named = only(alloc, b"abc")?;
     let digests = only(alloc, DIGEST_OF_ABC)?;
     let none = Grants::Keys(KeyList::from_vec(Vec::new(alloc)));
