@@ -1,0 +1,83 @@
+ghost use Rattle.std.specs.Prelude.{◌≡◌, ◌≤◌, ◌<◌, ◌-◌, ◌⊎◌, ◌++◌, [], List, ℕ, length, IfOk, OnOk};
+ghost use Rattle.chunk_writer.specs.Written.{after};
+ghost use Rattle.command_dialog.specs.Dialog.{unit_message};
+ghost use Rattle.session_owed.specs.Chunks.{hand_of};
+ghost use Rattle.relay_session.specs.Owing.{Goes, IsHeld, in_hand, left};
+
+use av_unit::{Bytes, OutOfMemory, Unit, UnitArc, message_kind};
+use chunk_writer::{Sending, Writer, chunk_stream};
+use std::marker::Model;
+
+/// A unit whose chunks are written one by one. The unit stays shared.
+#[derive(Drop)]
+pub(crate) struct UnitInHand {
+    sending: Sending,
+    unit: UnitArc,
+}
+
+impl Model for UnitInHand {
+    ghost use Rattle.session_owed.specs.Chunks.{Hand};
+    ghost use Rattle.relay_session.specs.Owing.{IsHeld};
+
+    ghost Value = { Hand };
+
+    ghost view = { λ u. record { sending = u.sending; body = u.unit.body } };
+
+    ghost invariant = { λ u. IsHeld u.sending u.unit.body };
+}
+
+impl UnitInHand {
+    /// Begins the message that the unit is on a message stream.
+    pub(crate) fn begin(
+        writer: &mut Writer,
+        stream: u32,
+        unit: UnitArc,
+    ) -> Result<UnitInHand, OutOfMemory>
+        ensures hand { IfOk result (λ h. h ≡ hand_of writer.old (unit_message stream unit)) }
+        ensures writer { OnOk result (writer.new ≡ after writer.old (unit_message stream unit)) }
+    {
+        let Unit { kind, time, body } = unit.unit();
+        let kind = message_kind(*kind);
+        let sending = writer.begin(chunk_stream(kind), kind, stream, *time, body.len() as u32)?;
+        Ok(UnitInHand { sending, unit })
+    }
+
+    /// Appends chunks, as long as there are more and `out` has fewer bytes from a place on than `most`.
+    pub(crate) fn fill(
+        &mut self,
+        out: &mut Bytes,
+        place: usize,
+        most: usize,
+    ) -> Result<(), OutOfMemory>
+        requires { place ≤ length out.old }
+        ensures goes { OnOk result (Goes self.old out.old self.new out.new) }
+        ensures filled { OnOk result ((most ≤ length out.new - place) ⊎ (left self.new ≡ [])) }
+        ensures grows { length out.old ≤ length out.new }
+    {
+        let body = self.unit.unit().body.as_slice();
+        fill_with(&mut self.sending, body, out, place, most)
+    }
+}
+
+// Appends chunks of a message, as long as there are more and `out` has fewer bytes from a place on than `most`.
+fn fill_with(
+    sending: &mut Sending,
+    body: &[u8],
+    out: &mut Bytes,
+    place: usize,
+    most: usize,
+) -> Result<(), OutOfMemory>
+    requires held { IsHeld sending.old body.now }
+    requires place { place ≤ length out.old }
+    ensures held { IsHeld sending.new body.now }
+    ensures goes { OnOk result (Goes (in_hand sending.old body.now) out.old (in_hand sending.new body.now) out.new) }
+    ensures filled { OnOk result ((most ≤ length out.new - place) ⊎ (left (in_hand sending.new body.now) ≡ [])) }
+    ensures grows { length out.old ≤ length out.new }
+{
+    while out.len() - place < most {
+        if !sending.next_chunk(body, out)? {
+            return Ok(());
+        }
+    }
+    Ok(())
+}
