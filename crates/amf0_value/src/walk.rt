@@ -1,7 +1,6 @@
 //! Readers over the bytes that are left, which keep little or nothing of what they pass over.
 
 ghost use Rattle.std.specs.Prelude.{◌≡◌, ◌+◌, ◌<◌, ◌≤◌, ◌∷◌, [], Some};
-ghost use Rattle.amf0_value.specs.Tree.{Tree};
 ghost use Rattle.amf0_value.specs.View.{tree};
 ghost use Rattle.amf0_value.specs.Refusal.{Stops, StopsAll, scalar_needs, key_refusal};
 ghost use Rattle.amf0_value.specs.Reading.{Gives, IsShort, Left, PairsStop, ItemsStop, scalar_byte, container_byte};

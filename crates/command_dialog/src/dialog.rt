@@ -1,4 +1,4 @@
-ghost use Rattle.std.specs.Prelude.{◌≡◌, ◌≤◌, ◌⊎◌, length, Ok, Err, IfOk, OnErr, MatchResult};
+ghost use Rattle.std.specs.Prelude.{◌≡◌, ◌≤◌, ◌⊎◌, length, Ok, Err, IfOk, OnOk, OnErr, MatchResult};
 ghost use Rattle.command_dialog.specs.State.{fresh, playing_in, app_length};
 ghost use Rattle.command_dialog.specs.Meaning.{meaning, commands};
 ghost use Rattle.command_dialog.specs.Dialog.{says, makes, after, told};
@@ -9,11 +9,12 @@ use crate::meaning::{
     told_role, turn,
 };
 use crate::says::{
-    begun, call_by, connected, end_of, joined, nothing, one, push_of, refuse, refuse_by,
+    begun, call_by, connected, created, end_of, joined, nothing, push_of, refuse, refuse_by,
 };
-use crate::types::{Acts, DialogFail, Grant, Meant, Phase, Playing, Role, Switch};
+use crate::types::{Act, Acts, DialogFail, Grant, Meant, Phase, Playing, Role, Switch};
+use av_unit::OutOfMemory;
 use chunk_wire::Message;
-use rtmp_command::{Answer, Heard, Why, hear};
+use rtmp_command::{Heard, Why, hear};
 use std::alloc::Global;
 use std::marker::Model;
 use stream_model::Reply;
@@ -135,7 +136,6 @@ impl Dialog {
     /// Does what a message makes, by its meaning and its grant. Where the meaning asks for no grant, none
     /// is looked at; where it asks for one and there is none, that counts as `NoName`. Only memory can
     /// be wanting, and then nothing has changed.
-    #[tactic(auto, unfolding(crate::specs::Dialog::says, crate::specs::Dialog::makes, crate::specs::Dialog::after))]
     pub fn step(
         &mut self,
         alloc: Global,
@@ -151,41 +151,72 @@ impl Dialog {
         ensures err { OnErr result (self.new ≡ self.old) }
         ensures memory { OnErr result (result ≡ Err DialogFail.OutOfMemory) }
     {
-        let mut acts = Acts {
-            says: nothing(alloc),
-            makes: None,
-        };
+        let says = self.said(alloc, &meant, grant)?;
+        let makes = self.made(message, &meant, grant);
+        self.change(meant, grant)?;
+        Ok(Acts { says, makes })
+    }
+
+    /// What is said to the peer.
+    #[tactic(auto, unfolding(crate::specs::Dialog::says))]
+    fn said(
+        &self,
+        alloc: Global,
+        meant: &Meant,
+        grant: Option<Grant>,
+    ) -> Result<MessageList, OutOfMemory>
+        ensures { IfOk result (λ list. list ≡ says self.now grant meant.now) }
+    {
         match meant {
-            Meant::Passed => {}
-            Meant::Connects { transaction, app } => {
-                acts.says = connected(alloc, self.window, transaction)?;
-                self.app = Some(app);
+            Meant::Connects {
+                transaction,
+                app: _,
+            } => connected(alloc, self.window, *transaction),
+            Meant::Creates { transaction, id } => created(alloc, *transaction, *id),
+            Meant::Busy { role, id } => refuse(alloc, *role, *id, Why::RoleActive),
+            Meant::Asks { ask, id } => refuse_by(alloc, ask.role, *id, grant),
+            Meant::Passed | Meant::Closes { .. } | Meant::Turns(_) | Meant::Media => {
+                Ok(nothing(alloc))
             }
-            Meant::Creates { transaction, id } => {
-                acts.says = one(alloc, 0, &Answer::Created { transaction, id })?;
-                self.ids.push(id)?;
-            }
-            Meant::Busy { role, id } => {
-                acts.says = refuse(alloc, role, id, Why::RoleActive)?;
-            }
-            Meant::Asks { ask, id } => {
-                acts.says = refuse_by(alloc, ask.role, id, grant)?;
-                acts.makes = call_by(ask.role, grant);
-                self.phase = asked_role(ask.role, id, grant);
-            }
+        }
+    }
+
+    /// The call that is made at the stream.
+    #[tactic(auto, unfolding(crate::specs::Dialog::makes))]
+    fn made(&self, message: Message, meant: &Meant, grant: Option<Grant>) -> Option<Act>
+        requires { length message.body ≤ 4194304 }
+        ensures { result ≡ makes self.now message grant meant.now }
+    {
+        match meant {
+            Meant::Asks { ask, id: _ } => call_by(ask.role, grant),
+            Meant::Closes { id } => end_of(*id, self.phase),
+            Meant::Media => push_of(message),
+            Meant::Passed | Meant::Connects { .. } | Meant::Creates { .. } => None,
+            Meant::Busy { .. } | Meant::Turns(_) => None,
+        }
+    }
+
+    /// Goes to where the dialogue stands then.
+    #[tactic(auto, unfolding(crate::specs::Dialog::after))]
+    fn change(&mut self, meant: Meant, grant: Option<Grant>) -> Result<(), OutOfMemory>
+        ensures ok { OnOk result (self.new ≡ after self.old grant meant) }
+        ensures err { OnErr result (self.new ≡ self.old) }
+    {
+        match meant {
+            Meant::Passed | Meant::Busy { .. } | Meant::Media => {}
+            Meant::Connects {
+                transaction: _,
+                app,
+            } => self.app = Some(app),
+            Meant::Creates { transaction: _, id } => self.ids.push(id)?,
+            Meant::Asks { ask, id } => self.phase = asked_role(ask.role, id, grant),
             Meant::Closes { id } => {
-                acts.makes = end_of(id, self.phase);
                 remove(&mut self.ids, id);
                 self.phase = role_without(id, self.phase);
             }
-            Meant::Turns(playing) => {
-                self.phase = Phase::Plays(playing);
-            }
-            Meant::Media => {
-                acts.makes = push_of(message);
-            }
+            Meant::Turns(playing) => self.phase = Phase::Plays(playing),
         }
-        Ok(acts)
+        Ok(())
     }
 
     /// Does what the stream's reply to a Begin or Join makes: the answer to the peer. Where no such call

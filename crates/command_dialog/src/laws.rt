@@ -1,6 +1,6 @@
 //! Laws on the definition of the dialogue. Each stands on a function that does nothing.
 
-ghost use Rattle.std.specs.Prelude.{◌≡◌, ℕ, List, [], ◌∷◌, Some, None, codes, All, Option};
+ghost use Rattle.std.specs.Prelude.{◌≡◌, ◌≤◌, ◌<◌, ℕ, List, [], ◌∷◌, Some, None, true, false, codes, All, Option};
 ghost use Rattle.av_unit.specs.declared.head.Want.{Want};
 ghost use Rattle.av_unit.specs.declared.item.Item.{Item};
 ghost use Rattle.rtmp_command.specs.declared.answer.Why.TheVariants as why;
@@ -20,7 +20,7 @@ ghost use Rattle.command_dialog.specs.declared.types.Meant.{Meant};
 ghost use Rattle.command_dialog.specs.declared.types.Meant.TheVariants as meant;
 ghost use Rattle.command_dialog.specs.State.{State, with_phase};
 ghost use Rattle.command_dialog.specs.Words.{app_in, name_in, key_in};
-ghost use Rattle.command_dialog.specs.Meaning.{asks_while, least_free, closed_in};
+ghost use Rattle.command_dialog.specs.Meaning.{asks_while, is_open, least_free, closed_in};
 ghost use Rattle.command_dialog.specs.Dialog.{refuses, says, does, told, shows, call_of};
 ghost use Rattle.command_dialog.specs.Writable.{IsSaid, IsShown, HasRoom};
 
@@ -36,6 +36,13 @@ pub fn what_is_said_can_be_written()
     ensures message { (desk : Ask → Grant) (s : State) (m : Message) → All IsSaid (does desk s m).says }
     ensures reply { (s : State) (r : Reply) → All IsSaid (told s r).says }
     ensures item { (s : State) (i : Item) → HasRoom i → All IsShown (shows s i) }
+{}
+
+/// A createStream is given the least id of 1 to 16 that isn't open, and is refused where all are.
+pub fn the_least_free_id_is_given()
+    ensures free { (ids : List ℕ) (id : ℕ) → least_free ids ≡ Some id → (1 ≤ id) × (id ≤ 16) × (is_open id ids ≡ false) }
+    ensures least { (ids : List ℕ) (id k : ℕ) → least_free ids ≡ Some id → 1 ≤ k → k < id → is_open k ids ≡ true }
+    ensures none { (ids : List ℕ) (k : ℕ) → least_free ids ≡ None → 1 ≤ k → k ≤ 16 → is_open k ids ≡ true }
 {}
 
 /// A publish or play is refused by the first of these: a role is active, no place has that name, the

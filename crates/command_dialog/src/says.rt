@@ -40,7 +40,7 @@ pub fn nothing(alloc: Global) -> MessageList
 }
 
 /// One message that carries an answer.
-pub fn one(alloc: Global, stream: u32, answer: &Answer) -> Result<MessageList, OutOfMemory>
+fn one(alloc: Global, stream: u32, answer: &Answer) -> Result<MessageList, OutOfMemory>
     ensures { IfOk result (λ list. list ≡ answers stream answer.now ∷ []) }
 {
     let mut list = Vec::new(alloc);
@@ -85,6 +85,13 @@ pub fn connected(alloc: Global, window: u32, transaction: u64) -> Result<Message
     list.push(control_message(alloc, Control::ChunkSize(4096))?)?;
     list.push(say(alloc, 0, &Answer::Connected { transaction })?)?;
     Ok(MessageList::from_vec(list))
+}
+
+/// The answer to a createStream.
+pub fn created(alloc: Global, transaction: u64, id: u32) -> Result<MessageList, OutOfMemory>
+    ensures { IfOk result (λ list. list ≡ answers 0 (Answer.Created transaction id) ∷ []) }
+{
+    one(alloc, 0, &Answer::Created { transaction, id })
 }
 
 /// What is said to a publish or play by its grant.
