@@ -1,32 +1,47 @@
 //! Readers and writers as sources and sinks. They tell no bytes.
-ghost use Rattle.std.specs.Prelude.{◌≡◌, None};
+ghost use Rattle.std.specs.Prelude.{◌≡◌, ◌↔◌, None};
 ghost use Rattle.relay_outside.specs.Get.{GetStep};
 ghost use Rattle.relay_outside.specs.Put.{PutStep};
 
 use relay_outside::{Got, Put, Sink, Source};
+use std::io;
 use std::io::{Read, Write};
 use std::marker::Model;
 
-/// A source over a reader. Contracts see how often it has failed.
+/// A source over a reader, which keeps the last error. Contracts see how often it has failed.
 #[derive(Drop)]
 pub struct Reading<R: Read + Drop> {
     inner: R,
     failed: u64,
+    last: Option<io::Error>,
 }
 
 impl<R: Read + Drop> Model for Reading<R> {
-    ghost use Rattle.std.specs.Prelude.{ℕ};
+    ghost use Rattle.std.specs.Prelude.{ℕ, ◌≡◌, ◌↔◌, None};
 
     ghost Value = { ℕ };
 
     ghost view = { λ s. s.failed };
+
+    ghost invariant = { λ s. (s.last ≡ None) ↔ (s.failed ≡ 0) };
 }
 
 impl<R: Read + Drop> Reading<R> {
     pub fn new(inner: R) -> Reading<R>
         ensures { result ≡ 0 }
     {
-        Reading { inner, failed: 0 }
+        Reading {
+            inner,
+            failed: 0,
+            last: None,
+        }
+    }
+
+    /// The error of the last call that failed. `None` exactly where none has.
+    pub fn error(&self) -> Option<io::Error>
+        ensures { (result ≡ None) ↔ (self.now ≡ 0) }
+    {
+        self.last
     }
 }
 
@@ -41,7 +56,8 @@ impl<R: Read + Drop> Source for Reading<R> {
         match self.inner.read(into) {
             Ok(0) => Got::End,
             Ok(count) => Got::Bytes(count),
-            Err(_) => {
+            Err(error) => {
+                self.last = Some(error);
                 self.failed = self.failed.saturating_add(1);
                 Got::Failed
             }
@@ -51,26 +67,40 @@ impl<R: Read + Drop> Source for Reading<R> {
     ghost gives_mean = { λ s room answer t some step. step };
 }
 
-/// A sink over a writer that keeps nothing back. Contracts see how often it has failed.
+/// A sink over a writer that keeps nothing back, with the last error. Contracts see how often it has failed.
 #[derive(Drop)]
 pub struct Writing<W: Write + Drop> {
     inner: W,
     failed: u64,
+    last: Option<io::Error>,
 }
 
 impl<W: Write + Drop> Model for Writing<W> {
-    ghost use Rattle.std.specs.Prelude.{ℕ};
+    ghost use Rattle.std.specs.Prelude.{ℕ, ◌≡◌, ◌↔◌, None};
 
     ghost Value = { ℕ };
 
     ghost view = { λ s. s.failed };
+
+    ghost invariant = { λ s. (s.last ≡ None) ↔ (s.failed ≡ 0) };
 }
 
 impl<W: Write + Drop> Writing<W> {
     pub fn new(inner: W) -> Writing<W>
         ensures { result ≡ 0 }
     {
-        Writing { inner, failed: 0 }
+        Writing {
+            inner,
+            failed: 0,
+            last: None,
+        }
+    }
+
+    /// The error of the last call that failed. `None` exactly where none has.
+    pub fn error(&self) -> Option<io::Error>
+        ensures { (result ≡ None) ↔ (self.now ≡ 0) }
+    {
+        self.last
     }
 }
 
@@ -82,13 +112,14 @@ impl<W: Write + Drop> Sink for Writing<W> {
     ghost takes = { λ s piece answer t. PutStep piece None None s t answer };
 
     fn put(&mut self, piece: &[u8]) -> Put {
-        match self.inner.write(piece) {
-            Ok(count) if count > 0 => Put::Took(count),
-            _ => {
-                self.failed = self.failed.saturating_add(1);
-                Put::Failed
-            }
-        }
+        let error = match self.inner.write(piece) {
+            Ok(count) if count > 0 => return Put::Took(count),
+            Ok(_) => io::Error::from(io::ErrorKind::WriteZero),
+            Err(error) => error,
+        };
+        self.last = Some(error);
+        self.failed = self.failed.saturating_add(1);
+        Put::Failed
     }
 
     ghost takes_mean = { λ s piece answer t some step. step };

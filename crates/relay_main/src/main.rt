@@ -14,6 +14,12 @@ use texts::{HELP, USAGE, VERSION};
 /// The exit code of a faulty command line.
 const BAD_WORDS: u8 = 2;
 
+/// The exit code of a read of standard input that failed.
+const READ_FAULT: u8 = 3;
+
+/// The exit code of a line that is none of a script.
+const BAD_LINE: u8 = 4;
+
 /// The exit code of a write to standard output that failed.
 const WRITE_FAULT: u8 = 5;
 
@@ -33,12 +39,44 @@ fn status(code: u8) -> Status {
     Status { code, place: 0 }
 }
 
+// Says on standard error why a stream failed. One whose reader has gone wants no words.
+fn tell_fault(rt: &HostRuntime, stream: &str, error: Option<io::Error>) {
+    if let Some(error) = error {
+        if error.kind() != io::ErrorKind::BrokenPipe {
+            let _ = eprintln!(rt; "relay: {stream}: {error}");
+        }
+    }
+}
+
 // Prints a text on standard output.
 fn tell(rt: &HostRuntime, text: &str) -> Status {
     match rt.print(text) {
         Ok(()) => status(0),
-        Err(_) => status(WRITE_FAULT),
+        Err(error) => {
+            tell_fault(rt, "standard output", Some(error));
+            status(WRITE_FAULT)
+        }
     }
+}
+
+// Runs the command that the words name, and says why it didn't read its input to the end.
+fn command(rt: &HostRuntime, words: &[Vec<u8>]) -> Status {
+    let mut input = Reading::new(rt.reader());
+    let mut out = Writing::new(io::writer(rt));
+    let ended = run(rt.alloc(), words, &mut input, &mut out);
+    let place = ended.place;
+    match ended.code {
+        READ_FAULT => tell_fault(rt, "standard input", input.error()),
+        BAD_LINE => {
+            let _ = eprintln!(rt; "relay: line {place} is no line of a script (see relay --help)");
+        }
+        WRITE_FAULT => tell_fault(rt, "standard output", out.error()),
+        NO_MEMORY => {
+            let _ = eprintln!(rt; "relay: there was too little memory");
+        }
+        _ => {}
+    }
+    ended
 }
 
 // Answers the words that ask about the program, and runs the command that others name.
@@ -51,12 +89,7 @@ fn answer(rt: &HostRuntime, words: &[Vec<u8>]) -> Status {
             return tell(rt, VERSION);
         }
     }
-    if words.is_empty() {
-        let _ = eprint!(rt; "{USAGE}");
-    }
-    let mut input = Reading::new(rt.reader());
-    let mut out = Writing::new(io::writer(rt));
-    run(rt.alloc(), words, &mut input, &mut out)
+    command(rt, words)
 }
 
 fn main(rt: HostRuntime) -> ExitCode {
@@ -65,6 +98,9 @@ fn main(rt: HostRuntime) -> ExitCode {
         Err(error) if error.kind() == io::ErrorKind::InvalidData => status(BAD_WORDS),
         Err(_) => status(NO_MEMORY),
     };
+    if code == BAD_WORDS {
+        let _ = eprint!(rt; "{USAGE}");
+    }
     if code != 0 {
         let _ = eprintln!(rt; "relay: status {code} at {place}");
     }

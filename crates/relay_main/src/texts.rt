@@ -18,9 +18,12 @@ each call, and prints its reply on standard output as it goes.
 
 Lines end with a line feed; the last may lack it. Words are parted by one
 space. An empty line, and a line that begins with '#', does nothing. Numbers
-are decimal digits without a sign or a leading zero. The stream's window has
-at most 33554432 bytes and 16384 items, and the stream has 256 places.
+are decimal digits without a sign or a leading zero.
 
+  ring BYTES ITEMS PLAYERS
+      The stream's window has at most BYTES bytes and ITEMS items, and the
+      stream has PLAYERS places. No line before may have done something, and
+      nothing is printed. Without it they are 33554432, 16384 and 256.
   begin WHO
       WHO begins to publish.
       began N              its Begin is item N
@@ -55,18 +58,20 @@ at most 33554432 bytes and 16384 items, and the stream has 256 places.
       counts BEGAN PUSHED ENDED JOINED SKIPS
 
 WHO and TIME are below 4294967296, PLAYER is below 256. LEN is at most 4194304,
-and at most 65536 for meta, vconfig and aconfig. A line has at most 65536
-bytes, and a script at most 268435456.
+and at most 65536 for meta, vconfig and aconfig. BYTES is at most 268435456,
+ITEMS 1 to 65536, and PLAYERS 1 to 256. An item costs its bytes and 64 more. A
+line has at most 65536 bytes, and a script at most 268435456.
 
 Exit status:
   0  the script was read to its end
   2  the command line is none of the above; nothing was read or written
   3  standard input failed
-  4  a line of the script is none of the above; the replies to the lines
-     before it are written
+  4  a line of the script is none of the above, or may not stand there; the
+     replies to the lines before it are written
   5  standard output failed
   6  there was too little memory
-Where it isn't 0, standard error has the line 'relay: status CODE at PLACE'.
-PLACE is the number of the script's line with code 4, the first being 1, and
-else 0.
+Where it isn't 0, the last line on standard error is 'relay: status CODE at
+PLACE'. PLACE is the number of the script's line with code 4, the first being
+1, and else 0. Lines before it say why in words, but not where a pipe's reader
+has gone.
 ";

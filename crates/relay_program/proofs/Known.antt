@@ -22,14 +22,16 @@ pub wrote_all : (text : List ℕ) (before now : Option (List ℕ)) → Writes te
 wrote_all text before now w = w.grown ∙ ap (append_known before) (sym (append-nil w.wrote) ∙ w.parts)
 
 -- a text's first part and its rest, one written after the other
-pub write_then : (text middle left : List ℕ) (before between now : Option (List ℕ)) → Writes text middle before between → Writes middle left between now → Writes text left before now
+pub write_then : (text middle left : List ℕ) (before between now : Option (List ℕ)) → Writes text middle before between → Writes middle left between now
+    → Writes text left before now
 write_then text middle left before between now v w = record {
   wrote = v.wrote ++ w.wrote;
   parts = append_assoc v.wrote w.wrote left ∙ ap (λ (l : List ℕ). v.wrote ++ l) w.parts ∙ v.parts;
   grown = w.grown ∙ ap (λ (k : Option (List ℕ)). append_known k w.wrote) v.grown ∙ append_known_twice before v.wrote w.wrote;
 }
 
-pub write_part_then : (text middle : List ℕ) (before between now : Option (List ℕ)) → Writes text middle before between → WritesPart middle between now → WritesPart text before now
+pub write_part_then : (text middle : List ℕ) (before between now : Option (List ℕ)) → Writes text middle before between → WritesPart middle between now
+    → WritesPart text before now
 write_part_then text middle before between now v w = (w.0, write_then text middle w.0 before between now v w.1)
 
 -- a text that goes on is written in part
@@ -38,7 +40,8 @@ part_of_more text more before now w =
     (w.0 ++ more, record { wrote = w.1.wrote; parts = sym (append_assoc w.1.wrote w.0 more) ∙ ap (λ (l : List ℕ). l ++ more) w.1.parts; grown = w.1.grown })
 
 -- one put more
-pub put_more : (text left : List ℕ) (n : ℕ) (before held now : Option (List ℕ)) → n ≤ length left → Writes text left before held → now ≡ append_known held (take n left)
+pub put_more : (text left : List ℕ) (n : ℕ) (before held now : Option (List ℕ)) → n ≤ length left → Writes text left before held → now
+    ≡ append_known held (take n left)
     → Writes text (take (length left - n) (drop n left)) before now
 put_more text left n before held now h w e =
     let rest : take (length left - n) (drop n left) ≡ drop n left = take_all (length left - n) (drop n left) (omega (arith, length-drop n left)) in

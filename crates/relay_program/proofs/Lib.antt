@@ -1,14 +1,10 @@
-pub mod Digits
 pub mod Known
 pub mod Past
 pub mod Says
 pub mod Script
 pub mod Steps
 pub mod Ahead
-pub mod Stops
+pub mod Fails
 pub mod Whole
 pub mod Words
-pub mod OneLine
-pub mod NumberLaw
-pub mod KindLaw
-pub mod LinesLaw
+pub mod Outcomes

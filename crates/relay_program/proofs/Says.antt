@@ -1,32 +1,52 @@
 -- What a put reply line says of its line.
-use Rattle.std.proofs.Common.{◌≡◌, ℕ, List, ◌∷◌, Option, Some, Result, Ok, Err, MatchResult, refl, ap, ◌∙◌}
+use Rattle.std.proofs.Common.{◌≡◌, ℕ, List, [], Option, Some, Result, Ok, Err, MatchResult, refl, ap, sym, ◌∙◌}
 use Rattle.std.specs.Io.KnownBytes.{append_known}
-use Rattle.stream_model.specs.declared.calls.Entry.{Entry}
-use Rattle.stream_model.specs.declared.replies.Reply.{Reply}
-use Rattle.stream_model.specs.History.{History}
-use Rattle.stream_model.specs.Answer.{reply}
-use Rattle.relay_program.specs.declared.drills.Stop.{Stop}
-use Rattle.relay_program.specs.declared.drills.Stop.TheVariants.{Outside, SourceFault, SinkFault, OutOfMemory}
-use Rattle.relay_program.specs.declared.line.DrillLine.{DrillLine}
-use Rattle.relay_program.specs.declared.line.DrillLine.TheVariants.{Step}
-use Rattle.relay_program.specs.Script.{defaults}
-use Rattle.relay_program.specs.Texts.{line_of}
-use Rattle.relay_program.specs.Parts.{PutStops, Answered, AnswerStops, said_by}
+use Rattle.relay_program.specs.declared.drills.DrillFail.{DrillFail}
+use Rattle.relay_program.specs.declared.drills.DrillFail.TheVariants.{Outside, SourceFault, SinkFault, OutOfMemory}
+use Rattle.stream_model.specs.declared.calls.StreamLimits.{StreamLimits}
+use Rattle.relay_program.specs.Drill.{State, Done, done, ring_does}
+use Rattle.relay_program.specs.Parts.{PutFails, Answered, AnswerFails, LimitsFail, SinkCause, said_by}
+use Rattle.relay_program.proofs.Known.{append_known_nil, no_part_written}
 
-stops : (stop : Stop) (said : Option DrillLine) (number : ℕ) (old : History) (text : List ℕ) (before now : Option (List ℕ)) →
-    text ≡ said_by said old → PutStops stop text before now → AnswerStops stop said number old before now
-stops (Outside n) said number old text before now e p = absurd p
-stops SourceFault said number old text before now e p = absurd p
-stops SinkFault said number old text before now e p = rw (← e) p
-stops OutOfMemory said number old text before now e p = rw (← e) p
+fails : (fail : DrillFail) (after : Option Done) (number : ℕ) (text : List ℕ) (before now : Option (List ℕ)) →
+    text ≡ said_by after → PutFails fail text before now → AnswerFails fail after number before now
+fails (Outside n) after number text before now e p = absurd p
+fails SourceFault after number text before now e p = absurd p
+fails SinkFault after number text before now e p = rw (← e) p
+fails OutOfMemory after number text before now e p = rw (← e) p
 
-pub says : (r : Result (Unit {0}) Stop) (said : Option DrillLine) (number : ℕ) (old new : History) (entry : Entry) (answer : Reply) (text : List ℕ) (before now : Option (List ℕ)) →
-    MatchResult r (λ _. now ≡ append_known before text) (λ stop. PutStops stop text before now) → said ≡ Some (Step entry) → answer ≡ reply defaults old entry →
-    new ≡ (entry, answer) ∷ old → text ≡ line_of answer → MatchResult r (λ _. Answered said old new before now) (λ stop. AnswerStops stop said number old before now)
-says (Ok x) said number old new entry answer text before now puts means is grows spelled = record {
-  inside = rw means refl;
-  past = rw means (grows ∙ ap (λ (r : Reply). (entry, r) ∷ old) is);
-  writes = rw means (puts ∙ ap (append_known before) (spelled ∙ ap line_of is));
+pub says : (r : Result (Unit {0}) DrillFail) (after : Option Done) (number : ℕ) (does : Done) (new : State) (text : List ℕ) (before now : Option (List ℕ)) →
+    MatchResult r (λ _. now ≡ append_known before text) (λ fail. PutFails fail text before now) → after ≡ Some does → new ≡ does.state → text ≡ does.text
+    → MatchResult r (λ _. Answered after new before now) (λ fail. AnswerFails fail after number before now)
+says (Ok x) after number does new text before now puts is grows spelled = record {
+  does = does;
+  after_is = is;
+  state = grows;
+  writes = puts ∙ ap (append_known before) spelled;
 }
-says (Err stop) said number old new entry answer text before now puts means is grows spelled =
-    stops stop said number old text before now (rw means (spelled ∙ ap line_of is)) puts
+says (Err fail) after number does new text before now puts is grows spelled = fails fail after number text before now (spelled ∙ ap said_by (sym is)) puts
+
+-- ---- limits
+
+pub limits_taken : (r : Result (Unit {0}) DrillFail) (after : Option Done) (limits : StreamLimits) (old new : State) (number : ℕ) (held : Option (List ℕ)) →
+    after ≡ ring_does limits old → MatchResult r (λ _. ring_does limits old ≡ Some (done new [])) (λ fail. LimitsFail fail limits old number)
+    → MatchResult r (λ _. Answered after new held held) (λ fail. AnswerFails fail after number held held)
+limits_taken (Ok x) after limits old new number held is h = record {
+  does = done new [];
+  after_is = is ∙ h;
+  state = refl;
+  writes = sym (append_known_nil held);
+}
+limits_taken (Err (Outside n)) after limits old new number held is h = (h.0, is ∙ h.1, refl)
+limits_taken (Err SourceFault) after limits old new number held is h = absurd h
+limits_taken (Err SinkFault) after limits old new number held is h = absurd h
+limits_taken (Err OutOfMemory) after limits old new number held is h = no_part_written (said_by after) held held refl
+
+pub limits_cause : (r : Result (Unit {0}) DrillFail) (limits : StreamLimits) (old new : State) (number faults : ℕ) →
+    MatchResult r (λ _. ring_does limits old ≡ Some (done new [])) (λ fail. LimitsFail fail limits old number)
+    → MatchResult r (λ _. faults ≡ faults) (λ fail. SinkCause fail faults faults)
+limits_cause (Ok x) limits old new number faults h = refl
+limits_cause (Err (Outside n)) limits old new number faults h = refl
+limits_cause (Err SourceFault) limits old new number faults h = absurd h
+limits_cause (Err SinkFault) limits old new number faults h = absurd h
+limits_cause (Err OutOfMemory) limits old new number faults h = refl

@@ -3,9 +3,10 @@ use Rattle.std.specs.Prelude.{◌≡◌, ℕ, ◌+◌, List, ◌++◌, length, S
 use Rattle.std.specs.declared.option.Option.{Option}
 use Rattle.relay_base.specs.declared.limits.Status.{Status}
 use Rattle.relay_program.specs.declared.drills.Drilling.{Drilling}
-use Rattle.relay_program.specs.declared.drills.Stop.{Stop}
-use Rattle.relay_program.specs.declared.drills.Stop.TheVariants.{Outside, SourceFault, SinkFault, OutOfMemory}
-use Rattle.relay_program.specs.Script.{lines, drill_text, outside_line}
+use Rattle.relay_program.specs.declared.drills.DrillFail.{DrillFail}
+use Rattle.relay_program.specs.declared.drills.DrillFail.TheVariants.{Outside, SourceFault, SinkFault, OutOfMemory}
+use Rattle.relay_script.specs.Script.{lines}
+use Rattle.relay_program.specs.Drill.{drill_text, outside_line}
 use Rattle.relay_program.specs.Outcome.{Writes}
 use Rattle.relay_program.specs.Parts.{lines_ahead, text_ahead, outside_ahead}
 
@@ -19,7 +20,7 @@ pub record Ahead (d : Drilling) (left held : Option (List ℕ)) (script : List �
   pub outside : (more : List ℕ) → outside_ahead d more ≡ outside_line (read ++ more)
   pub counted : (more : List ℕ) → d.number + length (lines_ahead d more) ≡ 1 + length (lines (read ++ more))
 
-abbrev pub status_of : Stop → Status
+abbrev pub status_of : DrillFail → Status
 status_of (Outside line) = record { code = 4; place = line }
 status_of SourceFault = record { code = 3; place = 0 }
 status_of SinkFault = record { code = 5; place = 0 }

@@ -1,9 +1,5 @@
-pub mod Lines
-pub mod Texts
-pub mod Script
+pub mod Drill
 pub mod Outcome
 pub mod Parts
 pub mod Ends
 pub mod Words
-pub mod OneLine
-pub mod Laws

@@ -1,6 +1,6 @@
 -- The words of the command line.
 use Rattle.std.specs.Prelude.{ℕ, Bool, false, List, [], ◌∷◌, codes}
-use Rattle.relay_program.specs.Lines.{is_text}
+use Rattle.relay_script.specs.Lines.{is_text}
 
 -- the first word is that text
 abbrev pub first_word_is : List (List ℕ) → List ℕ → Bool

@@ -15,16 +15,10 @@
 #![tactic(auto)]
 
 mod drills;
-mod laws;
-mod line;
 mod runs;
-mod text;
 
 pub use drills::drill;
-pub use laws::{kind_law, lines_law, number_law};
-pub use line::{DrillLine, LineFail, drill_line};
 pub use runs::run;
-pub use text::{reply_line_law, reply_text};
 
 #[cfg(test)]
 mod tests;

@@ -1,13 +1,11 @@
 ghost use Rattle.std.specs.Prelude.{None};
 ghost use Rattle.relay_outside.specs.Put.{PutStep};
 
-use crate::{DrillLine, LineFail, drill, drill_line, reply_text, run};
-use av_unit::Bytes;
+use crate::{drill, run};
 use relay_base::Status;
 use relay_outside::{MemSink, MemSource, Put, Sink};
 use std::alloc::{AllocError, Global};
 use std::test::Fail;
-use stream_core::Reply;
 
 // The script in pieces of so many bytes.
 fn source(
@@ -93,97 +91,183 @@ notpublisher 5
 inuse 5
 ";
 
-#[test]
-fn a_viewer_is_sent_the_configuration_and_then_frames(rt: HostRuntime) -> Result<(), Fail> {
-    let told = drilled(
-        rt.alloc(),
-        b"begin 1
-push 1 vconfig 0 30
-push 1 key 0 500
-push 1 inter 40 100
-join 2
-take 2 0 av
-take 2 0 av
-take 2 0 av
-take 2 0 av
-",
-    )?;
-    assert_eq!(rt;
-        told.as_slice(),
-        b"began 0
-pushed 1
-pushed 2
-pushed 3
-joined 0 2
-item 2 1 vconfig 0 30
-item 2 2 key 0 500
-item 3 3 inter 40 100
-notyet 4
-"
-            .as_slice()
-    );
+fn add_line(text: &mut Vec<u8>, line: &[u8]) -> Result<(), AllocError> {
+    text.extend_from_slice(line)?;
+    text.push(b'\n')?;
     Ok(())
 }
 
-#[test]
-fn a_viewer_that_comes_late_starts_at_the_newest_keyframe(rt: HostRuntime) -> Result<(), Fail> {
-    let told = drilled(
-        rt.alloc(),
-        b"# A comment, an empty line, and a last line without its feed.
-
-begin 1
-push 1 meta 0 20
-push 1 vconfig 0 30
-push 1 key 0 500
-push 1 inter 40 100
-push 1 key 80 500
-join 2
-take 2 0 av
-take 2 0 av
-take 2 0 av
-take 2 0 av",
-    )?;
-    assert_eq!(rt;
-        told.as_slice(),
-        b"began 0
-pushed 1
-pushed 2
-pushed 3
-pushed 4
-pushed 5
-joined 0 5
-item 5 1 meta 0 20
-item 5 2 vconfig 0 30
-item 5 5 key 80 500
-notyet 6
-"
-            .as_slice()
-    );
-    Ok(())
+// The scripts of a table that are answered otherwise. A script's lines begin with `>`, what is told of it
+// with `<`, and an empty line ends it.
+fn misanswered(alloc: Global, table: &[u8]) -> Result<Vec<u8>, Fail> {
+    let mut wrong = Vec::new(alloc);
+    let mut script = Vec::new(alloc);
+    let mut want = Vec::new(alloc);
+    for line in table.split(|b| *b == b'\n') {
+        match line {
+            [b'>', text @ ..] => add_line(&mut script, text)?,
+            [b'<', text @ ..] => add_line(&mut want, text)?,
+            _ => {
+                if drilled(alloc, &script)?.as_slice() != want.as_slice() {
+                    wrong.extend_from_slice(&script)?;
+                }
+                script.clear();
+                want.clear();
+            }
+        }
+    }
+    Ok(wrong)
 }
 
-#[test]
-fn refused_calls_and_counts_are_answered(rt: HostRuntime) -> Result<(), Fail> {
-    let alloc = rt.alloc();
-    let told = drilled(alloc, b"begin 1\nbegin 2\npush 2 key 0 1\ntake 7 0 av\n")?;
-    assert_eq!(rt;
-        told.as_slice(),
-        b"began 0\ninuse 1\nnotpublisher 1\nnotplayer\n".as_slice()
-    );
-    let told = drilled(alloc, b"join 2\nleave 2 0\nleave 2 0\nend 2\ncount\n")?;
-    assert_eq!(rt;
-        told.as_slice(),
-        b"joined 0 0\nleft 0\nnotplayer\nnotpublisher -\ncounts 0 0 0 1 0\n".as_slice()
-    );
-    Ok(())
-}
+const SCRIPTS: &[u8] = b"
+>begin 1
+>push 1 vconfig 0 30
+>push 1 key 0 500
+>push 1 inter 40 100
+>join 2
+>take 2 0 av
+>take 2 0 av
+>take 2 0 av
+>take 2 0 av
+<began 0
+<pushed 1
+<pushed 2
+<pushed 3
+<joined 0 2
+<item 2 1 vconfig 0 30
+<item 2 2 key 0 500
+<item 3 3 inter 40 100
+<notyet 4
+
+># a comment, and an empty line
+>
+>begin 1
+>push 1 meta 0 20
+>push 1 vconfig 0 30
+>push 1 key 0 500
+>push 1 inter 40 100
+>push 1 key 80 500
+>join 2
+>take 2 0 av
+>take 2 0 av
+>take 2 0 av
+>take 2 0 av
+<began 0
+<pushed 1
+<pushed 2
+<pushed 3
+<pushed 4
+<pushed 5
+<joined 0 5
+<item 5 1 meta 0 20
+<item 5 2 vconfig 0 30
+<item 5 5 key 80 500
+<notyet 6
+
+>begin 1
+>begin 2
+>push 2 key 0 1
+>take 7 0 av
+<began 0
+<inuse 1
+<notpublisher 1
+<notplayer
+
+>join 2
+>leave 2 0
+>leave 2 0
+>end 2
+>count
+<joined 0 0
+<left 0
+<notplayer
+<notpublisher -
+<counts 0 0 0 1 0
+
+>join 2
+>frob
+>begin 1
+<joined 0 0
+<code 4 at 2
+
+>ring 1000 16 4
+>join 2
+>begin 1
+>push 1 key 0 336
+>push 1 inter 40 336
+>push 1 inter 80 336
+>push 1 key 120 336
+>take 2 0 av
+>take 2 0 av
+>take 2 0 av
+<joined 0 0
+<began 0
+<pushed 1
+<pushed 2
+<pushed 3
+<pushed 4
+<skip 0 4
+<item 4 4 key 120 336
+<notyet 5
+
+># sound alone is passed over
+>ring 1000000 3 4
+>begin 1
+>push 1 key 0 100
+>push 1 inter 40 100
+>join 2
+>take 2 0 av
+>take 2 0 av
+>push 1 audio 50 10
+>push 1 audio 50 10
+>push 1 audio 50 10
+>push 1 audio 50 10
+>take 2 0 av
+>push 1 inter 80 100
+>take 2 0 av
+<began 0
+<pushed 1
+<pushed 2
+<joined 0 1
+<item 1 1 key 0 100
+<item 2 2 inter 40 100
+<pushed 3
+<pushed 4
+<pushed 5
+<pushed 6
+<skip 3 7
+<pushed 7
+<item 7 7 inter 80 100
+
+>ring 1000 16 1
+>join 2
+>join 3
+>take 3 0 av
+>leave 2 0
+>leave 2 0
+>end 2
+<joined 0 0
+<full
+<notplayer
+<left 0
+<notplayer
+<notpublisher -
+
+>ring 0 1 1
+>ring 0 1 1
+<code 4 at 2
+
+>count
+>ring 0 1 1
+<counts 0 0 0 0 0
+<code 4 at 2
+
+";
 
 #[test]
-fn a_script_ends_at_its_end_or_at_a_line_outside(rt: HostRuntime) -> Result<(), Fail> {
-    let alloc = rt.alloc();
-    assert!(rt; drilled(alloc, b"")?.is_empty());
-    let told = drilled(alloc, b"join 2\nfrob\nbegin 1\n")?;
-    assert_eq!(rt; told.as_slice(), b"joined 0 0\ncode 4 at 2\n".as_slice());
+fn scripts_are_answered_by_the_rules(rt: HostRuntime) -> Result<(), Fail> {
+    let wrong = misanswered(rt.alloc(), SCRIPTS)?;
+    assert_eq!(rt; wrong.as_slice(), b"".as_slice());
     Ok(())
 }
 
@@ -346,122 +430,6 @@ fn a_line_has_at_most_65536_bytes(rt: HostRuntime) -> Result<(), Fail> {
     assert_eq!(rt;
         drilled_with_comment(alloc, 65_537, b"")?.as_slice(),
         outside
-    );
-    Ok(())
-}
-
-// `.` for a line that does nothing, `+` for a step, `-` for a line outside the grammar.
-fn judged(alloc: Global, line: &[u8]) -> Result<u8, AllocError> {
-    match drill_line(alloc, line) {
-        Ok(DrillLine::Nothing) => Ok(b'.'),
-        Ok(DrillLine::Step(_)) => Ok(b'+'),
-        Err(LineFail::Outside) => Ok(b'-'),
-        Err(LineFail::OutOfMemory) => Err(AllocError),
-    }
-}
-
-// Those of the lines that aren't what their first byte says.
-fn misjudged(alloc: Global, lines: &[u8]) -> Result<Vec<u8>, AllocError> {
-    let mut wrong = Vec::new(alloc);
-    for case in lines.split(|b| *b == b'\n') {
-        let [mark, line @ ..] = case else {
-            continue;
-        };
-        if judged(alloc, line)? != *mark {
-            wrong.extend_from_slice(case)?;
-            wrong.push(b'\n')?;
-        }
-    }
-    Ok(wrong)
-}
-
-#[test]
-fn a_line_is_inside_the_grammar(rt: HostRuntime) -> Result<(), Fail> {
-    let wrong = misjudged(
-        rt.alloc(),
-        b".
-.#
-.# \t\r
-.#begin 1
-+begin 0
-+begin 4294967295
-+end 1
-+join 1
-+leave 1 255
-+take 1 0 av
-+take 1 0 a
-+take 1 0 v
-+take 1 255 n
-+count
-+push 1 key 4294967295 4194304
-+push 1 inter 0 0
-+push 1 audio 0 1
-+push 1 data 0 65537
-+push 1 meta 0 65536
-+push 1 vconfig 0 65536
-+push 1 aconfig 0 65536
-",
-    )?;
-    assert_eq!(rt; wrong.as_slice(), b"".as_slice());
-    Ok(())
-}
-
-#[test]
-fn a_line_is_outside_the_grammar(rt: HostRuntime) -> Result<(), Fail> {
-    let wrong = misjudged(
-        rt.alloc(),
-        b"- \n- #\n-begin\n-begin \n-begin  1\n-begin 1 \n-begin 1\r\n-begin\t1\n- begin 1
--Begin 1
--begin 01
--begin +1
--begin -1
--begin 1x
--begin 4294967296
--begin 18446744073709551617
--begin 1 2
--end
--join 1 2
--leave 1
--leave 1 256
--take 1 0
--take 1 0 va
--take 1 256 av
--take 1 0 av av
--count 1
--count \n-push 1 key 0
--push 1 Key 0 1
--push 1 keys 0 1
--push 1 key 4294967296 1
--push 1 key 0 4194305
--push 1 meta 0 65537
--push 1 vconfig 0 65537
--push 1 aconfig 0 65537
--push 1 key 0 1 2
--ring 1000 16 4
--held
--frob
-",
-    )?;
-    assert_eq!(rt; wrong.as_slice(), b"".as_slice());
-    Ok(())
-}
-
-#[test]
-fn a_reply_line_is_added_at_the_end(rt: HostRuntime) -> Result<(), Fail> {
-    let alloc = rt.alloc();
-    let mut out = Bytes::new(alloc);
-    reply_text(alloc, &Reply::NotPublisher { live: Some(7) }, &mut out)?;
-    reply_text(
-        alloc,
-        &Reply::Skip {
-            from: 3,
-            to: 18446744073709551615,
-        },
-        &mut out,
-    )?;
-    assert_eq!(rt;
-        out.as_slice(),
-        b"notpublisher 7\nskip 3 18446744073709551615\n".as_slice()
     );
     Ok(())
 }

@@ -6,7 +6,8 @@ use Rattle.relay_program.proofs.drills.answer_script.Given as goal
 abbrev pub invariant-loop-count : goal.invariant-loop-count
 invariant-loop-count g l = record {
   fit : Fit l.drill;
-  ahead : (text : List ℕ) → g.S.Source.left l.fn.script ≡ Some text → Ahead l.drill (g.S.Source.left l.script) (g.K.Sink.holds l.out) text (g.K.Sink.holds l.fn.out);
+  ahead : (text : List ℕ) → g.S.Source.left l.fn.script ≡ Some text
+      → Ahead l.drill (g.S.Source.left l.script) (g.K.Sink.holds l.out) text (g.K.Sink.holds l.fn.out);
   source : g.S.Source.faults l.script ≡ g.S.Source.faults l.fn.script;
   sink : g.K.Sink.faults l.out ≡ g.K.Sink.faults l.fn.out;
 }

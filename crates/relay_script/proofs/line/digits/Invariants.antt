@@ -1,6 +1,6 @@
 use Rattle.std.proofs.Common.{◌≡◌, ◌<◌, length}
-use Rattle.relay_program.specs.Lines.{digits_from}
-use Rattle.relay_program.proofs.line.digits.Given as goal
+use Rattle.relay_script.specs.Lines.{digits_from}
+use Rattle.relay_script.proofs.line.digits.Given as goal
 
 abbrev pub invariant-loop-left : goal.invariant-loop-left
 invariant-loop-left l = record {

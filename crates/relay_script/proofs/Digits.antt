@@ -1,6 +1,6 @@
 use Rattle.std.proofs.Common.{◌≡◌, ℕ, ◌&&◌, nat_le, ◌+◌, ◌-◌, ◌*◌, ◌≤◌, true, false, if◌then◌else◌, List, [], ◌∷◌, None, refl, arith}
 use Rattle.std.proofs.lemmas.Bool.Decides.{nat_tests}
-use Rattle.relay_program.specs.Lines.{digits_from, below}
+use Rattle.relay_script.specs.Lines.{digits_from, below}
 
 pub too_large : (bound : ℕ) (cs : List ℕ) (value : ℕ) → bound ≤ value → below bound (digits_from value cs) ≡ None
 too_large bound [] value h = grind (arith, nat_tests)

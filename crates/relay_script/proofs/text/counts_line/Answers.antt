@@ -1,5 +1,5 @@
 use Rattle.std.proofs.Common.{append_assoc}
-use Rattle.relay_program.proofs.text.counts_line.Goals as goal
+use Rattle.relay_script.proofs.text.counts_line.Goals as goal
 
 pub returns : goal.returns
 returns c = simp append_assoc c.in_ok-format.ensures.ok

@@ -1,7 +1,7 @@
 ghost use Rattle.std.specs.Prelude.{◌≡◌, ◌++◌, OnOk, OnErr, IfOk, string_bytes};
 ghost use Rattle.stream_model.specs.declared.replies.Reply.{Reply};
-ghost use Rattle.relay_program.specs.OneLine.{IsOneLine, IsReply};
-ghost use Rattle.relay_program.specs.Texts.{line_of, item_text, kind_text, live_text, unit_text};
+ghost use Rattle.relay_script.specs.OneLine.{IsOneLine, IsReply};
+ghost use Rattle.relay_script.specs.Texts.{line_of, item_text, kind_text, live_text, unit_text};
 
 use av_unit::{Bytes, Item, Kind, OutOfMemory};
 use std::alloc::Global;

@@ -4,8 +4,8 @@ use Rattle.std.proofs.lemmas.Bool.Decides.{Decides-eqb}
 use Rattle.std.proofs.lemmas.Slice.Eq.{slice_eq-Decides}
 use Rattle.av_unit.specs.declared.unit.Kind.{Kind}
 use Rattle.av_unit.specs.declared.unit.Kind.TheVariants.{Meta, VConfig, AConfig, Key, Inter, Audio, Data}
-use Rattle.relay_program.specs.Lines.{is_text, kind_of}
-use Rattle.relay_program.specs.Texts.{kind_text}
+use Rattle.relay_script.specs.Lines.{is_text, kind_of}
+use Rattle.relay_script.specs.Texts.{kind_text}
 
 same_text : (word text : List ℕ) → is_text word text ≡ true → word ≡ text
 same_text word text e = (slice_eq-Decides Decides-eqb word text (is_text word text) refl).0 e
@@ -13,18 +13,22 @@ same_text word text e = (slice_eq-Decides Decides-eqb word text (is_text word te
 same_kind : (this k : Kind) → Some this ≡ Some k → this ≡ k
 same_kind this k e = cc
 
-kind_cases : (b : Bool) (word : List ℕ) (this k : Kind) (more : Option Kind) → (b ≡ true → word ≡ kind_text this) → (if b then Some this else more) ≡ Some k → (more ≡ Some k → word ≡ kind_text k) → word ≡ kind_text k
+kind_cases : (b : Bool) (word : List ℕ) (this k : Kind) (more : Option Kind) → (b ≡ true → word ≡ kind_text this) → (if b then Some this else more) ≡ Some k
+    → (more ≡ Some k → word ≡ kind_text k) → word ≡ kind_text k
 kind_cases true word this k more is e next = is refl ∙ ap kind_text (same_kind this k e)
 kind_cases false word this k more is e next = next e
 
-pick : (word : List ℕ) (this k : Kind) (more : Option Kind) → (if is_text word (kind_text this) then Some this else more) ≡ Some k → (more ≡ Some k → word ≡ kind_text k) → word ≡ kind_text k
+pick : (word : List ℕ) (this k : Kind) (more : Option Kind) → (if is_text word (kind_text this) then Some this else more) ≡ Some k
+    → (more ≡ Some k → word ≡ kind_text k) → word ≡ kind_text k
 pick word this k more e next = kind_cases (is_text word (kind_text this)) word this k more (same_text word (kind_text this)) e next
 
 nothing : (word : List ℕ) (k : Kind) → None ≡ Some k → word ≡ kind_text k
 nothing word k e = absurd (cc)
 
 told : (k : Kind) (word : List ℕ) → kind_of word ≡ Some k → word ≡ kind_text k
-told k word e = pick word Meta k _ e (λ e. pick word VConfig k _ e (λ e. pick word AConfig k _ e (λ e. pick word Key k _ e (λ e. pick word Inter k _ e (λ e. pick word Audio k _ e (λ e. pick word Data k None e (nothing word k)))))))
+told k word e = pick word Meta k _ e (λ e. pick word VConfig k _ e
+    (λ e. pick word AConfig k _ e (λ e. pick word Key k _ e (λ e. pick word Inter k _ e
+    (λ e. pick word Audio k _ e (λ e. pick word Data k None e (nothing word k)))))))
 
 named : (k : Kind) → kind_of (kind_text k) ≡ Some k
 named Meta = refl

@@ -1,9 +1,9 @@
 ghost use Rattle.std.specs.Prelude.{◌≡◌, ◌↔◌, ◌<◌, ◌≤◌, ◌^◌, ℕ, List, length, Some};
 ghost use Rattle.std.specs.Fmt.{decimal};
-ghost use Rattle.relay_program.specs.Lines.{number, kind_of};
-ghost use Rattle.relay_program.specs.Texts.{kind_text};
-ghost use Rattle.relay_program.specs.Script.{lines};
-ghost use Rattle.relay_program.specs.Laws.{AreLines, EndFrom};
+ghost use Rattle.relay_script.specs.Lines.{number, kind_of};
+ghost use Rattle.relay_script.specs.Texts.{kind_text};
+ghost use Rattle.relay_script.specs.Script.{lines};
+ghost use Rattle.relay_script.specs.Laws.{AreLines, EndFrom};
 
 use av_unit::Kind;
 

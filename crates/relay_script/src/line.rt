@@ -1,19 +1,23 @@
-ghost use Rattle.std.specs.Prelude.{◌≡◌, ◌↔◌, ◌^◌, ◌<◌, ◌≤◌, ◌+◌, ℕ, Some, None, length, IfOk, Ok, Err};
-ghost use Rattle.std.specs.Prelude.{position, ◌==◌, codes, false};
+ghost use Rattle.std.specs.Prelude.{◌≡◌, ◌↔◌, ◌^◌, ◌<◌, ◌≤◌, Some, None, IfOk, Ok, Err};
+ghost use Rattle.std.specs.Prelude.{position, ◌==◌, codes, true};
 ghost use Rattle.std.specs.Option.{option_copied, option_map, IfSome};
 ghost use Rattle.stream_model.specs.declared.calls.Call.{Call};
 ghost use Rattle.av_unit.specs.Fits.{most_bytes};
-ghost use Rattle.relay_program.specs.Lines.{digits_from, below, number, first_word, kind_of, want_of, who_of, push_step, push_line, take_line, leave_line, who_line, last, step, meaning, call_line, is_text};
+ghost use Rattle.relay_script.specs.declared.line.DrillLine.TheVariants.{Ring};
+ghost use Rattle.relay_script.specs.Lines.{is_text, digits_from, below, number, count_of, first_word, kind_of, want_of, who_of, last, step};
+ghost use Rattle.relay_script.specs.Lines.{ring_line, who_line, push_step, push_line, take_line, leave_line, plain_line, worded_line, meaning};
 
 use av_unit::{Bytes, Kind, OutOfMemory, Unit, UnitArc, Want};
 use std::alloc::Global;
-use stream_model::{Call, Entry};
+use stream_model::{Call, Entry, StreamLimits};
 
 /// What a line of a drill's script says.
 #[derive(Drop)]
 pub enum DrillLine {
     /// An empty line or a comment.
     Nothing,
+    /// The limits of the stream.
+    Ring(StreamLimits),
     /// A call at the stream, made before its caller was fed any byte.
     Step(Entry),
 }
@@ -29,7 +33,7 @@ pub enum LineFail {
 
 impl From<OutOfMemory> for LineFail {
     ghost use Rattle.std.specs.Prelude.{◌≡◌};
-    ghost use Rattle.relay_program.specs.declared.line.LineFail.TheVariants.{OutOfMemory};
+    ghost use Rattle.relay_script.specs.declared.line.LineFail.TheVariants.{OutOfMemory};
 
     ghost from_gives = { λ _ e. e ≡ OutOfMemory };
 
@@ -70,6 +74,19 @@ fn number(word: &[u8], bound: u64) -> Option<u32>
         [] => None,
         [first, _, ..] if *first == b'0' => None,
         _ => digits(word, bound),
+    }
+}
+
+// The number from 1 on and below the bound that the word spells.
+fn count_of(word: &[u8], bound: u64) -> Option<u32>
+    requires some { 0 < bound }
+    requires fits { bound ≤ 2 ^ 32 }
+    ensures { result ≡ count_of bound word.now }
+{
+    match number(word, bound) {
+        Some(0) => None,
+        Some(n) => Some(n),
+        None => None,
     }
 }
 
@@ -133,6 +150,26 @@ fn want_of(word: &[u8]) -> Option<Want>
         return None;
     };
     Some(Want { audio, video })
+}
+
+// BYTES ITEMS PLAYERS
+fn ring_line(words: Option<&[u8]>) -> Option<DrillLine>
+    ensures { result ≡ ring_line (option_copied words.entry) }
+{
+    let (bytes, rest) = first_word(words?);
+    let bytes = number(bytes, 268_435_457)?;
+    let (items, rest) = first_word(rest?);
+    let items = count_of(items, 65_537)?;
+    let (players, rest) = first_word(rest?);
+    let players = count_of(players, 257)?;
+    match rest {
+        Some(_) => None,
+        None => Some(DrillLine::Ring(StreamLimits {
+            bytes: u64::from(bytes),
+            items,
+            players,
+        })),
+    }
 }
 
 // A pushed unit, before its body is made.
@@ -259,8 +296,7 @@ fn count_line(words: Option<&[u8]>) -> Option<DrillLine>
 
 // A call other than a push.
 fn plain_line(word: &[u8], rest: Option<&[u8]>) -> Option<DrillLine>
-    requires { is_text word.now (codes "push") ≡ false }
-    ensures { result ≡ call_line word.now (option_copied rest.entry) }
+    ensures { result ≡ plain_line word.now (option_copied rest.entry) }
 {
     if word == b"begin".as_slice() {
         who_line(Call::Begin, rest)
@@ -279,31 +315,38 @@ fn plain_line(word: &[u8], rest: Option<&[u8]>) -> Option<DrillLine>
     }
 }
 
-// A line whose first word names a call.
-fn call_line(alloc: Global, word: &[u8], rest: Option<&[u8]>) -> Result<DrillLine, LineFail>
-    ensures says { IfOk result (λ l. call_line word.now (option_copied rest.entry) ≡ Some l) }
-    ensures outside { (result ≡ Err LineFail.Outside) ↔ (call_line word.now (option_copied rest.entry) ≡ None) }
+// A line that begins with that word.
+fn worded_line(alloc: Global, word: &[u8], rest: Option<&[u8]>) -> Result<DrillLine, LineFail>
+    ensures says { IfOk result (λ l. worded_line word.now (option_copied rest.entry) ≡ Some l) }
+    ensures outside { (result ≡ Err LineFail.Outside) ↔ (worded_line word.now (option_copied rest.entry) ≡ None) }
+    ensures memory { result ≡ Err LineFail.OutOfMemory → is_text word.now (codes "push") ≡ true }
 {
     if word == b"push".as_slice() {
         return push_line(alloc, rest);
     }
-    match plain_line(word, rest) {
-        Some(line) => Ok(line),
-        None => Err(LineFail::Outside),
-    }
+    let line = if word == b"ring".as_slice() {
+        ring_line(rest)
+    } else {
+        plain_line(word, rest)
+    };
+    line.ok_or(LineFail::Outside)
 }
 
 /// What a line of a drill's script says, its LF left out.
 ///
 /// The answer is `Outside` exactly where the line has none of the forms of a line, or has more than
-/// 65,536 bytes. A line that begins with `#` is a comment. The other forms are `begin WHO`,
-/// `push WHO KIND TIME LEN`, `end WHO`, `join WHO`, `take WHO PLAYER WANT`, `leave WHO PLAYER` and
-/// `count`, with one space between two words. WHO and TIME are below 2^32, PLAYER is below 256, and LEN
-/// is at most what a unit of that KIND has; TIME is in milliseconds, and LEN in bytes, which are all 0.
-/// Numbers are decimal, without a sign or a leading zero.
+/// 65,536 bytes. A line that begins with `#` is a comment. The other forms are `ring BYTES ITEMS PLAYERS`,
+/// `begin WHO`, `push WHO KIND TIME LEN`, `end WHO`, `join WHO`, `take WHO PLAYER WANT`,
+/// `leave WHO PLAYER` and `count`, with one space between two words. BYTES is at most 268,435,456, ITEMS
+/// 1 to 65,536, and PLAYERS 1 to 256. WHO and TIME are below 2^32, PLAYER is below 256, and LEN is at most
+/// what a unit of that KIND has; TIME is in milliseconds, and LEN in bytes, which are all 0. Numbers are
+/// decimal, without a sign or a leading zero. Where in a script a line may stand is no matter here.
+///
+/// `OutOfMemory` comes only at a push.
 pub fn drill_line(alloc: Global, line: &[u8]) -> Result<DrillLine, LineFail>
     ensures says { IfOk result (λ l. meaning line.now ≡ Some l) }
     ensures outside { (result ≡ Err LineFail.Outside) ↔ (meaning line.now ≡ None) }
+    ensures memory { result ≡ Err LineFail.OutOfMemory → is_text (first_word line.now).word (codes "push") ≡ true }
 {
     if line.len() > 65536 {
         return Err(LineFail::Outside);
@@ -313,7 +356,7 @@ pub fn drill_line(alloc: Global, line: &[u8]) -> Result<DrillLine, LineFail>
         [b'#', ..] => Ok(DrillLine::Nothing),
         _ => {
             let (word, rest) = first_word(line);
-            call_line(alloc, word, rest)
+            worded_line(alloc, word, rest)
         }
     }
 }

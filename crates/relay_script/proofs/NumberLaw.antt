@@ -1,5 +1,6 @@
 -- A word that is a number is what `decimal` writes of it.
-use Rattle.std.proofs.Common.{◌≡◌, ◌↔◌, ℕ, zero, suc, ◌+◌, ◌-◌, ◌*◌, ◌<◌, ◌≤◌, ◌^◌, ◌==◌, nat_lt, nat_le, ◌&&◌, if◌then◌else◌, Bool, true, false, get_or, List, [], ◌∷◌, Option, None, Some, length, refl, ap, sym, ◌∙◌, arith}
+use Rattle.std.proofs.Common.{◌≡◌, ◌↔◌, ℕ, zero, suc, ◌+◌, ◌-◌, ◌*◌, ◌<◌, ◌≤◌, ◌^◌, ◌==◌, nat_lt, nat_le, ◌&&◌, if◌then◌else◌, Bool, true, false, get_or}
+use Rattle.std.proofs.Common.{List, [], ◌∷◌, Option, None, Some, length, refl, ap, sym, ◌∙◌, arith}
 use Rattle.std.proofs.lemmas.Bool.Decides.{nat_tests}
 use Rattle.std.proofs.lemmas.Fmt.{decimal_is_IsNumeral, decimal_digit, first_decimal, decimal-digits_value}
 use Rattle.std.proofs.lemmas.Str.{digit_value_digit}
@@ -7,7 +8,7 @@ use Rattle.std.proofs.lemmas.Str.Parse.{digit_from_value, numerals_by_value, tel
 use Rattle.std.specs.Str.Parse.{AllDigits, digits_value, digits_value_after}
 use Rattle.std.specs.Char.{digit_value}
 use Rattle.std.specs.Fmt.{decimal}
-use Rattle.relay_program.specs.Lines.{digits_from, decimal_of, below, number}
+use Rattle.relay_script.specs.Lines.{digits_from, decimal_of, below, number}
 
 -- ---- the digits that are read
 
@@ -16,7 +17,8 @@ record Digits (value : ℕ) (ds : List ℕ) (n : ℕ) : Type 0 where
   all : AllDigits 10 ds
   worth : digits_value_after 10 value ds ≡ n
 
-digit_cases : (b : Bool) (c value : ℕ) (cs : List ℕ) (n : ℕ) → (nat_le 48 c && nat_le c 57) ≡ b → (if b then digits_from (10 * value + (c - 48)) cs else None) ≡ Some n →
+digit_cases : (b : Bool) (c value : ℕ) (cs : List ℕ) (n : ℕ) → (nat_le 48 c && nat_le c 57) ≡ b
+    → (if b then digits_from (10 * value + (c - 48)) cs else None) ≡ Some n →
     (digits_from (10 * value + (c - 48)) cs ≡ Some n → Digits (10 * value + (c - 48)) cs n) → Digits value (c ∷ cs) n
 digit_cases true c value cs n b e more =
     let d = more e in
@@ -71,7 +73,8 @@ is_decimal ds n small e =
     let same = decimal-digits_value (numerals_by_value (AllDigits 10) tells_digits) ds p.all p.some p.lead (omega (arith, small, p.worth)) in
     sym same ∙ ap decimal p.worth
 
-reads : (ds : List ℕ) (n : ℕ) → AllDigits 10 ds → digits_value 10 ds ≡ n → 0 < length ds → (n ≡ 0 → length ds ≡ 1) → (0 < n → 48 < get_or ds 0 0) → decimal_of ds ≡ Some n
+reads : (ds : List ℕ) (n : ℕ) → AllDigits 10 ds → digits_value 10 ds ≡ n → 0 < length ds → (n ≡ 0 → length ds ≡ 1) → (0 < n → 48 < get_or ds 0 0)
+    → decimal_of ds ≡ Some n
 reads [] n all worth some one lead = absurd (omega (arith, some))
 reads (c ∷ []) n all worth some one lead = spelled (c ∷ []) 0 all ∙ ap Some worth
 reads (c ∷ d ∷ ds) zero all worth some one lead = absurd (omega (arith, one refl))
@@ -105,7 +108,8 @@ number_told bound n word small e =
     (is.1, is_decimal word n (omega (arith, is.1, small)) is.0)
 
 number_is : (bound n : ℕ) (word : List ℕ) → bound ≤ 2 ^ 64 → (n < bound) × (word ≡ decimal n) → number bound word ≡ Some n
-number_is bound n word small h = ap (λ (w : List ℕ). below bound (decimal_of w)) h.1 ∙ ap (below bound) (reads_decimal n (omega (arith, h.0, small))) ∙ below_is bound n h.0
+number_is bound n word small h = ap (λ (w : List ℕ). below bound (decimal_of w)) h.1 ∙ ap (below bound) (reads_decimal n (omega (arith, h.0, small)))
+    ∙ below_is bound n h.0
 
 pub number_law : (bound n : ℕ) (word : List ℕ) → bound ≤ 2 ^ 64 → (number bound word ≡ Some n) ↔ ((n < bound) × (word ≡ decimal n))
 number_law bound n word small = (number_told bound n word small, number_is bound n word small)

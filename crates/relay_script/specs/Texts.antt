@@ -7,7 +7,8 @@ use Rattle.av_unit.specs.declared.unit.Kind.TheVariants.{Meta, VConfig, AConfig,
 use Rattle.av_unit.specs.declared.item.Item.{Item}
 use Rattle.av_unit.specs.declared.item.Item.TheVariants as item
 use Rattle.stream_model.specs.declared.replies.Reply.{Reply}
-use Rattle.stream_model.specs.declared.replies.Reply.TheVariants.{Began, InUse, Pushed, NotPublisher, Ended, Joined, Full, NotPlayer, Sent, Skip, NotYet, Left, Counts}
+use Rattle.stream_model.specs.declared.replies.Reply.TheVariants.{Began, InUse, Pushed, NotPublisher, Ended, Joined, Full, NotPlayer, Sent, Skip, NotYet}
+use Rattle.stream_model.specs.declared.replies.Reply.TheVariants.{Left, Counts}
 
 -- LIVE: `-` where nobody publishes
 abbrev pub live_text : Option ℕ → List ℕ
@@ -49,4 +50,5 @@ line_of (Skip from to) = codes "skip " ++ decimal from ++ codes " " ++ decimal t
 line_of (NotYet end) = codes "notyet " ++ decimal end ++ codes "\n"
 line_of (Left player) = codes "left " ++ decimal player ++ codes "\n"
 line_of (Counts began pushed ended joined skips) =
-    codes "counts " ++ decimal began ++ codes " " ++ decimal pushed ++ codes " " ++ decimal ended ++ codes " " ++ decimal joined ++ codes " " ++ decimal skips ++ codes "\n"
+    codes "counts " ++ decimal began ++ codes " " ++ decimal pushed ++ codes " " ++ decimal ended ++ codes " " ++ decimal joined ++ codes " " ++ decimal
+    skips ++ codes "\n"

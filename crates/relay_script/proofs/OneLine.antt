@@ -9,10 +9,11 @@ use Rattle.av_unit.specs.declared.unit.Kind.TheVariants.{Meta, VConfig, AConfig,
 use Rattle.av_unit.specs.declared.item.Item.{Item}
 use Rattle.av_unit.specs.declared.item.Item.TheVariants as item
 use Rattle.stream_model.specs.declared.replies.Reply.{Reply}
-use Rattle.stream_model.specs.declared.replies.Reply.TheVariants.{Began, InUse, Pushed, NotPublisher, Ended, Joined, Full, NotPlayer, Sent, Skip, NotYet, Left, Counts}
-use Rattle.relay_program.specs.Texts.{line_of, item_text, kind_text, live_text}
-use Rattle.relay_program.specs.OneLine.{IsOneLine, IsU64, IsLive, IsItem, IsReply}
-use Rattle.relay_program.specs.Outcome.{NoLineFeed}
+use Rattle.stream_model.specs.declared.replies.Reply.TheVariants.{Began, InUse, Pushed, NotPublisher, Ended, Joined, Full, NotPlayer, Sent, Skip, NotYet}
+use Rattle.stream_model.specs.declared.replies.Reply.TheVariants.{Left, Counts}
+use Rattle.relay_script.specs.Texts.{line_of, item_text, kind_text, live_text}
+use Rattle.relay_script.specs.OneLine.{IsOneLine, IsU64, IsLive, IsItem, IsReply}
+use Rattle.relay_script.specs.Script.{NoLineFeed}
 
 record Clean (text : List ℕ) : Type 0 where
   clean : NoLineFeed text
@@ -38,7 +39,8 @@ abbrev is_clean : List ℕ → Bool
 is_clean [] = true
 is_clean (c ∷ cs) = cond (not (c == 10)) (is_clean cs) false
 
-clean_cases : (b : Bool) (c : ℕ) (cs : List ℕ) → (c == 10) ≡ b → cond (not b) (is_clean cs) false ≡ true → (is_clean cs ≡ true → NoLineFeed cs) → NoLineFeed (c ∷ cs)
+clean_cases : (b : Bool) (c : ℕ) (cs : List ℕ) → (c == 10) ≡ b → cond (not b) (is_clean cs) false ≡ true → (is_clean cs ≡ true → NoLineFeed cs)
+    → NoLineFeed (c ∷ cs)
 clean_cases true c cs e h more = absurd (cc)
 clean_cases false c cs e h more = (e, more h)
 
@@ -87,4 +89,5 @@ one_line (Skip from to) h = ended (and (and (and (fixed (codes "skip ") refl) (n
 one_line (NotYet end) h = ended (and (fixed (codes "notyet ") refl) (num end h))
 one_line (Left player) h = ended (and (fixed (codes "left ") refl) (num player h))
 one_line (Counts began pushed ended_ joined skips) h =
-    ended (and (and (and (and (and (and (and (and (and (fixed (codes "counts ") refl) (num began h.0)) space) (num pushed h.1)) space) (num ended_ h.2)) space) (num joined h.3)) space) (num skips h.4))
+    ended (and (and (and (and (and (and (and (and (and (fixed (codes "counts ") refl) (num began h.0)) space) (num pushed h.1)) space) (num ended_ h.2))
+    space) (num joined h.3)) space) (num skips h.4))

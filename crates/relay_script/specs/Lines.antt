@@ -1,17 +1,20 @@
 -- The lines of a drill's script, each by itself.
-use Rattle.std.specs.Prelude.{ℕ, ◌+◌, ◌-◌, ◌*◌, ◌^◌, Bool, true, false, ◌&&◌, if◌then◌else◌, ◌==◌, nat_lt, nat_le, List, [], ◌∷◌, length, take, drop, codes, None, Some}
+use Rattle.std.specs.Prelude.{ℕ, zero, suc, ◌+◌, ◌-◌, ◌*◌, ◌^◌, Bool, true, false, ◌&&◌, if◌then◌else◌, ◌==◌, nat_lt, nat_le}
+use Rattle.std.specs.Prelude.{List, [], ◌∷◌, length, take, drop, codes, None, Some}
 use Rattle.std.specs.List.{position}
 use Rattle.std.specs.declared.option.Option.{Option}
+use Rattle.std.specs.Option.{option_and_then}
 use Rattle.std.specs.Cmp.Lexicographic.{pointwise}
 use Rattle.std.proofs.Math.ListN.{replicate}
 use Rattle.av_unit.specs.declared.unit.Kind.{Kind}
 use Rattle.av_unit.specs.declared.unit.Kind.TheVariants.{Meta, VConfig, AConfig, Key, Inter, Audio, Data}
 use Rattle.av_unit.specs.declared.head.Want.{Want}
 use Rattle.av_unit.specs.Fits.{most_bytes}
+use Rattle.stream_model.specs.declared.calls.StreamLimits.{StreamLimits}
 use Rattle.stream_model.specs.declared.calls.Call.{Call}
 use Rattle.stream_model.specs.declared.calls.Call.TheVariants as call
-use Rattle.relay_program.specs.declared.line.DrillLine.{DrillLine}
-use Rattle.relay_program.specs.declared.line.DrillLine.TheVariants.{Nothing, Step}
+use Rattle.relay_script.specs.declared.line.DrillLine.{DrillLine}
+use Rattle.relay_script.specs.declared.line.DrillLine.TheVariants.{Nothing, Ring, Step}
 
 -- ---- words
 
@@ -28,14 +31,10 @@ cut_at text (Some i) = record { word = take i text; rest = Some (drop (i + 1) te
 abbrev pub first_word : List ℕ → Word
 first_word text = cut_at text (position (λ c. c == 32) text)
 
-abbrev pub bind : {A B : Type 0} → Option A → (A → Option B) → Option B
-bind None f = None
-bind (Some x) f = f x
-
 -- the next word, which must be there and be read so, and what follows it
 abbrev pub next : {A B : Type 0} → Option (List ℕ) → (List ℕ → Option A) → (A → Option (List ℕ) → Option B) → Option B
 next None read f = None
-next (Some text) read f = bind (read (first_word text).word) (λ x. f x (first_word text).rest)
+next (Some text) read f = option_and_then (λ x. f x (first_word text).rest) (read (first_word text).word)
 
 -- no word follows
 abbrev pub last : {B : Type 0} → Option (List ℕ) → B → Option B
@@ -68,6 +67,15 @@ below bound (Some n) = if nat_lt n bound then Some n else None
 -- a number below the bound
 abbrev pub number : ℕ → List ℕ → Option ℕ
 number bound word = below bound (decimal_of word)
+
+abbrev pub not_zero : Option ℕ → Option ℕ
+not_zero None = None
+not_zero (Some zero) = None
+not_zero (Some (suc n)) = Some (suc n)
+
+-- a number from 1 on, below the bound
+abbrev pub count_of : ℕ → List ℕ → Option ℕ
+count_of bound word = not_zero (number bound word)
 
 -- KIND
 abbrev pub kind_of : List ℕ → Option Kind
@@ -102,7 +110,28 @@ player_of word = number 256 word
 abbrev pub len_of : Kind → List ℕ → Option ℕ
 len_of kind word = number (most_bytes kind + 1) word
 
+-- BYTES, ITEMS and PLAYERS
+abbrev pub bytes_of : List ℕ → Option ℕ
+bytes_of word = number (268435456 + 1) word
+
+abbrev pub items_of : List ℕ → Option ℕ
+items_of word = count_of (65536 + 1) word
+
+abbrev pub players_of : List ℕ → Option ℕ
+players_of word = count_of (256 + 1) word
+
 -- ---- lines
+
+abbrev pub ring_of : ℕ → ℕ → ℕ → DrillLine
+ring_of bytes items players = Ring (record { bytes = bytes; items = items; players = players })
+
+-- BYTES ITEMS PLAYERS
+abbrev pub ring_line : Option (List ℕ) → Option DrillLine
+ring_line words =
+    next words bytes_of (λ bytes rest.
+    next rest items_of (λ items rest.
+    next rest players_of (λ players rest.
+    last rest (ring_of bytes items players))))
 
 -- a call in a script is made before its caller was fed any byte
 abbrev pub step : ℕ → Call → DrillLine
@@ -142,21 +171,26 @@ leave_line words =
     next rest player_of (λ player rest.
     last rest (step who (call.Leave player))))
 
--- a line whose first word names a call
-abbrev pub call_line : List ℕ → Option (List ℕ) → Option DrillLine
-call_line word rest =
+-- a call other than a push, by its first word
+abbrev pub plain_line : List ℕ → Option (List ℕ) → Option DrillLine
+plain_line word rest =
     if is_text word (codes "begin") then who_line call.Begin rest
-    else (if is_text word (codes "push") then push_line rest
     else (if is_text word (codes "end") then who_line call.End rest
     else (if is_text word (codes "join") then who_line call.Join rest
     else (if is_text word (codes "take") then take_line rest
     else (if is_text word (codes "leave") then leave_line rest
-    else (if is_text word (codes "count") then last rest (step 0 call.Count) else None))))))
+    else (if is_text word (codes "count") then last rest (step 0 call.Count) else None)))))
 
--- an empty line, a line that begins with `#`, or a call
+-- a line by its first word
+abbrev pub worded_line : List ℕ → Option (List ℕ) → Option DrillLine
+worded_line word rest =
+    if is_text word (codes "push") then push_line rest
+    else (if is_text word (codes "ring") then ring_line rest else plain_line word rest)
+
+-- an empty line, a line that begins with `#`, or one of the lines above
 abbrev pub form : List ℕ → Option DrillLine
 form [] = Some Nothing
-form (c ∷ cs) = if c == 35 then Some Nothing else call_line (first_word (c ∷ cs)).word (first_word (c ∷ cs)).rest
+form (c ∷ cs) = if c == 35 then Some Nothing else worded_line (first_word (c ∷ cs)).word (first_word (c ∷ cs)).rest
 
 -- what a line says, its LF left out: None is outside the grammar
 abbrev pub meaning : List ℕ → Option DrillLine

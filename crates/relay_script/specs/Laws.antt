@@ -1,7 +1,7 @@
 -- The lines of a script, without a word on how they are read.
 use Rattle.std.specs.Prelude.{◌≡◌, ◌⊎◌, ℕ, ◌+◌, ◌<◌, min, List, [], ◌∷◌, ◌++◌, length}
-use Rattle.relay_program.specs.Outcome.{NoLineFeed}
-use Rattle.relay_program.specs.Script.{Line}
+use Rattle.relay_script.specs.Script.{NoLineFeed}
+use Rattle.relay_script.specs.Script.{Line}
 
 -- no line has an LF in it
 abbrev pub EachWithoutFeed : List Line → Type 0

@@ -4,8 +4,9 @@ use Rattle.std.specs.declared.option.Option.{Option}
 use Rattle.av_unit.specs.declared.item.Item.{Item}
 use Rattle.av_unit.specs.declared.item.Item.TheVariants as item
 use Rattle.stream_model.specs.declared.replies.Reply.{Reply}
-use Rattle.stream_model.specs.declared.replies.Reply.TheVariants.{Began, InUse, Pushed, NotPublisher, Ended, Joined, Full, NotPlayer, Sent, Skip, NotYet, Left, Counts}
-use Rattle.relay_program.specs.Outcome.{NoLineFeed}
+use Rattle.stream_model.specs.declared.replies.Reply.TheVariants.{Began, InUse, Pushed, NotPublisher, Ended, Joined, Full, NotPlayer, Sent, Skip, NotYet}
+use Rattle.stream_model.specs.declared.replies.Reply.TheVariants.{Left, Counts}
+use Rattle.relay_script.specs.Script.{NoLineFeed}
 
 -- an LF stands at its end, and nowhere else
 pub record IsOneLine (text : List ℕ) : Type 0 where

@@ -1,17 +1,22 @@
 -- The lines of a script, an LF after each, are the script.
-use Rattle.std.proofs.Common.{◌≡◌, ◌⊎◌, inl, inr, ℕ, ◌+◌, ◌==◌, if◌then◌else◌, Bool, true, false, List, [], ◌∷◌, ◌++◌, length, refl, ap, sym, ◌∙◌, subst, append_assoc, arith}
+use Rattle.std.proofs.Common.{◌≡◌, ◌⊎◌, inl, inr, ℕ, ◌+◌, ◌==◌, if◌then◌else◌, Bool, true, false, List, [], ◌∷◌, ◌++◌, length, refl, ap, sym, ◌∙◌, subst}
+use Rattle.std.proofs.Common.{append_assoc, arith}
 use Rattle.std.proofs.lemmas.Bool.{eqb-true}
 use Rattle.std.proofs.lemmas.List.{append-nil, length-append}
-use Rattle.relay_program.specs.Script.{Line, line_at, last_line, lines_from, lines}
-use Rattle.relay_program.specs.Outcome.{NoLineFeed}
-use Rattle.relay_program.specs.Laws.{with_feeds, EndsWithBytes, AreLines, EndFrom}
-use Rattle.relay_program.proofs.OneLine.{both}
+use Rattle.relay_script.specs.Script.{Line, line_at, last_line, lines_from, lines}
+use Rattle.relay_script.specs.Script.{NoLineFeed}
+use Rattle.relay_script.specs.Laws.{with_feeds, EndsWithBytes, AreLines, EndFrom}
+use Rattle.relay_script.proofs.OneLine.{both}
 
 last_are : (place : ℕ) (line : List ℕ) → NoLineFeed line → AreLines (line ++ []) (last_line place line)
 last_are place [] clean = record { clean = tt; joined = inl refl }
 last_are place (c ∷ cs) clean = record {
   clean = (clean, tt);
-  joined = inr (ap (λ (l : List ℕ). l ++ 10 ∷ []) (sym (append-nil (c ∷ cs))), record { front = []; last = line_at (c ∷ cs) place; lines_are = refl; some = omega arith });
+  joined = inr (
+    ap (λ (l : List ℕ). l ++ 10 ∷ []) (sym (append-nil (c ∷ cs))),
+    record
+        { front = []; last = line_at (c ∷ cs) place; lines_are = refl; some = omega arith },
+  );
 }
 
 -- one line more
@@ -19,12 +24,14 @@ more_end : (first : Line) (more : List Line) → EndsWithBytes more → EndsWith
 more_end first more e = record { front = first ∷ e.front; last = e.last; lines_are = ap (λ (l : List Line). first ∷ l) e.lines_are; some = e.some }
 
 first_joined : (place : ℕ) (line rest : List ℕ) (more : List Line) → (with_feeds more ≡ rest) ⊎ ((with_feeds more ≡ rest ++ 10 ∷ []) × EndsWithBytes more) →
-    (with_feeds (line_at line place ∷ more) ≡ line ++ 10 ∷ rest) ⊎ ((with_feeds (line_at line place ∷ more) ≡ (line ++ 10 ∷ rest) ++ 10 ∷ []) × EndsWithBytes (line_at line place ∷ more))
+    (with_feeds (line_at line place ∷ more) ≡ line ++ 10 ∷ rest) ⊎
+    ((with_feeds (line_at line place ∷ more) ≡ (line ++ 10 ∷ rest) ++ 10 ∷ []) × EndsWithBytes (line_at line place ∷ more))
 first_joined place line rest more (inl e) = inl (ap (λ (l : List ℕ). line ++ 10 ∷ l) e)
 first_joined place line rest more (inr e) =
     inr (ap (λ (l : List ℕ). line ++ 10 ∷ l) e.0 ∙ sym (append_assoc line (10 ∷ rest) (10 ∷ [])), more_end (line_at line place) more e.1)
 
-first_are : (place : ℕ) (line rest : List ℕ) (more : List Line) → NoLineFeed line → AreLines rest more → AreLines (line ++ 10 ∷ rest) (line_at line place ∷ more)
+first_are : (place : ℕ) (line rest : List ℕ) (more : List Line) → NoLineFeed line → AreLines rest more
+    → AreLines (line ++ 10 ∷ rest) (line_at line place ∷ more)
 first_are place line rest more clean a = record { clean = (clean, a.clean); joined = first_joined place line rest more a.joined }
 
 cases : (b : Bool) (c place : ℕ) (line cs : List ℕ) → (c == 10) ≡ b → NoLineFeed line → AreLines cs (lines_from (place + 1) [] cs) →
@@ -32,7 +39,8 @@ cases : (b : Bool) (c place : ℕ) (line cs : List ℕ) → (c == 10) ≡ b → 
     AreLines (line ++ c ∷ cs) (if b then line_at line (place + 1) ∷ lines_from (place + 1) [] cs else lines_from (place + 1) (line ++ c ∷ []) cs)
 cases true c place line cs e clean ends more =
     let feed : 10 ≡ c = sym (eqb-true c 10 e) in
-    subst (λ (x : ℕ). AreLines (line ++ x ∷ cs) (line_at line (place + 1) ∷ lines_from (place + 1) [] cs)) feed (first_are (place + 1) line cs (lines_from (place + 1) [] cs) clean ends)
+    subst (λ (x : ℕ). AreLines (line ++ x ∷ cs) (line_at line (place + 1) ∷ lines_from (place + 1) [] cs)) feed
+    (first_are (place + 1) line cs (lines_from (place + 1) [] cs) clean ends)
 cases false c place line cs e clean ends more =
     subst (λ (l : List ℕ). AreLines l (lines_from (place + 1) (line ++ c ∷ []) cs)) (append_assoc line (c ∷ []) cs) (more (both line (c ∷ []) clean (e, tt)))
 
@@ -55,7 +63,8 @@ end_cases : (b : Bool) (total start c place : ℕ) (line cs : List ℕ) → tota
 end_cases true total start c place line cs all here ends more = (omega (arith, all, here), ends)
 end_cases false total start c place line cs all here ends more = more
 
-end_from : (script : List ℕ) (total start place : ℕ) (line : List ℕ) → total ≡ place + length script → place ≡ start + length line → EndFrom total start (lines_from place line script)
+end_from : (script : List ℕ) (total start place : ℕ) (line : List ℕ) → total ≡ place + length script → place ≡ start + length line
+    → EndFrom total start (lines_from place line script)
 end_from [] total start place line all here = last_ends total start place line (omega (arith, all)) here
 end_from (c ∷ cs) total start place line all here =
     end_cases (c == 10) total start c place line cs all here

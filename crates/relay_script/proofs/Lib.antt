@@ -1,0 +1,5 @@
+pub mod Digits
+pub mod OneLine
+pub mod NumberLaw
+pub mod KindLaw
+pub mod LinesLaw

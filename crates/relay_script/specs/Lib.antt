@@ -1,0 +1,5 @@
+pub mod Script
+pub mod Lines
+pub mod Texts
+pub mod OneLine
+pub mod Laws

@@ -1,0 +1,16 @@
+//! Scripts: what each line says, and the lines that answer them.
+//!
+//! A script is lines that end with an LF, which may lack after the last. [`drill_line`] gives the meaning of
+//! one line of a drill's script, and [`reply_text`] the line that answers a call.
+#![tactic(auto)]
+
+mod laws;
+mod line;
+mod text;
+
+pub use laws::{kind_law, lines_law, number_law};
+pub use line::{DrillLine, LineFail, drill_line};
+pub use text::{reply_line_law, reply_text};
+
+#[cfg(test)]
+mod tests;
