@@ -13,3 +13,4 @@ pub mod Single
 pub mod Totals
 pub mod Settled
 pub mod Before
+pub mod Short

@@ -1,5 +1,5 @@
 -- Laws of reading
-use Rattle.std.specs.Prelude.{◌≡◌, ◌⊎◌, ℕ, List, ◌++◌, take}
+use Rattle.std.specs.Prelude.{◌≡◌, ◌⊎◌, ◌≤◌, ℕ, List, [], ◌∷◌, ◌++◌, length, take}
 use Rattle.chunk_wire.specs.declared.message.Message.{Message}
 use Rattle.chunk_wire.specs.State.{State}
 use Rattle.chunk_reader.specs.declared.fail.ReadCause.{ReadCause}
@@ -30,3 +30,8 @@ pub record SameStop (c d : ReadCause) (p q : ℕ) : Type 0 where
 -- the bytes are read, or refused at a place
 abbrev pub IsReadOrRefused : ℕ → List ℕ → Type 0
 IsReadOrRefused max b = ((ms : List (ℕ × Message)) × IsRead max b ms) ⊎ ((cause : ReadCause) × ((place : ℕ) × Stops max b cause place))
+
+-- no body has more bytes
+abbrev pub AreShort : ℕ → List (ℕ × Message) → Type 0
+AreShort max [] = Unit {0}
+AreShort max (m ∷ ms) = (length m.1.body ≤ max) × AreShort max ms

@@ -1,7 +1,7 @@
 ghost use Rattle.std.specs.Prelude.{ℕ, ◌+◌, ◌-◌, ◌<◌, List, [], ◌∷◌, ◌++◌, length, take};
 ghost use Rattle.chunk_wire.specs.declared.message.Message.{Message};
 ghost use Rattle.chunk_wire.specs.State.{State};
-ghost use Rattle.chunk_reader.specs.Laws.{IsReadOrRefused, ReadsPart, SameReading, SameStop};
+ghost use Rattle.chunk_reader.specs.Laws.{AreShort, IsReadOrRefused, ReadsPart, SameReading, SameStop};
 ghost use Rattle.chunk_reader.specs.Reads.{Reads};
 ghost use Rattle.chunk_reader.specs.Sound.{IsRead};
 ghost use Rattle.chunk_reader.specs.Stops.{Stops};
@@ -45,4 +45,9 @@ pub fn each_is_read_or_refused()
 pub fn refused_bytes_stay_refused()
     ensures stays { (max : ℕ) (b more : List ℕ) (cause : ReadCause) (place : ℕ) → Stops max b cause place → Stops max (b ++ more) cause place }
     ensures inside { (max : ℕ) (b : List ℕ) (cause : ReadCause) (place : ℕ) → Stops max b cause place → place < length b }
+{}
+
+/// No message that is read is longer than the longest.
+pub fn messages_are_short()
+    ensures { (max : ℕ) (b : List ℕ) (ms : List (ℕ × Message)) (s : State) (r : List ℕ) → Reads max b ms s r → AreShort max ms }
 {}

@@ -14,8 +14,9 @@ mod take;
 
 pub use fail::{ReadCause, ReadFail};
 pub use laws::{
-    a_message_ends_with_its_last_byte, beginnings_are_read, each_is_read_or_refused, one_reading,
-    one_refusal, refused_bytes_are_not_read, refused_bytes_stay_refused,
+    a_message_ends_with_its_last_byte, beginnings_are_read, each_is_read_or_refused,
+    messages_are_short, one_reading, one_refusal, refused_bytes_are_not_read,
+    refused_bytes_stay_refused,
 };
 pub use reader::{Fed, Reader};
 

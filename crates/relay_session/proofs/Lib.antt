@@ -1,2 +1,3 @@
 pub mod Filling
 pub mod Pending
+pub mod Answering

@@ -1,1 +1,3 @@
 pub mod Owing
+pub mod Session
+pub mod Keeping

@@ -3,7 +3,14 @@
 //! The section numbers are those of Adobe's RTMP 1.0.
 #![tactic(auto)]
 
+mod answers;
+mod core_fields;
+mod desk;
+mod end;
 mod outgoing;
 mod unit_in_hand;
 
+pub use core_fields::Core;
+pub use desk::Desk;
+pub use end::End;
 pub use outgoing::Outgoing;

@@ -1,0 +1,25 @@
+use crate::Outgoing;
+use ack_window::Inbound;
+use chunk_reader::Reader;
+use command_dialog::Dialog;
+use past::{Flow, Pair};
+use rtmp_handshake::Hand;
+use stream_model::{Entry, Reply};
+
+/// What a session keeps of its peer's bytes and of what it owes. `x`, the bytes fed, `calls`, its own calls with their
+/// replies, and `sent`, the bytes sent, are of no bytes.
+#[derive(Drop)]
+pub struct Core {
+    pub who: u64,
+    pub window: u32,
+    pub hand: Hand,
+    pub reader: Reader,
+    pub inbound: Inbound,
+    pub dialog: Dialog,
+    pub outgoing: Outgoing,
+    pub kept: Option<Entry>,
+    pub fed: u64,
+    pub x: Flow<u8>,
+    pub calls: Flow<Pair<Entry, Reply>>,
+    pub sent: Flow<u8>,
+}
