@@ -1,5 +1,5 @@
-pub mod Items
-pub mod Window
-pub mod Places
+pub mod Walking
+pub mod Taking
 pub mod Tallies
-pub mod Takes
+pub mod Places
+pub mod Parts

@@ -1,3 +1,5 @@
-pub mod PlaceState
+pub mod Placed
+pub mod Answers
 pub mod Tally
 pub mod IsPast
+pub mod Itemless

@@ -10,7 +10,6 @@ mod shared;
 mod stream;
 mod take;
 mod tally;
-mod walks;
 
 pub use stream::Stream;
 pub use stream_model::{Call, Entry, Reply, StreamLimits, Taken};

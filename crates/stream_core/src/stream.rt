@@ -1,32 +1,34 @@
-ghost use Rattle.std.specs.Prelude.{◌≡◌, ℕ, ◌<◌, ◌^◌, [], ◌∷◌, length, vec_len, IfOk, OnErr, slice_index_or};
+ghost use Rattle.std.specs.Prelude.{◌≡◌, ℕ, ◌<◌, ◌≤◌, ◌+◌, ◌^◌, [], ◌∷◌, length, true, vec_len, IfOk, OnErr, slice_index_or};
+ghost use Rattle.stream_model.specs.Held.{held};
 ghost use Rattle.std.specs.Option.{IfSome};
-ghost use Rattle.stream_model.specs.Answer.{free_place, reply};
+ghost use Rattle.stream_model.specs.Answer.{free_place as least_free, reply, IsSent};
 ghost use Rattle.stream_model.specs.History.{items_of};
 ghost use Rattle.stream_model.specs.Known.{StreamKnown, answered, IsLawful};
 ghost use Rattle.stream_model.specs.Legal.{Legal};
-ghost use Rattle.stream_core.specs.PlaceState.{free_state};
+ghost use Rattle.stream_core.specs.Placed.{free_place};
 ghost use Rattle.stream_core.specs.Tally.{tally_after};
 
-use crate::place::Place;
-use crate::take::answer;
+use crate::place::{Place, is_who};
+use crate::take::{answer, join_place};
 use crate::tally::Tally;
-use crate::walks::join_place;
 use av_unit::{Item, OutOfMemory, UnitArc, Want};
 use past::{History, Pair};
+use player_cursor::Cursor;
 use std::alloc::Global;
 use std::marker::Model;
 use std::snapshot::Snapshot;
 use stream_law::viewers_law;
 use stream_model::{Call, Entry, Reply, StreamLimits};
+use unit_ring::Ring;
 
 /// One stream: what is published on it, and the players that take from it.
 ///
-/// This body keeps all its items, and computes the window, the configurations in effect, the join
-/// place and whole chains by walks over them.
+/// It keeps a bounded ring of the items, and for each player a cursor of a few numbers. The ring's slots
+/// and the players' places are taken when it is made, so that a call takes memory only to share a
+/// unit with a player once more.
 #[derive(Drop)]
 pub struct Stream {
-    limits: StreamLimits,
-    items: Vec<Item>,
+    ring: Ring,
     publisher: Option<u64>,
     places: Vec<Place>,
     tally: Tally,
@@ -39,19 +41,18 @@ impl Model for Stream {
 
     ghost Value = { StreamKnown };
 
-    ghost view = { λ s. record { limits = s.limits; past = s.past } };
+    ghost view = { λ s. record { limits = s.ring.limits; past = s.past } };
 
-    ghost invariant = { λ s. IsPast s.limits s.items.items s.publisher s.places.items s.tally s.past };
+    ghost invariant = { λ s. IsPast s.ring s.publisher s.places.items s.tally s.past };
 }
 
 impl Stream {
-    /// A stream that has had no call. It takes the places of all its players.
+    /// A stream that has had no call. It takes all slots of its ring and the places of all its players.
     pub fn new(alloc: Global, limits: StreamLimits) -> Result<Stream, OutOfMemory>
         ensures { IfOk result (λ stream. stream ≡ record { limits = limits; past = [] }) }
     {
         Ok(Stream {
-            limits,
-            items: Vec::new(alloc),
+            ring: Ring::new(alloc, limits)?,
             publisher: None,
             places: free_places(alloc, limits.players)?,
             tally: Tally::new(),
@@ -59,18 +60,29 @@ impl Stream {
         })
     }
 
-    /// Answers the call by the rules of one stream, or nothing is done for want of memory, on condition
-    /// that fewer than 2^62 items were published. Whatever
-    /// the calls so far, what each player was sent since its Join keeps the viewer's law.
+    /// Answers the call by the rules of one stream, on condition that fewer than 2^62 items were published.
+    /// Memory is wanted only at a Take that the rules answer with an item; a call so refused changes nothing.
+    /// Whatever the calls so far, what each player was sent since its Join keeps the viewer's law, and
+    /// what a Take is answered depends on the items and that player's own answers alone.
     pub fn apply(&mut self, entry: Entry) -> Result<Reply, OutOfMemory>
         requires { length (items_of self.old.past) < 2 ^ 62 }
         ensures ok { IfOk result (λ r. (r ≡ reply self.old.limits self.old.past entry) × (self.new ≡ answered self.old entry r)) }
         ensures err { OnErr result (self.new ≡ self.old) }
+        ensures memory { OnErr result (IsSent (reply self.old.limits self.old.past entry)) }
         ensures viewers { (place : ℕ) → Legal self.new.limits self.new.past place }
     {
         let reply = self.answer(entry);
         self.history_law();
         reply
+    }
+
+    /// The lengths of the bodies of the items in the window and of the configurations in effect at its
+    /// base, in bytes: at most the limit and 196,608, after any calls.
+    pub fn held(&self) -> u64
+        ensures sum { result ≡ held self.now.limits (items_of self.now.past) }
+        ensures most { result ≤ self.now.limits.bytes + 196608 }
+    {
+        self.ring.held()
     }
 
     /// Each call so far was answered by the rules, and what each player was sent keeps the viewer's
@@ -79,20 +91,22 @@ impl Stream {
         ensures rules { IsLawful self.now.limits self.now.past }
         ensures viewers { (place : ℕ) → Legal self.now.limits self.now.past place }
     {
-        let _ = &self.limits;
+        let _ = &self.ring;
         viewers_law();
     }
 
     fn answer(&mut self, entry: Entry) -> Result<Reply, OutOfMemory>
+        requires { length (items_of self.old.past) < 2 ^ 62 }
         ensures ok { IfOk result (λ r. (r ≡ reply self.old.limits self.old.past entry) × (self.new ≡ answered self.old entry r)) }
         ensures err { OnErr result (self.new ≡ self.old) }
+        ensures memory { OnErr result (IsSent (reply self.old.limits self.old.past entry)) }
     {
         let seen = Snapshot::of(&entry);
         let Entry { who, at: _, call } = entry;
         match call {
-            Call::Begin => self.begin(seen, who),
-            Call::Push(unit) => self.push(seen, who, unit),
-            Call::End => self.end(seen, who),
+            Call::Begin => Ok(self.begin(seen, who)),
+            Call::Push(unit) => Ok(self.push(seen, who, unit)),
+            Call::End => Ok(self.end(seen, who)),
             Call::Join => Ok(self.join(seen, who)),
             Call::Take { player, want } => self.take(seen, who, player, want),
             Call::Leave { player } => Ok(self.leave(seen, who, player)),
@@ -100,57 +114,57 @@ impl Stream {
         }
     }
 
-    fn begin(&mut self, seen: Snapshot<Entry>, who: u64) -> Result<Reply, OutOfMemory>
-        requires { (seen.value.who ≡ who) × (seen.value.call ≡ Call.Begin) }
-        ensures ok { IfOk result (λ r. (r ≡ reply self.old.limits self.old.past seen.value) × (self.new ≡ answered self.old seen.value r)) }
-        ensures err { OnErr result (self.new ≡ self.old) }
+    fn begin(&mut self, seen: Snapshot<Entry>, who: u64) -> Reply
+        requires call { (seen.value.who ≡ who) × (seen.value.call ≡ Call.Begin) }
+        requires few { length (items_of self.old.past) < 2 ^ 62 }
+        ensures { (result ≡ reply self.old.limits self.old.past seen.value) × (self.new ≡ answered self.old seen.value result) }
     {
         if let Some(by) = self.publisher {
-            return Ok(noted(&mut self.past, &mut self.tally, seen, Reply::InUse { by }));
+            return noted(&mut self.past, &mut self.tally, seen, Reply::InUse { by });
         }
-        let n = self.items.len() as u64;
-        self.items.push(Item::Begin)?;
+        let n = self.ring.end();
+        self.ring.push(Item::Begin);
         self.publisher = Some(who);
-        Ok(noted(&mut self.past, &mut self.tally, seen, Reply::Began { n }))
+        noted(&mut self.past, &mut self.tally, seen, Reply::Began { n })
     }
 
-    fn push(&mut self, seen: Snapshot<Entry>, who: u64, unit: UnitArc) -> Result<Reply, OutOfMemory>
-        requires { (seen.value.who ≡ who) × (seen.value.call ≡ Call.Push unit) }
-        ensures ok { IfOk result (λ r. (r ≡ reply self.old.limits self.old.past seen.value) × (self.new ≡ answered self.old seen.value r)) }
-        ensures err { OnErr result (self.new ≡ self.old) }
+    fn push(&mut self, seen: Snapshot<Entry>, who: u64, unit: UnitArc) -> Reply
+        requires call { (seen.value.who ≡ who) × (seen.value.call ≡ Call.Push unit) }
+        requires few { length (items_of self.old.past) < 2 ^ 62 }
+        ensures { (result ≡ reply self.old.limits self.old.past seen.value) × (self.new ≡ answered self.old seen.value result) }
     {
-        if self.publisher != Some(who) {
+        if !is_who(self.publisher, who) {
             let live = self.publisher;
-            return Ok(noted(
+            return noted(
                 &mut self.past,
                 &mut self.tally,
                 seen,
                 Reply::NotPublisher { live },
-            ));
+            );
         }
-        let n = self.items.len() as u64;
-        self.items.push(Item::Unit(unit))?;
-        Ok(noted(&mut self.past, &mut self.tally, seen, Reply::Pushed { n }))
+        let n = self.ring.end();
+        self.ring.push(Item::Unit(unit));
+        noted(&mut self.past, &mut self.tally, seen, Reply::Pushed { n })
     }
 
-    fn end(&mut self, seen: Snapshot<Entry>, who: u64) -> Result<Reply, OutOfMemory>
-        requires { (seen.value.who ≡ who) × (seen.value.call ≡ Call.End) }
-        ensures ok { IfOk result (λ r. (r ≡ reply self.old.limits self.old.past seen.value) × (self.new ≡ answered self.old seen.value r)) }
-        ensures err { OnErr result (self.new ≡ self.old) }
+    fn end(&mut self, seen: Snapshot<Entry>, who: u64) -> Reply
+        requires call { (seen.value.who ≡ who) × (seen.value.call ≡ Call.End) }
+        requires few { length (items_of self.old.past) < 2 ^ 62 }
+        ensures { (result ≡ reply self.old.limits self.old.past seen.value) × (self.new ≡ answered self.old seen.value result) }
     {
-        if self.publisher != Some(who) {
+        if !is_who(self.publisher, who) {
             let live = self.publisher;
-            return Ok(noted(
+            return noted(
                 &mut self.past,
                 &mut self.tally,
                 seen,
                 Reply::NotPublisher { live },
-            ));
+            );
         }
-        let n = self.items.len() as u64;
-        self.items.push(Item::End)?;
+        let n = self.ring.end();
+        self.ring.push(Item::End);
         self.publisher = None;
-        Ok(noted(&mut self.past, &mut self.tally, seen, Reply::Ended { n }))
+        noted(&mut self.past, &mut self.tally, seen, Reply::Ended { n })
     }
 
     fn join(&mut self, seen: Snapshot<Entry>, who: u64) -> Reply
@@ -160,8 +174,11 @@ impl Stream {
         match free_place(&self.places) {
             None => noted(&mut self.past, &mut self.tally, seen, Reply::Full),
             Some(place) => {
-                let from = join_place(&self.limits, &self.items);
-                self.places[place].join(who, from);
+                let from = join_place(&self.ring);
+                self.places[place] = Place {
+                    who: Some(who),
+                    cursor: Cursor::at(from),
+                };
                 let player = place as u32;
                 noted(
                     &mut self.past,
@@ -180,9 +197,11 @@ impl Stream {
         player: u32,
         want: Want,
     ) -> Result<Reply, OutOfMemory>
-        requires { (seen.value.who ≡ who) × (seen.value.call ≡ Call.Take player want) }
+        requires call { (seen.value.who ≡ who) × (seen.value.call ≡ Call.Take player want) }
+        requires few { length (items_of self.old.past) < 2 ^ 62 }
         ensures ok { IfOk result (λ r. (r ≡ reply self.old.limits self.old.past seen.value) × (self.new ≡ answered self.old seen.value r)) }
         ensures err { OnErr result (self.new ≡ self.old) }
+        ensures memory { OnErr result (IsSent (reply self.old.limits self.old.past seen.value)) }
     {
         let place = player as usize;
         if place >= self.places.len() {
@@ -192,7 +211,7 @@ impl Stream {
         if !state.is_held_by(who) {
             return Ok(noted(&mut self.past, &mut self.tally, seen, Reply::NotPlayer));
         }
-        let taken = answer(&self.limits, &self.items, state, want)?;
+        let taken = answer(&self.ring, &mut state.cursor, want)?;
         Ok(noted(&mut self.past, &mut self.tally, seen, taken.into_reply()))
     }
 
@@ -208,7 +227,7 @@ impl Stream {
         if !state.is_held_by(who) {
             return noted(&mut self.past, &mut self.tally, seen, Reply::NotPlayer);
         }
-        state.leave();
+        state.who = None;
         noted(
             &mut self.past,
             &mut self.tally,
@@ -242,23 +261,23 @@ fn noted(
 
 fn free_places(alloc: Global, count: u32) -> Result<Vec<Place>, OutOfMemory>
     ensures count { IfOk result (λ places. vec_len places ≡ count) }
-    ensures free { IfOk result (λ places. (p : ℕ) → slice_index_or places.items p free_state ≡ free_state) }
+    ensures free { IfOk result (λ places. (p : ℕ) → slice_index_or places.items p free_place ≡ free_place) }
 {
     let mut places = Vec::new(alloc);
     for _ in 0..count {
-        places.push(Place::free(alloc))?;
+        places.push(Place::free())?;
     }
     Ok(places)
 }
 
 // The least place that nobody holds.
 fn free_place(places: &[Place]) -> Option<usize>
-    ensures place { result ≡ free_place (λ p. (slice_index_or places.now p free_state).holder) (length places.now) }
+    ensures place { result ≡ least_free (λ p. (slice_index_or places.now p free_place).who) (length places.now) }
     ensures within { IfSome result (λ p. p < length places.now) }
 {
     let mut free = None;
     for (p, place) in places.iter().enumerate() {
-        if free.is_none() && place.holder().is_none() {
+        if free.is_none() && place.who.is_none() {
             free = Some(p);
         }
     }

@@ -7,7 +7,7 @@ use Rattle.stream_model.specs.declared.calls.Call.{Call}
 use Rattle.stream_model.specs.declared.calls.Call.TheVariants as call
 use Rattle.stream_model.specs.declared.calls.Entry.{Entry}
 use Rattle.stream_model.specs.declared.replies.Reply.{Reply}
-use Rattle.stream_model.specs.declared.replies.Reply.TheVariants.{Began, InUse, Pushed, NotPublisher, Ended, Joined, Full, NotPlayer, Left}
+use Rattle.stream_model.specs.declared.replies.Reply.TheVariants.{Began, InUse, Pushed, NotPublisher, Ended, Joined, Full, NotPlayer, Sent, Left}
 use Rattle.stream_model.specs.Window.{join}
 use Rattle.stream_model.specs.Spell.{spell, cursor, sent, reply_of}
 use Rattle.stream_model.specs.Take.{taken}
@@ -56,3 +56,8 @@ reply_to limits past who call.Count = counts_reply past
 
 abbrev pub reply : StreamLimits → History → Entry → Reply
 reply limits past entry = reply_to limits past entry.who entry.call
+
+-- an answer that gives an item
+abbrev pub IsSent : Reply → Type 0
+IsSent (Sent from n item) = Unit {0}
+IsSent _ = ⊥
