@@ -24,7 +24,7 @@ pub enum Mode {
     Digest,
 }
 
-// Whether the two are the same bytes. All bytes are compared, whichever differ.
+// Whether the two are the same bytes. Where they are as many, all are compared, whichever differ.
 fn is_same(kept: &[u8], asked: &[u8]) -> bool
     ensures { IsTrue result ↔ (asked.now ≡ kept.now) }
 {
@@ -61,7 +61,7 @@ fn have(grants: &Grants, bytes: &[u8]) -> bool
 
 /// Whether the grants are open or have the key: what is allowed in mode `Plain`.
 ///
-/// The key is compared with every key of the list, and with each in full.
+/// The key is compared with every key of the list, and in full with each of its length.
 pub fn by_name(grants: &Grants, key: &[u8]) -> bool
     ensures test { result ≡ is_allowed Mode.Plain grants.now key.now }
     ensures allowed { IsTrue result ↔ Allowed Mode.Plain grants.now key.now }
