@@ -1,0 +1,4 @@
+pub mod Crc
+pub mod Packet
+pub mod Header
+pub mod Tables

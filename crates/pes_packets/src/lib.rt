@@ -1,0 +1,17 @@
+//! The packets of a transport stream (ISO/IEC 13818-1): those of a section and of a PES packet, the header of a PES packet,
+//! and the check of a section.
+#![tactic(auto)]
+
+mod check;
+mod flags;
+mod header;
+mod packet;
+mod packets;
+
+pub use check::crc;
+pub use flags::PesFlags;
+pub use header::pes_header;
+pub use packets::{put_pes, put_section};
+
+#[cfg(test)]
+mod tests;
