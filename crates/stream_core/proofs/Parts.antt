@@ -61,7 +61,7 @@ parts_quiet {ring} {live} {places} {tally} {past} entry r after parts q law coun
 }
 
 -- an answer by the rules is the reply
-taken_law : {ring : RingKnown} {live : Option ℕ} {places : List Place} {tally : Tally} {past : History} (player : ℕ) (entry : Entry) (want : Want) (t : Taken) (old : Place) (new : CursorState) →
+pub taken_law : {ring : RingKnown} {live : Option ℕ} {places : List Place} {tally : Tally} {past : History} (player : ℕ) (entry : Entry) (want : Want) (t : Taken) (old : Place) (new : CursorState) →
     IsPast ring live places tally past → entry.call ≡ Take player want → Placed (items_of past) (holder past player) (spell past player) old → is_who old.who entry.who ≡ true →
     Answered ring (sent (spell past player)) want old.cursor new t → reply_of t ≡ reply ring.limits past entry
 taken_law {ring} {live} {places} {tally} {past} player entry want t old new parts call placed held a =

@@ -54,3 +54,8 @@ pub record Walked (items : List Item) (numbers : List ℕ) (want : Want) (old ne
 pub record Reached (items : List Item) (numbers : List ℕ) (want : Want) (old new : CursorState) : Type 0 where
   pub stands : StandsFor items numbers new
   pub same : first_taken (takes items numbers want) old.next (drop old.next items) ≡ first_taken (takes items numbers want) new.next (drop new.next items)
+
+-- of an answer that is given twice
+abbrev pub AnswersTwice : RingKnown → Want → CursorState → CursorState → Result (Taken × Taken) OutOfMemory → Type 0
+AnswersTwice ring want old new result = (numbers : List ℕ) → StandsFor ring.items numbers old →
+    MatchResult result (λ r. Answered ring numbers want old new r.0 × (r.1 ≡ r.0)) (λ _. Wanting ring numbers want old)

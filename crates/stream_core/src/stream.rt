@@ -6,10 +6,12 @@ ghost use Rattle.stream_model.specs.History.{items_of};
 ghost use Rattle.stream_model.specs.Known.{StreamKnown, answered, IsLawful};
 ghost use Rattle.stream_model.specs.Legal.{Legal};
 ghost use Rattle.stream_core.specs.Placed.{free_place};
+ghost use Rattle.stream_core.specs.Itemless.{Itemless};
 ghost use Rattle.stream_core.specs.Tally.{tally_after};
 
 use crate::place::{Place, is_who};
-use crate::take::{answer, join_place};
+use crate::shared::itemless_again;
+use crate::take::{answer, answer_twice, join_place};
 use crate::tally::Tally;
 use av_unit::{Item, OutOfMemory, UnitArc, Want};
 use past::{History, Pair};
@@ -76,6 +78,20 @@ impl Stream {
         reply
     }
 
+    /// The same with the reply given twice, for a port that keeps a journal. Both shares of a unit are taken first, and a
+    /// call so refused changes nothing.
+    pub fn apply_twice(&mut self, entry: Entry) -> Result<(Reply, Reply), OutOfMemory>
+        requires { length (items_of self.old.past) < 2 ^ 62 }
+        ensures ok { IfOk result (λ r. (r.0 ≡ reply self.old.limits self.old.past entry) × (self.new ≡ answered self.old entry r.0) × (r.1 ≡ r.0)) }
+        ensures err { OnErr result (self.new ≡ self.old) }
+        ensures memory { OnErr result (IsSent (reply self.old.limits self.old.past entry)) }
+        ensures viewers { (place : ℕ) → Legal self.new.limits self.new.past place }
+    {
+        let replies = self.answer_twice(entry);
+        self.history_law();
+        replies
+    }
+
     /// The lengths of the bodies of the items in the window and of the configurations in effect at its
     /// base, in bytes: at most the limit and 196,608, after any calls.
     pub fn held(&self) -> u64
@@ -111,6 +127,25 @@ impl Stream {
             Call::Take { player, want } => self.take(seen, who, player, want),
             Call::Leave { player } => Ok(self.leave(seen, who, player)),
             Call::Count => Ok(self.count(seen)),
+        }
+    }
+
+    fn answer_twice(&mut self, entry: Entry) -> Result<(Reply, Reply), OutOfMemory>
+        requires { length (items_of self.old.past) < 2 ^ 62 }
+        ensures ok { IfOk result (λ r. (r.0 ≡ reply self.old.limits self.old.past entry) × (self.new ≡ answered self.old entry r.0) × (r.1 ≡ r.0)) }
+        ensures err { OnErr result (self.new ≡ self.old) }
+        ensures memory { OnErr result (IsSent (reply self.old.limits self.old.past entry)) }
+    {
+        let seen = Snapshot::of(&entry);
+        let Entry { who, at: _, call } = entry;
+        match call {
+            Call::Begin => Ok(twice(self.begin(seen, who))),
+            Call::Push(unit) => Ok(twice(self.push(seen, who, unit))),
+            Call::End => Ok(twice(self.end(seen, who))),
+            Call::Join => Ok(twice(self.join(seen, who))),
+            Call::Take { player, want } => self.take_twice(seen, who, player, want),
+            Call::Leave { player } => Ok(twice(self.leave(seen, who, player))),
+            Call::Count => Ok(twice(self.count(seen))),
         }
     }
 
@@ -215,6 +250,34 @@ impl Stream {
         Ok(noted(&mut self.past, &mut self.tally, seen, taken.into_reply()))
     }
 
+    fn take_twice(
+        &mut self,
+        seen: Snapshot<Entry>,
+        who: u64,
+        player: u32,
+        want: Want,
+    ) -> Result<(Reply, Reply), OutOfMemory>
+        requires call { (seen.value.who ≡ who) × (seen.value.call ≡ Call.Take player want) }
+        requires few { length (items_of self.old.past) < 2 ^ 62 }
+        ensures ok { IfOk result (λ r. (r.0 ≡ reply self.old.limits self.old.past seen.value) × (self.new ≡ answered self.old seen.value r.0) × (r.1 ≡ r.0)) }
+        ensures err { OnErr result (self.new ≡ self.old) }
+        ensures memory { OnErr result (IsSent (reply self.old.limits self.old.past seen.value)) }
+    {
+        let place = player as usize;
+        if place >= self.places.len() {
+            return Ok(twice(noted(&mut self.past, &mut self.tally, seen, Reply::NotPlayer)));
+        }
+        let state = &mut self.places[place];
+        if !state.is_held_by(who) {
+            return Ok(twice(noted(&mut self.past, &mut self.tally, seen, Reply::NotPlayer)));
+        }
+        let (taken, again) = answer_twice(&self.ring, &mut state.cursor, want)?;
+        Ok((
+            noted(&mut self.past, &mut self.tally, seen, taken.into_reply()),
+            again.into_reply(),
+        ))
+    }
+
     fn leave(&mut self, seen: Snapshot<Entry>, who: u64, player: u32) -> Reply
         requires { (seen.value.who ≡ who) × (seen.value.call ≡ Call.Leave player) }
         ensures { (result ≡ reply self.old.limits self.old.past seen.value) × (self.new ≡ answered self.old seen.value result) }
@@ -243,6 +306,15 @@ impl Stream {
         let reply = self.tally.reply();
         noted(&mut self.past, &mut self.tally, seen, reply)
     }
+}
+
+// A reply without an item, twice.
+fn twice(reply: Reply) -> (Reply, Reply)
+    requires { Itemless reply }
+    ensures { (result.0 ≡ reply) × (result.1 ≡ reply) }
+{
+    let again = itemless_again(&reply);
+    (reply, again)
 }
 
 // The reply, which is counted, and which the past has from then on.

@@ -10,9 +10,9 @@ ghost use Rattle.stream_model.specs.Items.{config_at};
 ghost use Rattle.stream_model.specs.Answer.{IsSent};
 ghost use Rattle.stream_model.specs.Spell.{reply_of};
 ghost use Rattle.player_cursor.specs.StandsFor.{StandsFor};
-ghost use Rattle.stream_core.specs.Answers.{Answers, Walked};
+ghost use Rattle.stream_core.specs.Answers.{Answers, AnswersTwice, Walked};
 
-use crate::shared::item_again;
+use crate::shared::{item_again, taken_again};
 use av_unit::{Head, Item, OutOfMemory, Slot, UnitArc, Want};
 use player_cursor::Cursor;
 use stream_model::Taken;
@@ -150,4 +150,22 @@ pub fn answer(ring: &Ring, cursor: &mut Cursor, want: Want) -> Result<Taken, Out
     let taken = take_next(ring, &mut moved, want)?;
     *cursor = moved;
     Ok(taken)
+}
+
+/// The same with the answer given twice: both shares of a unit are taken before the cursor moves.
+pub fn answer_twice(
+    ring: &Ring,
+    cursor: &mut Cursor,
+    want: Want,
+) -> Result<(Taken, Taken), OutOfMemory>
+    requires within { cursor.old.next ≤ length ring.now.items }
+    requires few { length ring.now.items < 3 * 2 ^ 62 }
+    ensures answers { AnswersTwice ring.now want cursor.old cursor.new result }
+    ensures err { OnErr result (cursor.new ≡ cursor.old) }
+{
+    let mut moved = *cursor;
+    let taken = take_next(ring, &mut moved, want)?;
+    let again = taken_again(&taken)?;
+    *cursor = moved;
+    Ok((taken, again))
 }
