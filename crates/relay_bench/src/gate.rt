@@ -33,9 +33,15 @@ impl Machine for Counter {
 
     type Reply = u64;
 
+    type About = ();
+
+    ghost about = { λ _. tt };
+
+    ghost any = { tt };
+
     ghost stands = { λ x h. Sums x.sum h };
 
-    ghost lawful = { IsLawful };
+    ghost lawful = { λ _. IsLawful };
 
     fn apply(&mut self, call: u64) -> u64 {
         self.add(call)
@@ -46,14 +52,14 @@ impl Machine for Counter {
 
 /// A thread at the gate.
 #[derive(Drop)]
-struct AtGate {
-    gate: Arc<Gate<Counter>, Global>,
-    pass: Pass<Counter>,
+struct AtGate<T: Machine + Drop> {
+    gate: Arc<Gate<T>, Global>,
+    pass: Pass<T>,
     busy: u64,
     ghost fits: { pass.gate ≡ arc_value gate },
 }
 
-impl AtGate {
+impl AtGate<Counter> {
     fn is_answered(&mut self) -> bool {
         self.gate.call(&mut self.pass, 1).is_ok()
     }
@@ -90,8 +96,8 @@ impl AtMutex {
     }
 }
 
-fn at_gate(alloc: Global, threads: u64) -> Result<Vec<AtGate>, AllocError> {
-    let (gate, mut root) = Gate::new(alloc, Counter { sum: 0 })?;
+fn at_gate(alloc: Global, threads: u64) -> Result<Vec<AtGate<Counter>>, AllocError> {
+    let (gate, mut root) = Gate::new(alloc, Counter { sum: 0 }, &())?;
     let gate = Arc::new(alloc, gate)?;
     let mut callers = Vec::new(alloc);
     for _ in 0..threads {

@@ -1,5 +1,5 @@
 -- Histories, the oldest call first, and places in them. A place is the number of calls before it
-use Rattle.std.specs.Prelude.{◌≡◌, ℕ, ◌+◌, ◌<◌, ◌≤◌, if◌then◌else◌, nat_eq, nat_lt, List, [], ◌∷◌, ◌++◌, length}
+use Rattle.std.specs.Prelude.{◌≡◌, ℕ, ◌+◌, ◌<◌, ◌≤◌, if◌then◌else◌, nat_eq, nat_lt, List, [], ◌∷◌, ◌++◌, length, Option, Some, None}
 
 -- the second list begins with the first
 abbrev pub Begins : {E : Type 0} → List E → List E → Type 0
@@ -13,6 +13,16 @@ module _ {E : Type 0} where
   -- the one that `longer` isn't
   abbrev pub shorter : List E → List E → List E
   shorter xs ys = if nat_lt (length xs) (length ys) then xs else ys
+
+  -- a history after a call, or after none
+  abbrev pub grown : List E → Option E → List E
+  grown h None = h
+  grown h (Some e) = h ++ e ∷ []
+
+  -- own places after it, where the call got this place
+  abbrev pub placed : List ℕ → ℕ → Option E → List ℕ
+  placed mine place None = mine
+  placed mine place (Some e) = mine ++ place ∷ []
 
 -- the sum of a number of each
 abbrev pub total : {A : Type 0} → (A → ℕ) → List A → ℕ

@@ -1,10 +1,11 @@
--- What lies in the slot of the turn table while it is at home
-use Rattle.std.specs.Prelude.{◌≡◌, true, List, [], ◌∷◌}
-use Rattle.atomic_table.specs.declared.shared.Seat.{Seat}
-use Rattle.turn_gate.specs.declared.view.Count.{Count}
+-- What lies in the slot while it is at home
+use Rattle.std.specs.Prelude.{◌≡◌, ◌^◌, ◌≤◌, List, length}
 use Rattle.turn_gate.specs.declared.view.Kept.{Kept}
 
-module _ {T C R S : Type 0} (stands : T → List (C × R) → Type 0) where
-  -- the keeper is a seat of the count table that `key` names, it has handed out its last call, and the machine stands for the whole history that it knows
-  abbrev pub InSlot : Seat S (Count C R) → Kept T C R → Type 0
-  InSlot key x = (x.keeper.table_id ≡ key.table_id) × ((v : Count C R) × (x.keeper.views ≡ v ∷ []) × (v.keeps ≡ true) × (v.fresh ≡ []) × stands x.machine v.whole)
+module _ {T C R A : Type 0} (stands : T → List (C × R) → Type 0) (about : T → A) where
+  -- the machine is the one that the key tells of, it stands for this history, and the number beside it is that of the calls
+  pub record InSlot (key : A) (kept : Kept T) (h : List (C × R)) : Type 0 where
+    pub about_is : about kept.machine ≡ key
+    pub stood : stands kept.machine h
+    pub counted : kept.calls ≡ length h
+    pub bounded : length h ≤ 2 ^ 62

@@ -1,49 +1,131 @@
--- The turn table. It has one word, the turn word, and one slot, where the machine lies with the keeper.
+-- The gate's table. It has one word, the turn word, and one slot, where the machine lies with the number of its calls.
 -- Each pass has a seat of it. What such a seat knows is its view.
-use Rattle.std.specs.Prelude.{◌≡◌, ◌≢◌, ℕ, ◌+◌, Bool, true, false, List, [], ◌∷◌, length, slice_index, Option, Some}
+use Rattle.std.specs.Prelude.{◌≡◌, ◌≢◌, ℕ, ◌+◌, ◌<◌, ◌≤◌, Bool, true, false, List, [], ◌∷◌, ◌++◌, length, slice_index, Option, Some, None}
 use mathlib.Core.Option.{some}
 use lib.ListN.{get_elem?}
 use Rattle.atomic_table.specs.Table.{State, Me}
-use Rattle.turn_gate.specs.declared.view.Turn.{Turn}
+use Rattle.turn_gate.specs.declared.view.View.{View}
+use Rattle.turn_gate.specs.Histories.{Begins, longer, shorter, grown, placed, total, times, AreOwn}
 
-module _ {K : Type 0} where
-  abbrev pub turn : Bool → ℕ → K → Turn K
-  turn holds met of = record { holds = holds; met = met; of = of }
+-- what never changes of the machine, as a seat of the gate knows it
+abbrev pub about_of : {A : Type 0} → A → Option A → A
+about_of any None = any
+about_of any (Some a) = a
 
-  -- a new pass doesn't hold the turn, and has met nobody
-  abbrev pub newcomer : Turn K → Turn K
-  newcomer v = turn false 0 v.of
+module _ {C R A : Type 0} where
+  abbrev pub view : Bool → ℕ → ℕ → Option A → List (C × R) → List (C × R) → List (C × R) → List ℕ → View C R A
+  view holds met cut of whole noted seen mine =
+      record { holds = holds; met = met; cut = cut; of = of; whole = whole; noted = noted; seen = seen; mine = mine }
+
+  -- the first pass, before any call
+  abbrev pub opener : A → View C R A
+  opener of = view false 0 0 (Some of) [] [] [] []
+
+  -- a new pass has seen what the old one had
+  abbrev pub newcomer : View C R A → View C R A
+  newcomer v = view false 0 0 v.of [] [] v.seen []
+
+  -- and one seat more was cut off from the old one
+  abbrev pub cutting : View C R A → View C R A
+  cutting v = view v.holds v.met (v.cut + 1) v.of v.whole v.noted v.seen v.mine
+
+  -- a seat hands out all that it has, its own calls too
+  abbrev pub handed : View C R A → View C R A
+  handed v = view false 0 0 v.of [] [] v.seen v.mine
+
+  -- and is left with what it has seen
+  abbrev pub handing : View C R A → View C R A
+  handing v = view v.holds v.met (v.cut + 1) v.of v.whole v.noted v.seen []
+
+  -- what a seat knows that was joined into another
+  abbrev pub spent : View C R A
+  spent = view false 0 0 None [] [] [] []
+
+  -- a seat takes in another, from which none was cut off: the longer of both is seen, the other one noted
+  abbrev pub taking : View C R A → View C R A → View C R A
+  taking v w = view v.holds v.met v.cut v.of v.whole (shorter v.seen w.seen) (longer v.seen w.seen) (v.mine ++ w.mine)
+
+  -- a seat notes what another has seen
+  abbrev pub noting : View C R A → View C R A → View C R A
+  noting v w = view v.holds v.met v.cut v.of v.whole w.seen v.seen v.mine
+
+  -- it takes the turn, at this history
+  abbrev pub seizing : View C R A → List (C × R) → View C R A
+  seizing v h = view true v.met v.cut v.of h v.noted v.seen v.mine
+
+  -- it has met another that holds the turn
+  abbrev pub meeting : View C R A → View C R A
+  meeting v = view false (v.met + 1) v.cut v.of v.whole v.noted v.seen v.mine
+
+  -- it gives the turn back, and has seen the whole history, with the call that it made
+  abbrev pub freeing : Option (C × R) → View C R A → View C R A
+  freeing said v = view false v.met v.cut v.of [] [] (grown v.whole said) (placed v.mine (length v.whole) said)
+
+  -- how often a view claims a place
+  abbrev pub claims : ℕ → View C R A → ℕ
+  claims p v = times p v.mine
+
+  -- What the rule says of each view, where the history of all calls is this one
+  pub record Fits (key : A) (whole : List (C × R)) (v : View C R A) : Type 0 where
+    -- it is of this gate
+    pub named : (a : A) → v.of ≡ Some a → a ≡ key
+    -- where it holds the turn it has the whole history
+    pub holding : v.holds ≡ true → v.whole ≡ whole
+    -- what is seen, and what is noted, is a beginning of it
+    pub seen_begins : Begins v.seen whole
+    pub noted_begins : Begins v.noted whole
+    -- own calls have places in what is seen
+    pub own : (p : ℕ) → 0 < times p v.mine → p < length v.seen
+
+  -- Every seat but the first was cut off from one, and none yet from the newest
+  pub record Cuts (views : List (View C R A)) : Type 0 where
+    pub all : length views ≡ 1 + total (λ v. v.cut) views
+    pub newest : (j : ℕ) (v : View C R A) → get_elem? views j ≡ some v → j + 1 ≡ length views → v.cut ≡ 0
 
   -- just one view holds the turn
-  abbrev pub OneHolds : List (Turn K) → Type 0
-  OneHolds views = (k : ℕ) × (holder : Turn K) × (get_elem? views k ≡ some holder) × (holder.holds ≡ true) × ((j : ℕ) (v : Turn K) → get_elem? views j ≡ some v → v.holds ≡ true → j ≡ k)
+  abbrev pub OneHolds : List (View C R A) → Type 0
+  OneHolds views = (k : ℕ) × (holder : View C R A) × (get_elem? views k ≡ some holder) × (holder.holds ≡ true)
+      × ((j : ℕ) (v : View C R A) → get_elem? views j ≡ some v → v.holds ≡ true → j ≡ k)
 
   -- no view holds the turn
-  abbrev pub NoneHolds : List (Turn K) → Type 0
-  NoneHolds views = (j : ℕ) (v : Turn K) → get_elem? views j ≡ some v → v.holds ≡ false
+  abbrev pub NoneHolds : List (View C R A) → Type 0
+  NoneHolds views = (j : ℕ) (v : View C R A) → get_elem? views j ≡ some v → v.holds ≡ false
 
-  module _ {H : Type 0} (fits : K → H → Type 0) where
-    -- The rule of the turn table, which holds at every moment.
-    -- The key names the count table of the gate. `fits key` is what is said of a machine and keeper that lie in the slot.
-    -- Nothing is asked of a slot that is out: the pass that holds the turn has its value in hand.
-    pub record TurnRule (key : K) (s : State (Option H) (Turn K)) : Type 0 where
+  module _ {H : Type 0} (inside : A → H → List (C × R) → Type 0) where
+    -- The rule, which holds at every moment. `inside key` is what is said of what lies in the slot, at a history.
+    -- Nothing is asked of a slot that is out: the pass that holds the turn has its value in hand, and the history stays.
+    pub record TurnRule (key : A) (s : State (Option H) (View C R A)) : Type 0 where
       pub one_word : length s.words ≡ 1
       pub one_slot : length s.homes ≡ 1
-      -- every view is of this gate
-      pub named : (j : ℕ) (v : Turn K) → get_elem? s.views j ≡ some v → v.of ≡ key
-      -- a slot at home holds a machine and a keeper that fit
-      pub at_home : (x : Option H) → get_elem? s.homes 0 ≡ some (some x) → (value : H) × (x ≡ Some value) × fits key value
+      -- the history of all calls
+      pub whole : List (C × R)
+      pub each : (j : ℕ) (v : View C R A) → get_elem? s.views j ≡ some v → Fits key whole v
+      -- no place stands in the own calls of two, or twice in those of one
+      pub once : (p : ℕ) → total (claims p) s.views ≤ 1
+      pub cuts : Cuts s.views
       -- where the word is 0 the slot is at home, and nobody holds the turn
-      pub free : slice_index s.words 0 ≡ 0 → ((x : Option H) × (get_elem? s.homes 0 ≡ some (some x))) × NoneHolds s.views
+      pub free : slice_index s.words 0 ≡ 0 → ((x : H) × (get_elem? s.homes 0 ≡ some (some (Some x))) × inside key x whole) × NoneHolds s.views
       -- where the word isn't 0 it is 1, and just one holds the turn
       pub held : slice_index s.words 0 ≢ 0 → (slice_index s.words 0 ≡ 1) × OneHolds s.views
 
-    -- What a swap that writes 1 tells, where it found the number r: by 0 the pass has the turn and the slot, else `met` rises
-    abbrev pub Seizes : Me (Option H) (Turn K) → ℕ → Me (Option H) (Turn K) → Type 0
-    Seizes m r n = (r ≡ 0 → (n.0 ≡ turn true m.0.met m.0.of) × ((value : H) × (n.1 ≡ (0, Some value) ∷ []) × fits m.0.of value))
-        × (r ≢ 0 → (n.0 ≡ turn false (m.0.met + 1) m.0.of) × (n.1 ≡ []))
+    -- by a swap that found 0 a seat has the turn and the slot, at this history
+    pub record Seized (m n : Me (Option H) (View C R A)) : Type 0 where
+      pub history : List (C × R)
+      pub value : H
+      pub view_is : n.0 ≡ seizing m.0 history
+      pub slot : n.1 ≡ (0, Some value) ∷ []
+      pub fits : (a : A) → m.0.of ≡ Some a → inside a value history
+      pub begins : Begins m.0.seen history
+
+    -- What a swap that writes 1 tells, where it found the number r
+    abbrev pub Seizes : Me (Option H) (View C R A) → ℕ → Me (Option H) (View C R A) → Type 0
+    Seizes m r n = (r ≡ 0 → Seized m n) × (r ≢ 0 → (n.0 ≡ meeting m.0) × (n.1 ≡ []))
 
   module _ {H : Type 0} where
-    -- what the swap that writes 0 tells: the turn and the slot are given back
-    abbrev pub Frees : Me (Option H) (Turn K) → Me (Option H) (Turn K) → Type 0
-    Frees m n = (n.0 ≡ turn false m.0.met m.0.of) × (n.1 ≡ [])
+    -- What the swap that writes 0 tells: the turn and the slot are given back, and what was noted began the history
+    abbrev pub Frees : Option (C × R) → Me (Option H) (View C R A) → Me (Option H) (View C R A) → Type 0
+    Frees said m n = (n.0 ≡ freeing said m.0) × (n.1 ≡ []) × Begins m.0.noted m.0.whole
+
+    -- what a load tells a pass that has taken in another
+    abbrev pub Learns : Me (Option H) (View C R A) → Me (Option H) (View C R A) → Type 0
+    Learns m n = (n ≡ m) × (length m.0.noted ≤ length m.0.seen → Begins m.0.noted m.0.seen) × AreOwn m.0.mine (length m.0.seen)

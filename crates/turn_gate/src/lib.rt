@@ -5,7 +5,7 @@ mod gate;
 mod machine;
 mod pass;
 mod rule;
-mod steps;
+mod serve;
 #[cfg(test)]
 mod tests;
 mod view;

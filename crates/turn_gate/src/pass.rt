@@ -3,29 +3,28 @@ ghost use Rattle.std.specs.Prelude.{◌≡◌, length, false};
 ghost use Rattle.turn_gate.specs.Histories.{AreOwn};
 
 use crate::machine::Machine;
-use crate::rule::Mark;
-use crate::view::{Kept, Turn};
+use crate::view::{Kept, View};
 use atomic_table::Seat;
 use std::marker::Model;
 
 /// The right to call a gate. It has seen a beginning of the gate's history.
 #[derive(Drop)]
 pub struct Pass<T: Machine> {
-    pub(crate) turn: Seat<Option<Kept<T, T::Call, T::Reply>>, Turn<Mark<T::Call, T::Reply>>>,
-    pub(crate) count: Mark<T::Call, T::Reply>,
+    pub(crate) seat: Seat<Option<Kept<T>>, View<T::Call, T::Reply, T::About>>,
     pub(crate) calls: u64,
 }
 
 impl<T: Machine> Model for Pass<T> {
-    ghost use Rattle.std.specs.Prelude.{◌≡◌, false, length, []};
+    ghost use Rattle.std.specs.Prelude.{◌≡◌, false, length, [], Some};
     ghost use Rattle.turn_gate.specs.Histories.{AreOwn};
-    ghost use Rattle.turn_gate.specs.Known.{Known};
+    ghost use Rattle.turn_gate.specs.TurnTable.{about_of};
+    ghost use Rattle.turn_gate.specs.Known.{PassKnown};
 
-    ghost Value = { Known (T.Call × T.Reply) };
+    ghost Value = { PassKnown T.About (T.Call × T.Reply) };
 
-    ghost view = { λ p. record { gate = record { turns = p.turn.table_id; counts = p.count.table_id }; holds = p.turn.me.0.holds; met = p.turn.me.0.met; seen = p.count.me.0.seen; mine = p.count.me.0.mine } };
+    ghost view = { λ p. record { gate = record { table = p.seat.table_id; about = about_of T.any p.seat.me.0.of }; holds = p.seat.me.0.holds; met = p.seat.me.0.met; cut = p.seat.me.0.cut; seen = p.seat.me.0.seen; mine = p.seat.me.0.mine } };
 
-    ghost invariant = { λ p. (p.turn.me.1 ≡ []) × (p.turn.me.0.holds ≡ false) × (p.turn.me.0.of.table_id ≡ p.count.table_id) × (p.count.me.1 ≡ []) × (p.count.me.0.keeps ≡ false) × (p.count.me.0.fresh ≡ []) × (p.calls ≡ length p.count.me.0.seen) × AreOwn p.count.me.0.mine (length p.count.me.0.seen) × T.lawful p.count.me.0.seen };
+    ghost invariant = { λ p. (p.seat.me.1 ≡ []) × (p.seat.me.0.holds ≡ false) × (p.seat.me.0.of ≡ Some (about_of T.any p.seat.me.0.of)) × (p.calls ≡ length p.seat.me.0.seen) × AreOwn p.seat.me.0.mine (length p.seat.me.0.seen) × T.lawful (about_of T.any p.seat.me.0.of) p.seat.me.0.seen };
 }
 
 impl<T: Machine> Pass<T> {
@@ -33,7 +32,7 @@ impl<T: Machine> Pass<T> {
     /// there, and it doesn't hold the turn.
     pub fn seen(&self) -> u64
         ensures count { result ≡ length self.now.seen }
-        ensures lawful { T.lawful self.now.seen }
+        ensures lawful { T.lawful self.now.gate.about self.now.seen }
         ensures own { AreOwn self.now.mine (length self.now.seen) }
         ensures idle { self.now.holds ≡ false }
     {

@@ -1,5 +1,6 @@
 //! Threads at one gate.
 ghost use Rattle.std.specs.Prelude.{◌≡◌, [], IfOk};
+ghost use Rattle.std.specs.Arc.{arc_value};
 ghost use Rattle.turn_gate.specs.Numbers.{Lists, IsAnswered, last_number};
 
 use super::*;
@@ -15,20 +16,28 @@ const TRIES: u64 = 1 << 28;
 
 const CALLS: u64 = 1000;
 
+const NAME: u64 = 77;
+
 type Reply = Option<(u64, u64)>;
 
-/// A list of numbers. A call adds one, and is answered by its place and the last number before it.
+/// A list of numbers with a name. A call adds one, and is answered by its place and the last number before it, which for
+/// the first is the name.
 #[derive(Drop)]
 struct Numbers {
+    name: u64,
     list: Vec<u64>,
 }
 
 impl Numbers {
     fn last(&self) -> u64
-        ensures { result ≡ last_number self.now.list.items }
+        ensures { result ≡ last_number self.now.name self.now.list.items }
     {
         let len = self.list.len();
-        if len == 0 { 0 } else { self.list[len - 1] }
+        if len == 0 {
+            self.name
+        } else {
+            self.list[len - 1]
+        }
     }
 }
 
@@ -37,9 +46,15 @@ impl Machine for Numbers {
 
     type Reply = Reply;
 
-    ghost stands = { λ x h. Lists x.list.items h };
+    type About = u64;
 
-    ghost lawful = { IsAnswered [] };
+    ghost about = { λ x. x.name };
+
+    ghost any = { 0 };
+
+    ghost stands = { λ x h. Lists x.name x.list.items h };
+
+    ghost lawful = { λ name. IsAnswered name [] };
 
     fn apply(&mut self, call: u64) -> Reply {
         let place = self.list.len();
@@ -56,12 +71,11 @@ impl Machine for Numbers {
 fn new_gate(alloc: Global) -> Result<(Gate<Numbers>, Pass<Numbers>), AllocError>
     ensures { IfOk result (λ r. r.1.gate ≡ r.0) }
 {
-    Gate::new(
-        alloc,
-        Numbers {
-            list: Vec::new(alloc),
-        },
-    )
+    let numbers = Numbers {
+        name: NAME,
+        list: Vec::new(alloc),
+    };
+    Gate::new(alloc, numbers, &NAME)
 }
 
 /// Makes a call again while the gate is busy.
@@ -77,6 +91,35 @@ fn add(gate: &Gate<Numbers>, pass: &mut Pass<Numbers>, number: u64) -> Reply
         }
     }
     None
+}
+
+/// Makes one call where there is memory for a gate and for the number.
+#[test]
+fn a_gate_is_made_where_there_is_memory(rt: HostRuntime) -> Result<(), Fail> {
+    match new_gate(rt.alloc()) {
+        Ok((gate, mut pass)) => {
+            let reply = add(&gate, &mut pass, 5);
+            assert!(rt; reply == Some((0, NAME)) || reply.is_none());
+            assert_eq!(rt; pass.seen(), 1);
+        }
+        Err(AllocError) => {}
+    }
+    Ok(())
+}
+
+#[test]
+fn a_call_after_the_root_comes_behind_what_it_has_seen(rt: HostRuntime) -> Result<(), Fail> {
+    let (gate, mut root) = new_gate(rt.alloc())?;
+    let mut pass = gate.split(&mut root);
+    assert_eq!(rt; add(&gate, &mut root, 5), Some((0, NAME)));
+    assert_eq!(rt; pass.seen(), 0);
+    assert_eq!(rt;
+        gate.call_after(&mut root, &mut pass, 6).ok(),
+        Some(Some((1, 5)))
+    );
+    assert_eq!(rt; pass.seen(), 2);
+    assert_eq!(rt; root.seen(), 1);
+    Ok(())
 }
 
 fn is_send<X: Send>() {}
@@ -98,7 +141,7 @@ where
 fn a_split_pass_has_seen_the_call_in_another_thread(rt: HostRuntime) -> Result<(), Fail> {
     cross_threads::<Numbers>();
     let (gate, mut mine) = new_gate(rt.alloc())?;
-    assert_eq!(rt; add(&gate, &mut mine, 7), Some((0, 0)));
+    assert_eq!(rt; add(&gate, &mut mine, 7), Some((0, NAME)));
     assert_eq!(rt; mine.seen(), 1);
     let mut theirs = gate.split(&mut mine);
     let (seen, reply) = thread::join(&rt, || (theirs.seen(), add(&gate, &mut theirs, 8)), || ()).0;
@@ -107,49 +150,74 @@ fn a_split_pass_has_seen_the_call_in_another_thread(rt: HostRuntime) -> Result<(
     Ok(())
 }
 
-/// What one thread did: its pass, and its numbers with their replies.
+/// A thread's way to a gate.
+#[derive(Drop)]
+struct Caller<T: Machine + Drop> {
+    gate: Arc<Gate<T>, Global>,
+    pass: Pass<T>,
+    ghost fits: { pass.gate ≡ arc_value gate },
+}
+
+fn new_caller<T: Machine + Drop>(
+    gate: &Arc<Gate<T>, Global>,
+    root: &mut Pass<T>,
+) -> Result<Caller<T>, AllocError>
+    requires { root.old.gate ≡ arc_value gate.now }
+    ensures root { root.new.gate ≡ root.old.gate }
+    ensures gate { IfOk result (λ c. c.pass.gate ≡ root.old.gate) }
+{
+    let arc = Arc::try_clone(gate)?;
+    let pass = gate.split(root);
+    Ok(Caller { gate: arc, pass })
+}
+
+/// What one thread did: its numbers with their replies.
 #[derive(Drop)]
 struct Done {
-    pass: Pass<Numbers>,
+    caller: Caller<Numbers>,
     replies: Vec<(u64, Reply)>,
 }
 
 /// Adds many numbers, which tell the thread and the order.
-fn add_all(
-    alloc: Global,
-    gate: &Gate<Numbers>,
-    mut pass: Pass<Numbers>,
-    thread: u64,
-) -> Result<Done, AllocError>
-    requires { pass.gate ≡ gate.now }
-    ensures { IfOk result (λ d. d.pass.gate ≡ gate.now) }
+fn add_all(alloc: Global, caller: Caller<Numbers>, thread: u64) -> Result<Done, AllocError>
+    ensures { IfOk result (λ d. d.caller.pass.gate ≡ caller.pass.gate) }
 {
+    let Caller { gate, mut pass } = caller;
     let mut replies = Vec::new(alloc);
     for k in 0..CALLS {
         let number = thread.wrapping_mul(CALLS).wrapping_add(k);
-        let reply = add(gate, &mut pass, number);
+        let reply = add(&gate, &mut pass, number);
         replies.push((number, reply))?;
     }
-    Ok(Done { pass, replies })
+    let caller = Caller { gate, pass };
+    Ok(Done { caller, replies })
 }
 
 fn two_threads<R: Threads + Sync>(
     rt: &R,
     alloc: Global,
-    gate: &Gate<Numbers>,
-    passes: (Pass<Numbers>, Pass<Numbers>),
+    callers: (Caller<Numbers>, Caller<Numbers>),
     thread: u64,
 ) -> Result<(Done, Done), AllocError>
-    requires { (passes.0.gate ≡ gate.now) × (passes.1.gate ≡ gate.now) }
-    ensures { IfOk result (λ r. (r.0.pass.gate ≡ gate.now) × (r.1.pass.gate ≡ gate.now)) }
+    ensures { IfOk result (λ r. (r.0.caller.pass.gate ≡ callers.0.pass.gate) × (r.1.caller.pass.gate ≡ callers.1.pass.gate)) }
 {
-    let (one, other) = passes;
+    let (one, other) = callers;
     let (one, other) = thread::join(
         rt,
-        || add_all(alloc, gate, one, thread),
-        || add_all(alloc, gate, other, thread.wrapping_add(1)),
+        || add_all(alloc, one, thread),
+        || add_all(alloc, other, thread.wrapping_add(1)),
     );
     Ok((one?, other?))
+}
+
+fn take_in(gate: &Gate<Numbers>, root: &mut Pass<Numbers>, done: Done)
+    requires { (root.old.gate ≡ gate.now) × (done.caller.pass.gate ≡ gate.now) }
+    ensures { root.new.gate ≡ root.old.gate }
+{
+    let Done { caller, replies: _ } = done;
+    let Caller { gate: arc, pass } = caller;
+    drop(arc);
+    gate.join(root, pass);
 }
 
 /// Puts each call at its place. Says whether each place was free, and the thread's calls are in their order.
@@ -184,12 +252,13 @@ fn answers_alike(gate: &Gate<Numbers>, pass: &mut Pass<Numbers>, order: &[(u64, 
 fn four_threads_have_one_history(rt: HostRuntime) -> Result<(), Fail> {
     let alloc = rt.alloc();
     let (gate, mut root) = new_gate(alloc)?;
-    let near = (gate.split(&mut root), gate.split(&mut root));
-    let far = (gate.split(&mut root), gate.split(&mut root));
+    let gate = Arc::new(alloc, gate)?;
+    let near = (new_caller(&gate, &mut root)?, new_caller(&gate, &mut root)?);
+    let far = (new_caller(&gate, &mut root)?, new_caller(&gate, &mut root)?);
     let (near, far) = thread::join(
         &rt,
-        || two_threads(&rt, alloc, &gate, near, 0),
-        || two_threads(&rt, alloc, &gate, far, 2),
+        || two_threads(&rt, alloc, near, 0),
+        || two_threads(&rt, alloc, far, 2),
     );
     let (a, b) = near?;
     let (c, d) = far?;
@@ -197,10 +266,10 @@ fn four_threads_have_one_history(rt: HostRuntime) -> Result<(), Fail> {
     for done in [&a, &b, &c, &d] {
         assert!(rt; put_in_place(done, order.as_mut_slice()));
     }
-    gate.join(&mut root, a.pass);
-    gate.join(&mut root, b.pass);
-    gate.join(&mut root, c.pass);
-    gate.join(&mut root, d.pass);
+    take_in(&gate, &mut root, a);
+    take_in(&gate, &mut root, b);
+    take_in(&gate, &mut root, c);
+    take_in(&gate, &mut root, d);
     assert_eq!(rt; root.seen(), 4000);
     // One thread that makes the calls in that order has the same replies.
     let (alone, mut pass) = new_gate(alloc)?;
@@ -220,9 +289,15 @@ impl Machine for Slow {
 
     type Reply = u64;
 
+    type About = ();
+
+    ghost about = { λ _. tt };
+
+    ghost any = { tt };
+
     ghost stands = { λ _ _. Unit {0} };
 
-    ghost lawful = { λ _. Unit {0} };
+    ghost lawful = { λ _ _. Unit {0} };
 
     fn apply(&mut self, call: u64) -> u64 {
         self.entered.store(1, Ordering::SeqCst);
@@ -275,7 +350,7 @@ fn a_call_is_busy_while_another_is_made_and_not_after(rt: HostRuntime) -> Result
         entered: Arc::try_clone(&entered)?,
         leave: Arc::try_clone(&leave)?,
     };
-    let (gate, mut one) = Gate::new(rt.alloc(), machine)?;
+    let (gate, mut one) = Gate::new(rt.alloc(), machine, &())?;
     let other = gate.split(&mut one);
     let ((mut one, slow), (mut other, busy)) = thread::join(
         &rt,

@@ -3,14 +3,16 @@ use Rattle.turn_gate.specs.Numbers.{Lists}
 use Rattle.turn_gate.proofs.Listing.{lists_more}
 use Rattle.turn_gate.proofs.tests.NumbersMachine.apply.Goals as goal
 
-pub returns-in-Ok : goal.returns-in-Ok
-returns-in-Ok c = λ h l _.
+pub returns-in-Ok-clause-history : goal.returns-in-Ok-clause-history
+returns-in-Ok-clause-history c = λ h l _.
+    let name = c.args.self.now.name in
     let grew : c.push.new.self.items ≡ c.args.self.now.list.items ++ c.args.call ∷ [] = search rules in
-    let more = lists_more c.args.self.now.list.items h c.args.call (Some (c.len-place.result, c.last-last.result)) l (search rules) in
-    subst (λ xs. Lists xs (h ++ (c.args.call, Some (c.len-place.result, c.last-last.result)) ∷ [])) (sym grew) more
+    let more = lists_more name c.args.self.now.list.items h c.args.call (Some (c.len-place.result, c.last-last.result)) l (search rules) in
+    subst (λ xs. Lists name xs (h ++ (c.args.call, Some (c.len-place.result, c.last-last.result)) ∷ [])) (sym grew) more
 
-pub returns-in-Err : goal.returns-in-Err
-returns-in-Err c = λ h l _.
+pub returns-in-Err-clause-history : goal.returns-in-Err-clause-history
+returns-in-Err-clause-history c = λ h l _.
+    let name = c.args.self.now.name in
     let same : c.push.new.self.items ≡ c.args.self.now.list.items = search rules in
-    let more = lists_more c.args.self.now.list.items h c.args.call None l tt in
-    subst (λ xs. Lists xs (h ++ (c.args.call, None) ∷ [])) (sym same) more
+    let more = lists_more name c.args.self.now.list.items h c.args.call None l tt in
+    subst (λ xs. Lists name xs (h ++ (c.args.call, None) ∷ [])) (sym same) more
