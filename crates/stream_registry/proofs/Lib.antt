@@ -1,0 +1,5 @@
+pub mod Counted
+pub mod Tells
+pub mod Rooting
+pub mod Placing
+pub mod Naming

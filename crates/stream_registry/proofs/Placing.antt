@@ -1,0 +1,98 @@
+-- A call at a gate, as a caller sees it
+use Rattle.std.proofs.Common.{◌≡◌, ℕ, zero, suc, refl, ◌≤◌, ◌^◌, List, [], ◌∷◌, ◌++◌, length, sym, ap, ◌∙◌, subst, append-nil, arith, length-append, slice_get, Some}
+use Rattle.std.specs.Prelude.{reverse, All}
+use Rattle.std.proofs.lemmas.List.Elements.{All-head, All-tail, All-nil, All-cons}
+use Rattle.std.specs.declared.result.Result.{Result}
+use Rattle.std.specs.declared.result.Result.TheVariants.{Ok, Err}
+use Rattle.av_unit.specs.declared.bytes.OutOfMemory.{OutOfMemory}
+use Rattle.stream_model.specs.declared.calls.Entry.{Entry}
+use Rattle.stream_model.specs.declared.calls.StreamLimits.{StreamLimits}
+use Rattle.stream_model.specs.declared.replies.Reply.{Reply}
+use Rattle.stream_model.specs.History.{History}
+use Rattle.stream_model.specs.Answer.{reply}
+use Rattle.stream_model.specs.Known.{IsLawful}
+use Rattle.stream_model.specs.Legal.{Legal}
+use Rattle.turn_gate.specs.Histories.{Begins, AreOwn}
+use Rattle.turn_gate.specs.Known.{PassKnown, GateId, RepliedAfter}
+use Rattle.stream_registry.specs.Pasts.{Attempt, past_of, IsLawfulAt}
+use Rattle.stream_registry.specs.Roots.{Root, Later, Remembers, seen_at, gates}
+use Rattle.stream_registry.specs.Told.{Keeps}
+use Rattle.stream_registry.specs.Names.{PortRules}
+use Rattle.stream_registry.specs.SharedState.{SharedState, IsFork, IsNewPort}
+use Rattle.stream_registry.specs.Placed.{Placed}
+use Rattle.stream_registry.specs.Gates.{told, told_at, numbers}
+use Rattle.stream_registry.proofs.Tells.{begins_told, told_more, told_back, past_more, numbers_placed, numbers_begin}
+
+abbrev pub Known : Type 0
+Known = PassKnown StreamLimits Attempt
+
+abbrev pub At : Type 0
+At = Root StreamLimits Attempt
+
+-- an answered call stands in what is told
+pub placed : (limits : StreamLimits) (entry : Entry) (a : Result Reply OutOfMemory) (r : Reply) (root : List Attempt) (v w : Known) → a ≡ Ok r → RepliedAfter (IsLawfulAt limits) root v (entry, a) w → AreOwn v.mine (length v.seen)
+    → Placed limits (told root) (told v.seen) (numbers v.seen v.mine) (entry, r) (told w.seen) (numbers w.seen w.mine)
+placed limits entry a r root v w is p own =
+    let q = p.replied in
+    let seen : w.seen ≡ q.before ++ (entry, Ok r) ∷ [] = q.seen ∙ ap (λ (x : Result Reply OutOfMemory). q.before ++ (entry, x) ∷ []) is in
+    let law : IsLawful limits ((entry, r) ∷ past_of q.before) = subst (λ (h : History). IsLawful limits h) (ap past_of seen ∙ past_more q.before entry (Ok r)) q.lawful_seen in
+    record {
+      before = told q.before;
+      root_first = begins_told root q.before p.root_begins;
+      pass_first = begins_told v.seen q.before q.begins;
+      reply_is = subst (λ (h : History). r ≡ reply limits h entry) (sym (told_back q.before)) law.0;
+      seen_is = ap told seen ∙ told_more q.before entry r;
+      mine_is = ap (λ (h : List Attempt). numbers h w.mine) seen ∙ (ap (numbers (q.before ++ (entry, Ok r) ∷ [])) q.mine ∙ numbers_placed v.seen q.before (entry, Ok r) v.mine q.begins (λ n. (own n).1));
+    }
+
+-- what the pass has then seen keeps the rules and the viewer's law
+pub keeps : (limits : StreamLimits) (seen : List Attempt) → IsLawfulAt limits seen → ((player : ℕ) → Legal limits (past_of seen) player) → Keeps limits (told seen)
+keeps limits seen law legal =
+    let back : past_of seen ≡ reverse (told seen) = sym (told_back seen) in
+    record { rules = subst (λ (h : History). IsLawful limits h) back law; viewers = λ player. subst (λ (h : History). Legal limits h player) back (legal player) }
+
+-- at most 2^62 calls
+pub room : (limits : StreamLimits) (root : List Attempt) (v w : Known) (e : Attempt) → RepliedAfter (IsLawfulAt limits) root v e w → length w.seen ≤ 2 ^ 62
+room limits root v w e p = let q = p.replied in omega (arith, ap length q.seen, length-append q.before (e ∷ []), q.room)
+
+-- a call that memory refused isn't one of the pass's own
+pub unmade : (limits : StreamLimits) (entry : Entry) (a : Result Reply OutOfMemory) (x : OutOfMemory) (root : List Attempt) (v w : Known) → a ≡ Err x → RepliedAfter (IsLawfulAt limits) root v (entry, a) w → AreOwn v.mine (length v.seen)
+    → numbers w.seen w.mine ≡ numbers v.seen v.mine
+unmade limits entry a x root v w is p own =
+    let q = p.replied in
+    let seen : w.seen ≡ q.before ++ (entry, Err x) ∷ [] = q.seen ∙ ap (λ (y : Result Reply OutOfMemory). q.before ++ (entry, y) ∷ []) is in
+    ap (λ (h : List Attempt). numbers h w.mine) seen
+    ∙ (ap (numbers (q.before ++ (entry, Err x) ∷ [])) q.mine
+    ∙ (numbers_placed v.seen q.before (entry, Err x) v.mine q.begins (λ n. (own n).1) ∙ append-nil (numbers v.seen v.mine)))
+
+pub same_own : (v w : Known) → Remembers v w → w.mine ≡ v.mine → AreOwn v.mine (length v.seen) → numbers w.seen w.mine ≡ numbers v.seen v.mine
+same_own v w s e own = ap (numbers w.seen) e ∙ numbers_begin v.seen w.seen v.mine s.1 (λ n. (own n).1)
+
+pub passes : (roots roots' : List At) (place : ℕ) (limits : StreamLimits) (v w : Known) → roots' ≡ roots → slice_get (gates roots) place ≡ Some v.gate → v.gate.about ≡ limits → Remembers v w
+    → ((slice_get (gates roots') place ≡ Some w.gate) × (w.gate.about ≡ limits)) × (w.gate.about ≡ v.gate.about) × Begins (told v.seen) (told w.seen)
+passes roots roots' place limits v w same at about s =
+    let about' : w.gate.about ≡ v.gate.about = ap (λ g. g.about) s.0 in
+    ((ap (λ (l : List At). slice_get (gates l) place) same ∙ (at ∙ ap Some (sym s.0)), about' ∙ about), about', begins_told v.seen w.seen s.1)
+
+pub kept : (roots roots' : List At) (v w : Known) → roots' ≡ roots → numbers w.seen w.mine ≡ numbers v.seen v.mine
+    → (numbers w.seen w.mine ≡ numbers v.seen v.mine) × ((q : ℕ) → told_at roots' q ≡ told_at roots q)
+kept roots roots' v w same e = (e, λ q. ap (λ (l : List At). told_at l q) same)
+
+pub later_told : (a b : List At) → Later (seen_at a) (seen_at b) → Later (told_at a) (told_at b)
+later_told a b l = record { at = λ p. begins_told (seen_at a p) (seen_at b p) (l.at p) }
+
+pub seen_all : (limits : StreamLimits) (roots : List At) → All (λ k. (k.seen ≡ []) × (k.gate.about ≡ limits)) roots → (q : ℕ) → told_at roots q ≡ []
+seen_all limits [] a q = refl
+seen_all limits (k ∷ ks) a zero = ap told (All-head (λ (k : At). (k.seen ≡ []) × (k.gate.about ≡ limits)) k ks a).0
+seen_all limits (k ∷ ks) a (suc q) = seen_all limits ks (All-tail (λ (k : At). (k.seen ≡ []) × (k.gate.about ≡ limits)) k ks a) q
+
+pub about_all : (limits : StreamLimits) (roots : List At) → All (λ k. (k.seen ≡ []) × (k.gate.about ≡ limits)) roots → All (λ g. g.about ≡ limits) (gates roots)
+about_all limits [] a = All-nil (λ (g : GateId StreamLimits). g.about ≡ limits)
+about_all limits (k ∷ ks) a = All-cons (λ (g : GateId StreamLimits). g.about ≡ limits) k.gate (gates ks) (All-head (λ (k : At). (k.seen ≡ []) × (k.gate.about ≡ limits)) k ks a).1 (about_all limits ks (All-tail (λ (k : At). (k.seen ≡ []) × (k.gate.about ≡ limits)) k ks a))
+
+pub new_each : (rules : PortRules) (first : SharedState) (list : List SharedState) → IsNewPort rules (gates first.roots) first → All (IsFork first) list → All (IsNewPort rules (gates first.roots)) list
+new_each rules first [] n a = All-nil (IsNewPort rules (gates first.roots))
+new_each rules first (p ∷ ps) n a =
+    let f = All-head (IsFork first) p ps a in
+    let new : IsNewPort rules (gates first.roots) p = record { rules_are = f.0 ∙ n.rules_are; gates_are = ap (λ (l : List At). gates l) f.1; unseen = λ q. ap (λ (l : List At). told_at l q) f.1 ∙ n.unseen q; no_busies = f.2 } in
+    All-cons (IsNewPort rules (gates first.roots)) p ps new (new_each rules first ps n (All-tail (IsFork first) p ps a))

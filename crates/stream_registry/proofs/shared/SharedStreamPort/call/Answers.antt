@@ -1,0 +1,54 @@
+use Rattle.std.proofs.Common.{rules, ◌≡◌, Ok, Err, sym, ap, subst}
+use Rattle.stream_model.specs.declared.calls.StreamLimits.{StreamLimits}
+use Rattle.turn_gate.specs.Known.{RepliedAfter}
+use Rattle.stream_registry.specs.Pasts.{IsLawfulAt}
+use Rattle.stream_registry.specs.Roots.{seen_at}
+use Rattle.stream_registry.specs.Told.{Keeps}
+use Rattle.stream_registry.specs.Gates.{told}
+use Rattle.stream_registry.proofs.Placing.{placed, keeps, room, unmade, same_own, passes, kept}
+use Rattle.stream_registry.proofs.shared.SharedStreamPort.call.Goals as goal
+
+pub returns-in-Ok-Ok-clause-pass : goal.returns-in-Ok-Ok-clause-pass
+returns-in-Ok-Ok-clause-pass c = passes c.args.self.now.roots c.call.new.self c.args.place c.self.inside.limits c.args.pass.now c.call.new.pass (search rules) c.requires.0 (search rules) c.call.ensures.pass
+
+pub returns-in-Ok-Ok-clause-reply : goal.returns-in-Ok-Ok-clause-reply
+returns-in-Ok-Ok-clause-reply c =
+    let is : c.in-Ok-Ok.field-0 ≡ Ok c.in-Ok-Ok.reply = search rules in
+    let a : RepliedAfter (IsLawfulAt c.args.pass.now.gate.about) (seen_at c.args.self.now.roots c.args.place) c.args.pass.now (c.args.entry, c.in-Ok-Ok.field-0) c.call.new.pass = search rules in
+    placed _ _ _ _ _ _ _ is a c.seen.ensures.own
+
+pub returns-in-Ok-Ok-clause-laws : goal.returns-in-Ok-Ok-clause-laws
+returns-in-Ok-Ok-clause-laws c =
+    let about = c.args.pass.now.gate.about in
+    let a : RepliedAfter (IsLawfulAt about) (seen_at c.args.self.now.roots c.args.place) c.args.pass.now (c.args.entry, c.in-Ok-Ok.field-0) c.call.new.pass = search rules in
+    let law = a.replied.lawful_seen in
+    subst (λ (l : StreamLimits). Keeps l (told c.call.new.pass.seen)) (sym (ap (λ g. g.about) c.call.ensures.pass.0)) (keeps about c.call.new.pass.seen law (λ player. c.viewers_law.ensures about _ law player))
+
+pub returns-in-Ok-Ok-clause-room : goal.returns-in-Ok-Ok-clause-room
+returns-in-Ok-Ok-clause-room c =
+    let a : RepliedAfter (IsLawfulAt c.args.pass.now.gate.about) (seen_at c.args.self.now.roots c.args.place) c.args.pass.now (c.args.entry, c.in-Ok-Ok.field-0) c.call.new.pass = search rules in
+    room c.args.pass.now.gate.about _ _ _ _ a
+
+pub returns-in-Ok-Err-clause-pass : goal.returns-in-Ok-Err-clause-pass
+returns-in-Ok-Err-clause-pass c = passes c.args.self.now.roots c.call.new.self c.args.place c.self.inside.limits c.args.pass.now c.call.new.pass (search rules) c.requires.0 (search rules) c.call.ensures.pass
+
+pub returns-in-Ok-Err-clause-unmade : goal.returns-in-Ok-Err-clause-unmade
+returns-in-Ok-Err-clause-unmade c =
+    let a : RepliedAfter (IsLawfulAt c.args.pass.now.gate.about) (seen_at c.args.self.now.roots c.args.place) c.args.pass.now (c.args.entry, c.in-Ok-Err.field-0) c.call.new.pass = search rules in
+    kept c.args.self.now.roots c.call.new.self c.args.pass.now c.call.new.pass (search rules) (unmade c.args.pass.now.gate.about _ _ c.in-Ok-Err.field-0-0 _ _ _ c.in-Ok-Err.field-0-is a c.seen.ensures.own)
+
+pub returns-in-Err-Busy-clause-pass : goal.returns-in-Err-Busy-clause-pass
+returns-in-Err-Busy-clause-pass c = passes c.args.self.now.roots c.call.new.self c.args.place c.self.inside.limits c.args.pass.now c.call.new.pass (search rules) c.requires.0 (search rules) c.call.ensures.pass
+
+pub returns-in-Err-Busy-clause-unmade : goal.returns-in-Err-Busy-clause-unmade
+returns-in-Err-Busy-clause-unmade c =
+    let mine : c.call.new.pass.mine ≡ c.args.pass.now.mine = search rules in
+    kept c.args.self.now.roots c.call.new.self c.args.pass.now c.call.new.pass (search rules) (same_own c.args.pass.now c.call.new.pass c.call.ensures.pass mine c.seen.ensures.own)
+
+pub returns-clause-pass : goal.returns-clause-pass
+returns-clause-pass c = passes c.args.self.now.roots c.call.new.self c.args.place c.self.inside.limits c.args.pass.now c.call.new.pass (search rules) c.requires.0 (search rules) c.call.ensures.pass
+
+pub returns-clause-unmade : goal.returns-clause-unmade
+returns-clause-unmade c =
+    let mine : c.call.new.pass.mine ≡ c.args.pass.now.mine = search rules in
+    kept c.args.self.now.roots c.call.new.self c.args.pass.now c.call.new.pass (search rules) (same_own c.args.pass.now c.call.new.pass c.call.ensures.pass mine c.seen.ensures.own)

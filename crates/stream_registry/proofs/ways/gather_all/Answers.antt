@@ -1,0 +1,16 @@
+use Rattle.std.proofs.Common.{rules}
+use Rattle.stream_registry.proofs.Rooting.{gathers_first, gathers_gate_at, gathers_more_at}
+use Rattle.stream_registry.proofs.ways.gather_all.Goals as goal
+
+pub loop-other-init : goal.loop-other-init
+loop-other-init g c = gathers_first c.args.others.items c.args.places.now
+
+pub gather-requires : goal.gather-requires
+gather-requires g c =
+    gathers_gate_at c.args.others.items c.loop-other.others.items c.pop.new.self.items c.args.places.now c.loop-other.places c.in-Some.other c.index-places-len.result c.len.result
+    c.loop-other.invariant c.requires c.in-Some.ensures.items (search rules)
+
+pub loop-other-preserved : goal.loop-other-preserved
+loop-other-preserved g c =
+    gathers_more_at c.args.others.items c.loop-other.others.items c.pop.new.self.items c.args.places.now c.loop-other.places c.in-Some.other c.index-places-len.result c.gather.new.self c.len.result
+    c.loop-other.invariant c.requires c.in-Some.ensures.items (search rules) c.gather.ensures.0 c.gather.ensures.1

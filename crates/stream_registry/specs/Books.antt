@@ -1,0 +1,34 @@
+-- What contracts see of a stream with its journal, of a port of one thread, and of a pass to it
+use Rattle.std.specs.Prelude.{◌≡◌, ℕ, ◌<◌, List, [], slice_get, length, Option, Some, None}
+use Rattle.stream_model.specs.declared.calls.StreamLimits.{StreamLimits}
+use Rattle.turn_gate.specs.Histories.{Begins}
+use Rattle.stream_registry.specs.Names.{PortRules}
+use Rattle.stream_registry.specs.Told.{Step, Histories}
+
+pub record BookState : Type 0 where
+  pub limits : StreamLimits
+  -- the calls so far with their replies, the oldest first
+  pub journal : List Step
+
+pub record SoleState : Type 0 where
+  pub rules : PortRules
+  pub books : List BookState
+
+pub record SeenState : Type 0 where
+  pub limits : StreamLimits
+  pub seen : List Step
+  -- the numbers of its own calls
+  pub mine : List ℕ
+
+abbrev pub journal_of : Option BookState → List Step
+journal_of None = []
+journal_of (Some b) = b.journal
+
+abbrev pub journal_at : List BookState → Histories
+journal_at books place = journal_of (slice_get books place)
+
+-- the place is there, and the pass has seen a beginning of its journal
+pub record FitsSole (s : SoleState) (place : ℕ) (p : SeenState) : Type 0 where
+  pub there : place < length s.books
+  pub limits : p.limits ≡ s.rules.limits
+  pub seen : Begins p.seen (journal_at s.books place)

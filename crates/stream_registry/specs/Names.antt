@@ -1,0 +1,24 @@
+-- The names of streams, and which place has one
+use Rattle.std.specs.Prelude.{◌≡◌, ℕ, ◌<◌, List, length, slice_get, Some}
+use Rattle.std.specs.declared.result.Result.{Result}
+use Rattle.std.specs.declared.result.Result.TheVariants.{Ok, Err}
+use Rattle.stream_model.specs.declared.calls.StreamLimits.{StreamLimits}
+use Rattle.stream_registry.specs.declared.names.Name.{Name}
+use Rattle.stream_registry.specs.declared.names.NotFound.{NotFound}
+
+abbrev pub IsNamed : Name → List ℕ → List ℕ → Type 0
+IsNamed n app name = (n.app ≡ app) × (n.name ≡ name)
+
+-- none of the first k has that pair
+abbrev pub NoneNamed : List Name → ℕ → List ℕ → List ℕ → Type 0
+NoneNamed names k app name = (q : ℕ) (n : Name) → q < k → slice_get names q ≡ Some n → IsNamed n app name → ⊥
+
+-- a place that has that pair, or none has it
+abbrev pub IsPlaceOf : List Name → List ℕ → List ℕ → Result ℕ NotFound → Type 0
+IsPlaceOf names app name (Ok place) = (place < length names) × ((n : Name) × (slice_get names place ≡ Some n) × IsNamed n app name)
+IsPlaceOf names app name (Err e) = NoneNamed names (length names) app name
+
+-- what never changes of a port: the name of the stream at each place, and the limits of each
+pub record PortRules : Type 0 where
+  pub names : List Name
+  pub limits : StreamLimits

@@ -1,0 +1,37 @@
+-- Which stream past a gate's history is, where the gate's machine is a stream.
+-- The history has each call with its reply or want of memory, the oldest first. The past leaves out the calls that memory refused, and is newest first.
+use Rattle.std.specs.Prelude.{◌≡◌, ℕ, ◌≤◌, List, [], ◌∷◌, ◌++◌, length}
+use Rattle.std.specs.List.{fold}
+use Rattle.std.specs.declared.result.Result.{Result}
+use Rattle.std.specs.declared.result.Result.TheVariants.{Ok, Err}
+use Rattle.av_unit.specs.declared.bytes.OutOfMemory.{OutOfMemory}
+use Rattle.stream_model.specs.declared.calls.StreamLimits.{StreamLimits}
+use Rattle.stream_model.specs.declared.calls.Entry.{Entry}
+use Rattle.stream_model.specs.declared.replies.Reply.{Reply}
+use Rattle.stream_model.specs.History.{History}
+use Rattle.stream_model.specs.Known.{StreamKnown, IsLawful}
+
+-- a call at a gate
+abbrev pub Attempt : Type 0
+Attempt = Entry × Result Reply OutOfMemory
+
+-- one call more, unless memory refused it
+abbrev pub past_after : History → Entry → Result Reply OutOfMemory → History
+past_after past entry (Ok r) = (entry, r) ∷ past
+past_after past entry (Err e) = past
+
+-- the calls that were answered, the newest first
+abbrev pub past_of : List Attempt → History
+past_of h = fold (λ past step. past_after past step.0 step.1) [] h
+
+-- a stream has had these calls, and its replies are the rules'
+abbrev pub Stands : StreamKnown → List Attempt → Type 0
+Stands known h = (known.past ≡ past_of h) × IsLawful known.limits (past_of h)
+
+-- the calls that memory didn't refuse were answered by the rules of these limits
+abbrev pub IsLawfulAt : StreamLimits → List Attempt → Type 0
+IsLawfulAt limits h = IsLawful limits (past_of h)
+
+-- the first past goes on to the second
+abbrev pub GoesOn : History → History → Type 0
+GoesOn past later = (newer : History) × (newer ++ past ≡ later)

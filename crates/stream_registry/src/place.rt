@@ -1,0 +1,93 @@
+//! One thread's way to one gate. It is generic in the machine, so that it is seen to cross threads.
+ghost use Rattle.std.specs.Prelude.{◌≡◌, [], IfOk, IfErr};
+ghost use Rattle.turn_gate.specs.Histories.{Begins, longer};
+ghost use Rattle.turn_gate.specs.Known.{newcomer, RepliedAfter, Failed};
+ghost use Rattle.stream_registry.specs.Roots.{Stays, Remembers};
+
+use std::alloc::{AllocError, Global};
+use std::marker::Model;
+use std::sync::Arc;
+use turn_gate::{CallFail, Gate, Machine, Pass};
+
+/// A gate that other threads have too, and a pass of its own: the root. Contracts see the gate, and what the root has seen.
+#[derive(Drop)]
+pub struct Place<T: Machine + Drop> {
+    gate: Arc<Gate<T>, Global>,
+    root: Pass<T>,
+}
+
+impl<T: Machine + Drop> Model for Place<T> {
+    ghost use Rattle.std.specs.Prelude.{◌≡◌};
+    ghost use Rattle.std.specs.Arc.{arc_value};
+    ghost use Rattle.stream_registry.specs.Roots.{Root};
+
+    ghost Value = { Root T.About (T.Call × T.Reply) };
+
+    ghost view = { λ p. record { gate = p.root.gate; seen = p.root.seen } };
+
+    ghost invariant = { λ p. p.root.gate ≡ arc_value p.gate };
+}
+
+impl<T: Machine + Drop> Place<T> {
+    /// A gate with no calls yet.
+    pub fn new(alloc: Global, machine: T, about: &T::About) -> Result<Place<T>, AllocError>
+        requires { T.stands machine [] × (about.now ≡ T.about machine) }
+        ensures { IfOk result (λ p. (p.seen ≡ []) × (p.gate.about ≡ about.now)) }
+    {
+        let (gate, root) = Gate::new(alloc, machine, about)?;
+        let Ok(gate) = Arc::new(alloc, gate) else {
+            return Err(AllocError);
+        };
+        Ok(Place { gate, root })
+    }
+
+    /// Another thread's way to the same gate.
+    pub fn fork(&mut self) -> Result<Place<T>, AllocError>
+        ensures fork { IfOk result (λ p. p ≡ self.old) }
+        ensures same { self.new ≡ self.old }
+    {
+        let Ok(gate) = Arc::try_clone(&self.gate) else {
+            return Err(AllocError);
+        };
+        let root = self.gate.split(&mut self.root);
+        Ok(Place { gate, root })
+    }
+
+    /// A pass that has made no call, and has seen what the root has.
+    pub fn attach(&mut self) -> Pass<T>
+        ensures new { result ≡ newcomer self.old.gate self.old.seen }
+        ensures same { self.new ≡ self.old }
+    {
+        self.gate.split(&mut self.root)
+    }
+
+    /// The root has then seen the longer of what both had seen, which both begin.
+    pub fn detach(&mut self, pass: Pass<T>)
+        requires { pass.gate ≡ self.old.gate }
+        ensures stays { Stays self.old self.new × Begins pass.seen self.new.seen }
+        ensures longer { self.new.seen ≡ longer self.old.seen pass.seen }
+    {
+        self.gate.join(&mut self.root, pass);
+    }
+
+    /// What the other's root had seen is a beginning of what this one has then seen.
+    pub fn gather(&mut self, other: Place<T>)
+        requires { other.gate ≡ self.old.gate }
+        ensures { Stays self.old self.new × Begins other.seen self.new.seen }
+    {
+        let Place { gate, root } = other;
+        drop(gate);
+        self.gate.join(&mut self.root, root);
+    }
+
+    /// Tries once. The calls before begin with all that the root and the pass had seen.
+    pub fn call(&mut self, pass: &mut Pass<T>, call: T::Call) -> Result<T::Reply, CallFail<T::Call>>
+        requires { pass.old.gate ≡ self.old.gate }
+        ensures port { self.new ≡ self.old }
+        ensures pass { Remembers pass.old pass.new }
+        ensures reply { IfOk result (λ r. RepliedAfter (T.lawful self.old.gate.about) self.old.seen pass.old (call, r) pass.new) }
+        ensures fails { IfErr result (λ e. Failed (T.lawful self.old.gate.about) pass.old call e pass.new) }
+    {
+        self.gate.call_after(&mut self.root, pass, call)
+    }
+}

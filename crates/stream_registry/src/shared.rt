@@ -1,0 +1,194 @@
+//! The port of one thread to streams that many serve.
+ghost use Rattle.std.specs.Prelude.{◌≡◌, ◌≤◌, ℕ, [], length, IfOk, All};
+ghost use Rattle.std.specs.Arc.{arc_value};
+ghost use Rattle.stream_registry.specs.Roots.{Later, gates};
+ghost use Rattle.stream_registry.specs.Gates.{told_at};
+ghost use Rattle.stream_registry.specs.SharedState.{IsFork, IsNewPort, AreNewPorts};
+
+use crate::again::entry_again;
+use crate::desk::Desk;
+use crate::names::{NameList, NotFound};
+use crate::place::Place;
+use crate::port::{PortFail, StreamPort};
+use crate::ways::Ways;
+use av_unit::OutOfMemory;
+use std::alloc::Global;
+use std::marker::Model;
+use std::sync::Arc;
+use stream_core::{Entry, Reply, Stream, StreamLimits};
+use stream_law::viewers_law;
+use turn_gate::{CallFail, Pass};
+
+/// A gate for each place, and what was seen there.
+#[derive(Drop)]
+pub struct Shared {
+    ways: Ways<Desk>,
+    names: Arc<NameList, Global>,
+    limits: StreamLimits,
+    busies: u64,
+}
+
+impl Model for Shared {
+    ghost use Rattle.std.specs.Prelude.{◌≡◌, ◌≤◌, All, length};
+    ghost use Rattle.std.specs.Arc.{arc_value};
+    ghost use Rattle.stream_registry.specs.Roots.{gates};
+    ghost use Rattle.stream_registry.specs.SharedState.{SharedState};
+
+    ghost Value = { SharedState };
+
+    ghost view = { λ s. record { rules = record { names = arc_value s.names; limits = s.limits }; roots = s.ways; busies = s.busies } };
+
+    ghost invariant = { λ s. All (λ g. g.about ≡ s.limits) (gates s.ways) × (length s.ways ≡ length (arc_value s.names)) × (length (arc_value s.names) ≤ 64) };
+}
+
+/// Ports for so many threads to streams with these names, each of which has these limits. At each place all ports have the
+/// same gate.
+pub fn shared_ports(
+    alloc: Global,
+    names: NameList,
+    limits: StreamLimits,
+    ports: usize,
+) -> Result<Vec<Shared>, OutOfMemory>
+    requires { length names ≤ 64 }
+    ensures { IfOk result (λ list. AreNewPorts record { names = names; limits = limits } ports list.items) }
+{
+    let mut first = Shared::new(alloc, names, limits)?;
+    let list = fork_ports(alloc, &mut first, ports)?;
+    Ok(list)
+}
+
+// So many ports to the gates of the first.
+fn fork_ports(alloc: Global, first: &mut Shared, ports: usize) -> Result<Vec<Shared>, OutOfMemory>
+    ensures forks { IfOk result (λ list. (length list.items ≡ ports) × All (IsFork first.old) list.items) }
+    ensures same { first.new ≡ first.old }
+{
+    let mut list = Vec::new(alloc);
+    for _ in 0..ports {
+        let port = first.fork(alloc)?;
+        list.push(port)?;
+    }
+    Ok(list)
+}
+
+// Ways to as many new gates as there are places.
+fn new_ways(alloc: Global, limits: StreamLimits, places: usize) -> Result<Ways<Desk>, OutOfMemory>
+    ensures { IfOk result (λ w. (length w ≡ places) × All (λ k. (k.seen ≡ []) × (k.gate.about ≡ limits)) w) }
+{
+    let mut ways = Ways::new(alloc);
+    for _ in 0..places {
+        let stream = Stream::new(alloc, limits)?;
+        let place = Place::new(alloc, Desk { stream }, &limits)?;
+        ways.add(place)?;
+    }
+    Ok(ways)
+}
+
+impl Shared {
+    fn new(alloc: Global, names: NameList, limits: StreamLimits) -> Result<Shared, OutOfMemory>
+        requires { length names ≤ 64 }
+        ensures { IfOk result (λ s. IsNewPort record { names = names; limits = limits } (gates s.roots) s) }
+    {
+        let ways = new_ways(alloc, limits, names.len())?;
+        let Ok(names) = Arc::new(alloc, names) else {
+            return Err(OutOfMemory);
+        };
+        Ok(Shared {
+            ways,
+            names,
+            limits,
+            busies: 0,
+        })
+    }
+
+    // A port for another thread, to the same gates.
+    fn fork(&mut self, alloc: Global) -> Result<Shared, OutOfMemory>
+        ensures fork { IfOk result (IsFork self.old) }
+        ensures same { self.new ≡ self.old }
+    {
+        let Ok(names) = Arc::try_clone(&self.names) else {
+            return Err(OutOfMemory);
+        };
+        let ways = self.ways.fork(alloc)?;
+        Ok(Shared {
+            ways,
+            names,
+            limits: self.limits,
+            busies: 0,
+        })
+    }
+
+    /// What the other's root had seen is a beginning of what this one has then seen, at each place.
+    pub fn gather(&mut self, other: Shared)
+        requires { gates other.roots ≡ gates self.old.roots }
+        ensures gates { gates self.new.roots ≡ gates self.old.roots }
+        ensures same { (self.new.rules ≡ self.old.rules) × (self.new.busies ≡ self.old.busies) }
+        ensures grown { Later (told_at self.old.roots) (told_at self.new.roots) }
+        ensures later { Later (told_at other.roots) (told_at self.new.roots) }
+    {
+        let Shared {
+            ways,
+            names: _,
+            limits: _,
+            busies: _,
+        } = other;
+        self.ways.gather(ways);
+    }
+}
+
+impl StreamPort for Shared {
+    type Pass = Pass<Desk>;
+
+    ghost use Rattle.std.specs.Prelude.{◌≡◌, Some, length, slice_get};
+    ghost use Rattle.stream_registry.specs.Roots.{gates};
+    ghost use Rattle.stream_registry.specs.Gates.{told, told_at, numbers};
+
+    ghost busies = { λ s. s.busies };
+
+    ghost rules = { λ s. s.rules };
+
+    ghost root = { λ s. told_at s.roots };
+
+    ghost fits = { λ s place p. (slice_get (gates s.roots) place ≡ Some p.gate) × (p.gate.about ≡ s.rules.limits) };
+
+    ghost limits = { λ p. p.gate.about };
+
+    ghost seen = { λ p. told p.seen };
+
+    ghost mine = { λ p. numbers p.seen p.mine };
+
+    ghost count = { λ p. length p.seen };
+
+    fn find(&self, app: &[u8], name: &[u8]) -> Result<u32, NotFound> {
+        self.names.find(app, name)
+    }
+
+    fn attach(&mut self, place: u32) -> Pass<Desk> {
+        let _ = &self.limits;
+        self.ways.attach(place as usize)
+    }
+
+    fn detach(&mut self, place: u32, pass: Pass<Desk>) {
+        self.ways.detach(place as usize, pass);
+    }
+
+    fn call(&mut self, place: u32, pass: &mut Pass<Desk>, entry: Entry) -> Result<Reply, PortFail> {
+        let _ = pass.seen();
+        let Ok(spare) = entry_again(&entry) else {
+            return Err(PortFail::OutOfMemory(entry));
+        };
+        match self.ways.call(place as usize, pass, entry) {
+            Ok(Ok(reply)) => {
+                viewers_law();
+                Ok(reply)
+            }
+            Ok(Err(OutOfMemory)) => Err(PortFail::OutOfMemory(spare)),
+            Err(CallFail::Busy(entry)) => {
+                self.busies = self.busies.saturating_add(1);
+                Err(PortFail::Busy(entry))
+            }
+            Err(CallFail::Worn(entry)) => Err(PortFail::Worn(entry)),
+        }
+    }
+
+    ghost ruled = { λ x q p f. f.1 };
+}

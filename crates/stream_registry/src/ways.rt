@@ -1,0 +1,130 @@
+//! One thread's ways to the gates at all places.
+ghost use Rattle.std.specs.Prelude.{◌≡◌, ◌≢◌, ℕ, ◌<◌, Some, [], ◌++◌, ◌∷◌, length, IfOk, IfErr, OnOk, OnErr, slice_get};
+ghost use Rattle.turn_gate.specs.Histories.{Begins, longer};
+ghost use Rattle.turn_gate.specs.Known.{newcomer, RepliedAfter, Failed};
+ghost use Rattle.stream_registry.specs.Roots.{Remembers, Grown, gates, seen_at, Later};
+
+use crate::place::Place;
+use std::alloc::{AllocError, Global};
+use std::marker::Model;
+use turn_gate::{CallFail, Machine, Pass};
+
+/// Contracts see what its root has seen at each place.
+#[derive(Drop)]
+pub struct Ways<T: Machine + Drop> {
+    places: Vec<Place<T>>,
+}
+
+impl<T: Machine + Drop> Model for Ways<T> {
+    ghost use Rattle.std.specs.Prelude.{List};
+    ghost use Rattle.stream_registry.specs.Roots.{Root};
+
+    ghost Value = { List (Root T.About (T.Call × T.Reply)) };
+
+    ghost view = { λ s. s.places.items };
+}
+
+impl<T: Machine + Drop> Ways<T> {
+    /// Ways to no place.
+    pub fn new(alloc: Global) -> Ways<T>
+        ensures { result ≡ [] }
+    {
+        Ways {
+            places: Vec::new(alloc),
+        }
+    }
+
+    /// One place more.
+    pub fn add(&mut self, place: Place<T>) -> Result<(), AllocError>
+        ensures ok { OnOk result (self.new ≡ self.old ++ place ∷ []) }
+        ensures err { OnErr result (self.new ≡ self.old) }
+    {
+        match self.places.push(place) {
+            Ok(()) => Ok(()),
+            Err(_) => Err(AllocError),
+        }
+    }
+
+    /// Another thread's ways to the same places.
+    pub fn fork(&mut self, alloc: Global) -> Result<Ways<T>, AllocError>
+        ensures fork { IfOk result (λ s. s ≡ self.old) }
+        ensures same { self.new ≡ self.old }
+    {
+        let places = fork_all(alloc, self.places.as_mut_slice())?;
+        Ok(Ways { places })
+    }
+
+    /// What the other's roots had seen begins what these have then seen.
+    pub fn gather(&mut self, other: Ways<T>)
+        requires { gates other ≡ gates self.old }
+        ensures grown { Grown self.old self.new }
+        ensures later { Grown other self.new }
+    {
+        let Ways { places } = other;
+        gather_all(self.places.as_mut_slice(), places);
+    }
+
+    /// A pass that has made no call, and has seen what the root has at that place.
+    pub fn attach(&mut self, place: usize) -> Pass<T>
+        requires { place < length self.old }
+        ensures gate { Some result.gate ≡ slice_get (gates self.old) place }
+        ensures new { result ≡ newcomer result.gate (seen_at self.old place) }
+        ensures same { self.new ≡ self.old }
+    {
+        self.places[place].attach()
+    }
+
+    /// The root has then seen the longer of what both had seen at that place, which both begin.
+    pub fn detach(&mut self, place: usize, pass: Pass<T>)
+        requires { slice_get (gates self.old) place ≡ Some pass.gate }
+        ensures grown { Grown self.old self.new }
+        ensures seen { Begins pass.seen (seen_at self.new place) }
+        ensures longer { seen_at self.new place ≡ longer (seen_at self.old place) pass.seen }
+        ensures others { (q : ℕ) → q ≢ place → seen_at self.new q ≡ seen_at self.old q }
+    {
+        self.places[place].detach(pass);
+    }
+
+    /// Tries once. The calls before begin with all that the root and the pass had seen at that place.
+    pub fn call(
+        &mut self,
+        place: usize,
+        pass: &mut Pass<T>,
+        call: T::Call,
+    ) -> Result<T::Reply, CallFail<T::Call>>
+        requires { slice_get (gates self.old) place ≡ Some pass.old.gate }
+        ensures port { self.new ≡ self.old }
+        ensures pass { Remembers pass.old pass.new }
+        ensures reply { IfOk result (λ r. RepliedAfter (T.lawful pass.old.gate.about) (seen_at self.old place) pass.old (call, r) pass.new) }
+        ensures fails { IfErr result (λ e. Failed (T.lawful pass.old.gate.about) pass.old call e pass.new) }
+    {
+        self.places[place].call(pass, call)
+    }
+}
+
+fn fork_all<T: Machine + Drop>(
+    alloc: Global,
+    places: &mut [Place<T>],
+) -> Result<Vec<Place<T>>, AllocError>
+    ensures fork { IfOk result (λ s. s.items ≡ places.old) }
+    ensures same { places.new ≡ places.old }
+{
+    let mut list = Vec::new(alloc);
+    for i in 0..places.len() {
+        let place = places[i].fork()?;
+        if list.push(place).is_err() {
+            return Err(AllocError);
+        }
+    }
+    Ok(list)
+}
+
+fn gather_all<T: Machine + Drop>(places: &mut [Place<T>], mut others: Vec<Place<T>>)
+    requires { gates others.items ≡ gates places.old }
+    ensures grown { Grown places.old places.new }
+    ensures later { Later (seen_at others.items) (seen_at places.new) }
+{
+    while let Some(other) = others.pop() {
+        places[others.len()].gather(other);
+    }
+}
