@@ -1,9 +1,8 @@
-ghost use Rattle.std.specs.Prelude.{◌≡◌, ◌⊎◌, not, IsTrue, Some, None, map, option_map, option_copied, string_bytes, is_none};
+ghost use Rattle.std.specs.Prelude.{◌≡◌, ◌⊎◌, not, Some, None, option_map, option_copied, string_bytes, is_none};
 ghost use Rattle.std.specs.List.{find};
 ghost use Rattle.std.specs.BTreeMap.{keys};
-ghost use Rattle.toml.specs.View.{view, table_view};
-ghost use Rattle.relay_config.specs.Refusals.{Tells, is_known, keys_of_members, unknown_in, lacks, is_outside, first_key, table_refusal};
-ghost use Rattle.relay_config.specs.Refusals.{relay_refusal, streams_refusal, stream_rows};
+ghost use Rattle.toml.specs.View.{view};
+ghost use Rattle.relay_config.specs.Refusals.{Tells, is_known, unknown_in, lacks, is_outside, first_key, table_refusal};
 
 use crate::forms::{fits, value_at};
 use crate::rows::Row;

@@ -1,6 +1,6 @@
-ghost use Rattle.std.specs.Prelude.{◌≡◌, ◌+◌, ◌≤◌, if◌then◌else◌, is_some, map, option_map, option_copied, List, length};
+ghost use Rattle.std.specs.Prelude.{◌≡◌, ◌+◌, is_some, map, option_map, option_copied};
 ghost use Rattle.std.specs.List.{list_all};
-ghost use Rattle.toml.specs.Data.{Data, as_table};
+ghost use Rattle.toml.specs.Data.{as_table};
 ghost use Rattle.toml.specs.View.{view};
 ghost use Rattle.relay_config.specs.Forms.{value_at, elements, number_in, number_or, text_at, is_true_at, is_within, is_text, is_word, is_word_byte};
 ghost use Rattle.relay_config.specs.Forms.{is_digest, is_hex_digit, is_number, is_list_of, is_key, fits};

@@ -1,6 +1,6 @@
-ghost use Rattle.std.specs.Prelude.{◌≡◌, ◌⊎◌, Some, None, map, option_map, IfOk, IfErr};
+ghost use Rattle.std.specs.Prelude.{◌≡◌, ◌⊎◌, Some, None, map, IfOk, IfErr};
 ghost use Rattle.toml.specs.View.{view};
-ghost use Rattle.relay_config.specs.Values.{streams_of, config_of};
+ghost use Rattle.relay_config.specs.Values.{streams_of};
 ghost use Rattle.relay_config.specs.Refusals.{Tells, streams_refusal, first_refusal, values_of};
 ghost use Rattle.relay_config.specs.Accepts.{document, refusal, Accepts, Lawful};
 

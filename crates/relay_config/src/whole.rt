@@ -1,4 +1,4 @@
-ghost use Rattle.std.specs.Prelude.{◌≡◌, ◌≤◌, ◌<◌, length, take};
+ghost use Rattle.std.specs.Prelude.{◌≡◌, ◌≤◌, ◌<◌, length};
 ghost use Rattle.std.specs.List.{list_any};
 ghost use Rattle.relay_config.specs.Sum.{InRange};
 ghost use Rattle.relay_config.specs.Refusals.{Tells, same_names, repeats, twice_in, whole_refusal};
