@@ -1,3 +1,4 @@
 pub mod Filling
 pub mod Pending
 pub mod Answering
+pub mod Living

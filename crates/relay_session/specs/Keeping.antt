@@ -1,5 +1,5 @@
 -- What the fields of a session keep true
-use Rattle.std.specs.Prelude.{◌≡◌, ◌<◌, ◌≤◌, ◌++◌, ◌^◌, ℕ, List, length, take, drop, None}
+use Rattle.std.specs.Prelude.{◌≡◌, ◌-◌, ◌<◌, ◌≤◌, ◌++◌, ℕ, List, length, take, drop, None}
 use Rattle.chunk_reader.specs.Sound.{IsRead}
 use Rattle.command_dialog.specs.declared.types.Ask.{Ask}
 use Rattle.command_dialog.specs.declared.types.Grant.{Grant}
@@ -19,15 +19,19 @@ past_of c = record { x = c.x; ms = c.reader.given; calls = c.calls; kept = c.kep
 abbrev pub keeps_of : Core → Keeps State
 keeps_of c = record { pending = pending c.outgoing; writer = c.outgoing.writer; window = c.inbound; state = c.dialog }
 
--- A SESSION THAT LIVES, before a desk: it stands for its past
-pub record Lives (desk : Ask → Grant) (c : Core) : Type 0 where
+-- what was sent and what is pending is WHAT IT OWES before this desk, and the rest is what goes on from there
+abbrev pub StandsBefore : (Ask → Grant) → Core → Type 0
+StandsBefore desk c = Stands (session c.who c.window desk) (past_of c) (keeps_of c)
+
+-- its parts have read the bytes that were fed, and none has failed
+pub record IsSound (c : Core) : Type 0 where
   pub hand : c.hand ≡ record { fed = take hand_bytes c.x; failed = None }
   pub fed : c.reader.fed ≡ drop hand_bytes c.x
   pub counted : c.fed ≡ length c.x
+  pub taken : c.inbound.taken ≡ length c.x - hand_bytes
   pub reads : c.reader.failed ≡ None
   pub read : IsRead c.reader.max c.reader.fed c.reader.given
   pub short : c.reader.max ≤ 4194304
-  pub stands : Stands (session c.who c.window desk) (past_of c) (keeps_of c)
 
 -- bytes of the piece were fed, and nothing else was received, sent or called
 pub record IsFed (old : Core) (piece : List ℕ) (used : ℕ) (new : Core) : Type 0 where

@@ -8,9 +8,11 @@ mod core_fields;
 mod desk;
 mod end;
 mod outgoing;
+mod steps;
 mod unit_in_hand;
 
 pub use core_fields::Core;
 pub use desk::Desk;
 pub use end::End;
 pub use outgoing::Outgoing;
+pub use steps::{chunk_piece, hand_piece, hear_reply, note_sent};
