@@ -1,10 +1,10 @@
 -- Headers of bits, byte by byte
-use Rattle.std.proofs.Common.{◌≡◌, ℕ, ◌+◌, ◌-◌, ◌*◌, ◌/◌, ◌%◌, ◌<◌, ◌≤◌, ◌^◌, Bool, true, false, List, [], ◌∷◌, ◌++◌, length, slice_index, Option, Some, None, refl, sym, ap, ◌∙◌, arith, length-append, append_assoc, eq-eqb}
+use Rattle.std.proofs.Common.{◌≡◌, ℕ, ◌+◌, ◌-◌, ◌*◌, ◌/◌, ◌%◌, ◌<◌, ◌≤◌, Bool, true, false, List, [], ◌∷◌, ◌++◌, length, slice_index, Option, Some, None, refl, sym, ap, ◌∙◌, arith, append_assoc, eq-eqb}
 use Rattle.std.proofs.lemmas.Bool.Decides.{nat_tests}
 use Rattle.std.specs.Int.{bytes_high_first, to_be_bytes, w64}
-use Rattle.std.specs.Prelude.{IfSome, is_some, ◌||◌, ◌==◌, if◌then◌else◌}
+use Rattle.std.specs.Prelude.{is_some, ◌||◌, ◌==◌, if◌then◌else◌}
 use Rattle.pes_packets.specs.declared.flags.PesFlags.{PesFlags}
-use Rattle.pes_packets.specs.Packet.{bit, head_bytes, pcr_bytes, or_none, told, room, tells, silent, AreFlags}
+use Rattle.pes_packets.specs.Packet.{bit, head_bytes, pcr_bytes, or_none, told, room, tells, silent}
 use Rattle.pes_packets.specs.Header.{header, start_bytes, flag_bytes, time_bytes}
 
 four : (a b c d e f g h : ℕ) → a ≡ e → b ≡ f → c ≡ g → d ≡ h → a ∷ b ∷ c ∷ d ∷ [] ≡ e ∷ f ∷ g ∷ h ∷ []

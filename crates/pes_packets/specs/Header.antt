@@ -1,5 +1,5 @@
 -- The header of a PES packet (ISO/IEC 13818-1, 2.4.3.6)
-use Rattle.std.specs.Prelude.{ℕ, ◌+◌, ◌/◌, ◌%◌, ◌^◌, ◌==◌, if◌then◌else◌, List, [], ◌∷◌, ◌++◌}
+use Rattle.std.specs.Prelude.{ℕ, ◌/◌, ◌%◌, ◌^◌, ◌==◌, if◌then◌else◌, List, [], ◌∷◌, ◌++◌}
 use Rattle.bit_fields.specs.Fields.{Field, field_bytes}
 
 -- packet_start_code_prefix, stream_id, PES_packet_length

@@ -1,5 +1,5 @@
 -- Transport packets (ISO/IEC 13818-1, 2.4.3.2 to 2.4.3.5): 188 bytes, of which 184 are adaptation field and payload
-use Rattle.std.specs.Prelude.{◌≡◌, ℕ, zero, suc, ◌+◌, ◌-◌, ◌*◌, ◌%◌, ◌<◌, ◌≤◌, ◌^◌, Bool, true, false, ◌==◌, ◌||◌, if◌then◌else◌, is_some, List, [], ◌∷◌, ◌++◌, length, take, drop, replicate, Option, Some, None, IfSome}
+use Rattle.std.specs.Prelude.{ℕ, zero, suc, ◌+◌, ◌-◌, ◌%◌, ◌<◌, ◌^◌, Bool, true, false, ◌==◌, ◌||◌, if◌then◌else◌, is_some, List, [], ◌∷◌, ◌++◌, length, take, drop, replicate, Option, Some, None, IfSome}
 use Rattle.bit_fields.specs.Fields.{Field, field_bytes}
 use Rattle.pes_packets.specs.declared.flags.PesFlags.{PesFlags}
 

@@ -1,5 +1,5 @@
 -- The sections that name a program and its streams (ISO/IEC 13818-1, 2.4.4)
-use Rattle.std.specs.Prelude.{ℕ, ◌+◌, ◌*◌, Bool, true, false, if◌then◌else◌, List, [], ◌∷◌, ◌++◌}
+use Rattle.std.specs.Prelude.{ℕ, ◌+◌, ◌*◌, Bool, if◌then◌else◌, List, [], ◌∷◌, ◌++◌}
 use Rattle.std.specs.Int.{bytes_high_first}
 use Rattle.bit_fields.specs.Fields.{Field, field_bytes}
 use Rattle.pes_packets.specs.Crc.{crc_of}

@@ -1,4 +1,4 @@
-use Rattle.std.proofs.Common.{◌++◌, List, ℕ, refl, ap, arith}
+use Rattle.std.proofs.Common.{◌++◌, List, ℕ, refl, ap}
 use Rattle.std.proofs.lemmas.Result.{IfOk-equal}
 use Rattle.pes_packets.proofs.Bits.{head_is}
 use Rattle.pes_packets.proofs.packet.put_head.Goals as goal

@@ -1,4 +1,4 @@
-use Rattle.std.proofs.Common.{◌++◌, List, ℕ, ap, arith}
+use Rattle.std.proofs.Common.{◌++◌, List, ℕ, ap}
 use Rattle.std.proofs.lemmas.List.{take-replicate}
 use Rattle.std.proofs.lemmas.Result.{IfOk-equal}
 use Rattle.pes_packets.proofs.packet.put_stuffing.Goals as goal

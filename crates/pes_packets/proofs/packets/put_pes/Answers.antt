@@ -1,6 +1,5 @@
-use Rattle.std.proofs.Common.{◌≡◌, ◌++◌, ◌<◌, ℕ, List, length, take, refl, ap, sym, ◌∙◌, arith}
+use Rattle.std.proofs.Common.{◌<◌, arith}
 use Rattle.std.proofs.lemmas.Result.{IfOk-equal, IfOk-weaker}
-use Rattle.pes_packets.specs.Packet.{packet}
 use Rattle.pes_packets.proofs.Cuts.{first_run, first_count}
 use Rattle.pes_packets.proofs.packets.put_pes.Goals as goal
 

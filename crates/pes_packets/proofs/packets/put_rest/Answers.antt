@@ -1,7 +1,7 @@
-use Rattle.std.proofs.Common.{◌≡◌, ◌<◌, ℕ, length, take, refl, ap, sym, ◌∙◌, arith, length-take, length-drop}
+use Rattle.std.proofs.Common.{◌≡◌, ◌<◌, length, refl, ap, arith, length-take, length-drop}
 use Rattle.std.proofs.lemmas.Bool.Decides.{nat_tests}
 use Rattle.pes_packets.proofs.Bits.{silent_room}
-use Rattle.pes_packets.proofs.Cuts.{runs_start, runs_more, runs_end}
+use Rattle.pes_packets.proofs.Cuts.{runs_more, runs_end}
 use Rattle.pes_packets.proofs.packets.put_rest.Goals as goal
 
 pub put_packet-requires-clause-room : goal.put_packet-requires-clause-room
