@@ -3,3 +3,4 @@ pub mod Tells
 pub mod Rooting
 pub mod Placing
 pub mod Naming
+pub mod Booking

@@ -68,11 +68,11 @@ unmade limits entry a x root v w is p own =
 pub same_own : (v w : Known) → Remembers v w → w.mine ≡ v.mine → AreOwn v.mine (length v.seen) → numbers w.seen w.mine ≡ numbers v.seen v.mine
 same_own v w s e own = ap (numbers w.seen) e ∙ numbers_begin v.seen w.seen v.mine s.1 (λ n. (own n).1)
 
-pub passes : (roots roots' : List At) (place : ℕ) (limits : StreamLimits) (v w : Known) → roots' ≡ roots → slice_get (gates roots) place ≡ Some v.gate → v.gate.about ≡ limits → Remembers v w
-    → ((slice_get (gates roots') place ≡ Some w.gate) × (w.gate.about ≡ limits)) × (w.gate.about ≡ v.gate.about) × Begins (told v.seen) (told w.seen)
-passes roots roots' place limits v w same at about s =
+pub passes : (ids ids' : List (GateId StreamLimits)) (place : ℕ) (limits : StreamLimits) (v w : Known) → ids' ≡ ids → slice_get ids place ≡ Some v.gate → v.gate.about ≡ limits → Remembers v w
+    → ((slice_get ids' place ≡ Some w.gate) × (w.gate.about ≡ limits)) × (w.gate.about ≡ v.gate.about) × Begins (told v.seen) (told w.seen)
+passes ids ids' place limits v w same at about s =
     let about' : w.gate.about ≡ v.gate.about = ap (λ g. g.about) s.0 in
-    ((ap (λ (l : List At). slice_get (gates l) place) same ∙ (at ∙ ap Some (sym s.0)), about' ∙ about), about', begins_told v.seen w.seen s.1)
+    ((ap (λ (l : List (GateId StreamLimits)). slice_get l place) same ∙ (at ∙ ap Some (sym s.0)), about' ∙ about), about', begins_told v.seen w.seen s.1)
 
 pub kept : (roots roots' : List At) (v w : Known) → roots' ≡ roots → numbers w.seen w.mine ≡ numbers v.seen v.mine
     → (numbers w.seen w.mine ≡ numbers v.seen v.mine) × ((q : ℕ) → told_at roots' q ≡ told_at roots q)
@@ -90,9 +90,9 @@ pub about_all : (limits : StreamLimits) (roots : List At) → All (λ k. (k.seen
 about_all limits [] a = All-nil (λ (g : GateId StreamLimits). g.about ≡ limits)
 about_all limits (k ∷ ks) a = All-cons (λ (g : GateId StreamLimits). g.about ≡ limits) k.gate (gates ks) (All-head (λ (k : At). (k.seen ≡ []) × (k.gate.about ≡ limits)) k ks a).1 (about_all limits ks (All-tail (λ (k : At). (k.seen ≡ []) × (k.gate.about ≡ limits)) k ks a))
 
-pub new_each : (rules : PortRules) (first : SharedState) (list : List SharedState) → IsNewPort rules (gates first.roots) first → All (IsFork first) list → All (IsNewPort rules (gates first.roots)) list
-new_each rules first [] n a = All-nil (IsNewPort rules (gates first.roots))
+pub new_each : (rules : PortRules) (first : SharedState) (list : List SharedState) → IsNewPort rules first → All (IsFork first) list → All (IsNewPort rules) list
+new_each rules first [] n a = All-nil (IsNewPort rules)
 new_each rules first (p ∷ ps) n a =
     let f = All-head (IsFork first) p ps a in
-    let new : IsNewPort rules (gates first.roots) p = record { rules_are = f.0 ∙ n.rules_are; gates_are = ap (λ (l : List At). gates l) f.1; unseen = λ q. ap (λ (l : List At). told_at l q) f.1 ∙ n.unseen q; no_busies = f.2 } in
-    All-cons (IsNewPort rules (gates first.roots)) p ps new (new_each rules first ps n (All-tail (IsFork first) p ps a))
+    let new : IsNewPort rules p = record { rules_are = f.0 ∙ n.rules_are; unseen = λ q. ap (λ (l : List At). told_at l q) f.1 ∙ n.unseen q; no_busies = f.2 } in
+    All-cons (IsNewPort rules) p ps new (new_each rules first ps n (All-tail (IsFork first) p ps a))

@@ -3,6 +3,7 @@ use Rattle.std.specs.Prelude.{◌≡◌, ℕ, ◌<◌, List, length, slice_get, 
 use Rattle.std.specs.declared.result.Result.{Result}
 use Rattle.std.specs.declared.result.Result.TheVariants.{Ok, Err}
 use Rattle.stream_model.specs.declared.calls.StreamLimits.{StreamLimits}
+use Rattle.turn_gate.specs.Known.{GateId}
 use Rattle.stream_registry.specs.declared.names.Name.{Name}
 use Rattle.stream_registry.specs.declared.names.NotFound.{NotFound}
 
@@ -18,7 +19,11 @@ abbrev pub IsPlaceOf : List Name → List ℕ → List ℕ → Result ℕ NotFou
 IsPlaceOf names app name (Ok place) = (place < length names) × ((n : Name) × (slice_get names place ≡ Some n) × IsNamed n app name)
 IsPlaceOf names app name (Err e) = NoneNamed names (length names) app name
 
--- what never changes of a port: the name of the stream at each place, and the limits of each
+-- what never changes of a port
 pub record PortRules : Type 0 where
+  -- the name of the stream at each place
   pub names : List Name
+  -- the limits of each stream
   pub limits : StreamLimits
+  -- the gates behind which the streams stand, or none where no other port serves them
+  pub gates : List (GateId StreamLimits)

@@ -36,7 +36,7 @@ impl Model for Shared {
 
     ghost Value = { SharedState };
 
-    ghost view = { λ s. record { rules = record { names = arc_value s.names; limits = s.limits }; roots = s.ways; busies = s.busies } };
+    ghost view = { λ s. record { rules = record { names = arc_value s.names; limits = s.limits; gates = gates s.ways }; roots = s.ways; busies = s.busies } };
 
     ghost invariant = { λ s. All (λ g. g.about ≡ s.limits) (gates s.ways) × (length s.ways ≡ length (arc_value s.names)) × (length (arc_value s.names) ≤ 64) };
 }
@@ -50,7 +50,7 @@ pub fn shared_ports(
     ports: usize,
 ) -> Result<Vec<Shared>, OutOfMemory>
     requires { length names ≤ 64 }
-    ensures { IfOk result (λ list. AreNewPorts record { names = names; limits = limits } ports list.items) }
+    ensures { IfOk result (λ list. AreNewPorts names limits ports list.items) }
 {
     let mut first = Shared::new(alloc, names, limits)?;
     let list = fork_ports(alloc, &mut first, ports)?;
@@ -86,7 +86,7 @@ fn new_ways(alloc: Global, limits: StreamLimits, places: usize) -> Result<Ways<D
 impl Shared {
     fn new(alloc: Global, names: NameList, limits: StreamLimits) -> Result<Shared, OutOfMemory>
         requires { length names ≤ 64 }
-        ensures { IfOk result (λ s. IsNewPort record { names = names; limits = limits } (gates s.roots) s) }
+        ensures { IfOk result (λ s. IsNewPort record { names = names; limits = limits; gates = gates s.roots } s) }
     {
         let ways = new_ways(alloc, limits, names.len())?;
         let Ok(names) = Arc::new(alloc, names) else {
@@ -101,7 +101,7 @@ impl Shared {
     }
 
     // A port for another thread, to the same gates.
-    fn fork(&mut self, alloc: Global) -> Result<Shared, OutOfMemory>
+    pub(crate) fn fork(&mut self, alloc: Global) -> Result<Shared, OutOfMemory>
         ensures fork { IfOk result (IsFork self.old) }
         ensures same { self.new ≡ self.old }
     {
@@ -117,10 +117,10 @@ impl Shared {
         })
     }
 
-    /// What the other's root had seen is a beginning of what this one has then seen, at each place.
+    /// What the other's root had seen is a beginning of what this one has then seen, at each place. Both come from one call
+    /// of `shared_ports`.
     pub fn gather(&mut self, other: Shared)
-        requires { gates other.roots ≡ gates self.old.roots }
-        ensures gates { gates self.new.roots ≡ gates self.old.roots }
+        requires { other.rules ≡ self.old.rules }
         ensures same { (self.new.rules ≡ self.old.rules) × (self.new.busies ≡ self.old.busies) }
         ensures grown { Later (told_at self.old.roots) (told_at self.new.roots) }
         ensures later { Later (told_at other.roots) (told_at self.new.roots) }
@@ -139,7 +139,6 @@ impl StreamPort for Shared {
     type Pass = Pass<Desk>;
 
     ghost use Rattle.std.specs.Prelude.{◌≡◌, Some, length, slice_get};
-    ghost use Rattle.stream_registry.specs.Roots.{gates};
     ghost use Rattle.stream_registry.specs.Gates.{told, told_at, numbers};
 
     ghost busies = { λ s. s.busies };
@@ -148,7 +147,7 @@ impl StreamPort for Shared {
 
     ghost root = { λ s. told_at s.roots };
 
-    ghost fits = { λ s place p. (slice_get (gates s.roots) place ≡ Some p.gate) × (p.gate.about ≡ s.rules.limits) };
+    ghost fits = { λ s place p. (slice_get s.rules.gates place ≡ Some p.gate) × (p.gate.about ≡ s.rules.limits) };
 
     ghost limits = { λ p. p.gate.about };
 

@@ -7,4 +7,4 @@ pub invariant_of-result : goal.invariant_of-result
 invariant_of-result c = (about_all c.args.limits c.in_ok-ways.ways c.in_ok-ways.ensures.1, search rules, search rules)
 
 pub returns : goal.returns
-returns c = record { rules_are = search rules; gates_are = refl; unseen = seen_all c.args.limits c.in_ok-ways.ways c.in_ok-ways.ensures.1; no_busies = refl }
+returns c = record { rules_are = search rules; unseen = seen_all c.args.limits c.in_ok-ways.ways c.in_ok-ways.ensures.1; no_busies = refl }

@@ -1,15 +1,16 @@
-use Rattle.std.proofs.Common.{rules, ◌≡◌, Ok, Err, sym, ap, subst}
+use Rattle.std.proofs.Common.{rules, ◌≡◌, List, Ok, Err, sym, ap, ◌∙◌, subst}
 use Rattle.stream_model.specs.declared.calls.StreamLimits.{StreamLimits}
 use Rattle.turn_gate.specs.Known.{RepliedAfter}
-use Rattle.stream_registry.specs.Pasts.{IsLawfulAt}
-use Rattle.stream_registry.specs.Roots.{seen_at}
+use Rattle.stream_registry.specs.Pasts.{Attempt, IsLawfulAt}
+use Rattle.stream_registry.specs.Roots.{Root, gates, seen_at}
+use Rattle.stream_registry.specs.SharedState.{SharedState}
 use Rattle.stream_registry.specs.Told.{Keeps}
 use Rattle.stream_registry.specs.Gates.{told}
 use Rattle.stream_registry.proofs.Placing.{placed, keeps, room, unmade, same_own, passes, kept}
 use Rattle.stream_registry.proofs.shared.SharedStreamPort.call.Goals as goal
 
 pub returns-in-Ok-Ok-clause-pass : goal.returns-in-Ok-Ok-clause-pass
-returns-in-Ok-Ok-clause-pass c = passes c.args.self.now.roots c.call.new.self c.args.place c.self.inside.limits c.args.pass.now c.call.new.pass (search rules) c.requires.0 (search rules) c.call.ensures.pass
+returns-in-Ok-Ok-clause-pass c = passes c.args.self.now.rules.gates (gates c.call.new.self) c.args.place c.self.inside.limits c.args.pass.now c.call.new.pass (ap (λ (l : List (Root StreamLimits Attempt)). gates l) c.call.ensures.port ∙ ap (λ (x : SharedState). x.rules.gates) c.self.view_is) c.requires.0 (search rules) c.call.ensures.pass
 
 pub returns-in-Ok-Ok-clause-reply : goal.returns-in-Ok-Ok-clause-reply
 returns-in-Ok-Ok-clause-reply c =
@@ -30,7 +31,7 @@ returns-in-Ok-Ok-clause-room c =
     room c.args.pass.now.gate.about _ _ _ _ a
 
 pub returns-in-Ok-Err-clause-pass : goal.returns-in-Ok-Err-clause-pass
-returns-in-Ok-Err-clause-pass c = passes c.args.self.now.roots c.call.new.self c.args.place c.self.inside.limits c.args.pass.now c.call.new.pass (search rules) c.requires.0 (search rules) c.call.ensures.pass
+returns-in-Ok-Err-clause-pass c = passes c.args.self.now.rules.gates (gates c.call.new.self) c.args.place c.self.inside.limits c.args.pass.now c.call.new.pass (ap (λ (l : List (Root StreamLimits Attempt)). gates l) c.call.ensures.port ∙ ap (λ (x : SharedState). x.rules.gates) c.self.view_is) c.requires.0 (search rules) c.call.ensures.pass
 
 pub returns-in-Ok-Err-clause-unmade : goal.returns-in-Ok-Err-clause-unmade
 returns-in-Ok-Err-clause-unmade c =
@@ -38,7 +39,7 @@ returns-in-Ok-Err-clause-unmade c =
     kept c.args.self.now.roots c.call.new.self c.args.pass.now c.call.new.pass (search rules) (unmade c.args.pass.now.gate.about _ _ c.in-Ok-Err.field-0-0 _ _ _ c.in-Ok-Err.field-0-is a c.seen.ensures.own)
 
 pub returns-in-Err-Busy-clause-pass : goal.returns-in-Err-Busy-clause-pass
-returns-in-Err-Busy-clause-pass c = passes c.args.self.now.roots c.call.new.self c.args.place c.self.inside.limits c.args.pass.now c.call.new.pass (search rules) c.requires.0 (search rules) c.call.ensures.pass
+returns-in-Err-Busy-clause-pass c = passes c.args.self.now.rules.gates (gates c.call.new.self) c.args.place c.self.inside.limits c.args.pass.now c.call.new.pass (ap (λ (l : List (Root StreamLimits Attempt)). gates l) c.call.ensures.port ∙ ap (λ (x : SharedState). x.rules.gates) c.self.view_is) c.requires.0 (search rules) c.call.ensures.pass
 
 pub returns-in-Err-Busy-clause-unmade : goal.returns-in-Err-Busy-clause-unmade
 returns-in-Err-Busy-clause-unmade c =
@@ -46,7 +47,7 @@ returns-in-Err-Busy-clause-unmade c =
     kept c.args.self.now.roots c.call.new.self c.args.pass.now c.call.new.pass (search rules) (same_own c.args.pass.now c.call.new.pass c.call.ensures.pass mine c.seen.ensures.own)
 
 pub returns-clause-pass : goal.returns-clause-pass
-returns-clause-pass c = passes c.args.self.now.roots c.call.new.self c.args.place c.self.inside.limits c.args.pass.now c.call.new.pass (search rules) c.requires.0 (search rules) c.call.ensures.pass
+returns-clause-pass c = passes c.args.self.now.rules.gates (gates c.call.new.self) c.args.place c.self.inside.limits c.args.pass.now c.call.new.pass (ap (λ (l : List (Root StreamLimits Attempt)). gates l) c.call.ensures.port ∙ ap (λ (x : SharedState). x.rules.gates) c.self.view_is) c.requires.0 (search rules) c.call.ensures.pass
 
 pub returns-clause-unmade : goal.returns-clause-unmade
 returns-clause-unmade c =

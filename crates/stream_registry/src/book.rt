@@ -1,0 +1,93 @@
+//! A stream with a journal of its calls.
+ghost use Rattle.std.specs.Prelude.{◌≡◌, ◌+◌, ◌<◌, ◌≤◌, ◌^◌, ◌++◌, ◌∷◌, [], length, reverse, IfOk, IfErr, OnErr};
+ghost use Rattle.stream_model.specs.Answer.{reply};
+ghost use Rattle.stream_model.specs.Held.{held};
+ghost use Rattle.stream_model.specs.History.{items_of};
+ghost use Rattle.stream_registry.specs.Told.{Keeps};
+ghost use Rattle.stream_registry.specs.Placed.{Failed};
+
+use crate::again::entry_again;
+use crate::port::PortFail;
+use av_unit::OutOfMemory;
+use std::alloc::Global;
+use std::marker::Model;
+use stream_core::{Entry, Reply, Stream, StreamLimits};
+
+/// The number of calls in a full journal.
+const FULL: usize = 1 << 62;
+
+/// A stream, and all its calls with their replies.
+#[derive(Drop)]
+pub(crate) struct Book {
+    stream: Stream,
+    journal: Vec<(Entry, Reply)>,
+}
+
+impl Model for Book {
+    ghost use Rattle.std.specs.Prelude.{◌≡◌, ◌≤◌, ◌^◌, length, reverse};
+    ghost use Rattle.stream_registry.specs.Books.{BookState};
+
+    ghost Value = { BookState };
+
+    ghost view = { λ b. record { limits = b.stream.limits; journal = b.journal.items } };
+
+    ghost invariant = { λ b. (b.stream.past ≡ reverse b.journal.items) × (length b.journal.items ≤ 2 ^ 62) };
+}
+
+impl Book {
+    pub fn new(alloc: Global, limits: StreamLimits) -> Result<Book, OutOfMemory>
+        ensures { IfOk result (λ b. b ≡ record { limits = limits; journal = [] }) }
+    {
+        Ok(Book {
+            stream: Stream::new(alloc, limits)?,
+            journal: Vec::new(alloc),
+        })
+    }
+
+    /// All calls so far, the oldest first.
+    pub fn journal(&self) -> &[(Entry, Reply)]
+        ensures { result.now ≡ self.now.journal }
+    {
+        &self.journal
+    }
+
+    /// What the stream holds, in bytes.
+    pub fn held(&self) -> u64
+        ensures sum { result ≡ held self.now.limits (items_of (reverse self.now.journal)) }
+        ensures most { result ≤ self.now.limits.bytes + 196608 }
+    {
+        self.stream.held()
+    }
+
+    /// The journal keeps the rules and the viewer's law.
+    pub fn laws(&self)
+        ensures keeps { Keeps self.now.limits self.now.journal }
+        ensures room { length self.now.journal ≤ 2 ^ 62 }
+    {
+        self.stream.history_law();
+    }
+
+    pub fn call(&mut self, entry: Entry) -> Result<Reply, PortFail>
+        ensures reply { IfOk result (λ r. r ≡ reply self.old.limits (reverse self.old.journal) entry) }
+        ensures noted { IfOk result (λ r. self.new ≡ record { limits = self.old.limits; journal = self.old.journal ++ (entry, r) ∷ [] }) }
+        ensures fails { IfErr result (λ e. Failed entry 0 0 (length self.old.journal) e) }
+        ensures same { IfErr result (λ _. self.new ≡ self.old) }
+    {
+        if self.journal.len() == FULL {
+            return Err(PortFail::Worn(entry));
+        }
+        let Ok(spare) = entry_again(&entry) else {
+            return Err(PortFail::OutOfMemory(entry));
+        };
+        if self.journal.reserve(1).is_err() {
+            return Err(PortFail::OutOfMemory(entry));
+        }
+        match self.stream.apply_twice(entry) {
+            Ok((reply, kept)) => {
+                self.journal.push_reserved((spare, kept));
+                Ok(reply)
+            }
+            Err(OutOfMemory) => Err(PortFail::OutOfMemory(spare)),
+        }
+    }
+}
