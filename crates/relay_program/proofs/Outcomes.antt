@@ -1,8 +1,6 @@
 -- How a drill's ends give its outcome.
-use Rattle.std.proofs.Common.{◌≡◌, ◌⊎◌, inl, inr, ℕ, Bool, true, false, List, [], ◌++◌, Option, None, Some, refl, ap, sym, ◌∙◌, arith}
-use Rattle.std.specs.Io.KnownBytes.{append_known, IsAtEnd}
-use Rattle.relay_outside.specs.Counts.{Rose}
-use Rattle.relay_base.specs.declared.limits.Status.{Status}
+use Rattle.std.proofs.Common.{◌≡◌, inl, inr, ℕ, Bool, true, false, List, [], None, Some, refl, ap, sym, arith}
+use Rattle.std.specs.Io.KnownBytes.{IsAtEnd}
 use Rattle.relay_program.specs.declared.drills.DrillFail.{DrillFail}
 use Rattle.relay_program.specs.declared.drills.DrillFail.TheVariants.{Outside, SourceFault, SinkFault, OutOfMemory}
 use Rattle.relay_program.specs.Drill.{drill_text, outside_line}

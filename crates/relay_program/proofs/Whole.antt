@@ -1,5 +1,5 @@
 -- The whole lines of a script, and the line that was begun.
-use Rattle.std.proofs.Common.{◌≡◌, inl, inr, ℕ, zero, suc, ◌+◌, ◌<◌, ◌==◌, if◌then◌else◌, Bool, true, false, List, [], ◌∷◌, ◌++◌, Option, None, Some, length}
+use Rattle.std.proofs.Common.{◌≡◌, inl, inr, ℕ, zero, suc, ◌+◌, ◌<◌, ◌==◌, if◌then◌else◌, true, false, List, [], ◌∷◌, ◌++◌, Option, None, Some, length}
 use Rattle.std.proofs.Common.{refl, ap, sym, ◌∙◌, subst, append_assoc, arith}
 use Rattle.std.proofs.Math.ListN.{replicate}
 use Rattle.std.proofs.lemmas.List.{append-nil, length-append, length-replicate}
@@ -10,7 +10,6 @@ use Rattle.relay_script.proofs.OneLine.{both}
 use Rattle.relay_program.specs.declared.drills.Drilling.{Drilling}
 use Rattle.relay_program.specs.Drill.{State, after_line, text_from, text_then, outside_from, outside_then, drill_text, outside_line}
 use Rattle.relay_program.specs.Outcome.{Writes, IsWholeLines, WritesWholeLines}
-use Rattle.relay_program.specs.Parts.{text_ahead}
 use Rattle.relay_program.specs.Ends.{Ahead}
 use Rattle.relay_program.proofs.Known.{wrote_all}
 use Rattle.relay_program.proofs.Script.{lines_of_run, IsFirstOutside, over}

@@ -10,7 +10,6 @@ use Rattle.av_unit.specs.declared.unit.Kind.{Kind}
 use Rattle.av_unit.specs.declared.unit.Kind.TheVariants.{Meta, VConfig, AConfig, Key, Inter, Audio, Data}
 use Rattle.av_unit.specs.declared.head.Want.{Want}
 use Rattle.av_unit.specs.Fits.{most_bytes}
-use Rattle.stream_model.specs.declared.calls.StreamLimits.{StreamLimits}
 use Rattle.stream_model.specs.declared.calls.Call.{Call}
 use Rattle.stream_model.specs.declared.calls.Call.TheVariants as call
 use Rattle.relay_script.specs.declared.line.DrillLine.{DrillLine}

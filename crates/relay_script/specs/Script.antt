@@ -1,5 +1,5 @@
 -- The lines of a script, and where they end.
-use Rattle.std.specs.Prelude.{◌≡◌, ℕ, ◌+◌, ◌^◌, if◌then◌else◌, ◌==◌, nat_le, false, List, [], ◌∷◌, ◌++◌, None, Some}
+use Rattle.std.specs.Prelude.{◌≡◌, ℕ, ◌+◌, ◌^◌, if◌then◌else◌, ◌==◌, nat_le, false, List, [], ◌∷◌, ◌++◌, None}
 use Rattle.std.specs.declared.option.Option.{Option}
 
 -- bytes without an LF

@@ -1,4 +1,4 @@
-use Rattle.std.proofs.Common.{◌∙◌, ◌++◌, ◌≡◌, List, ℕ, Option, Some, ap, refl, arith}
+use Rattle.std.proofs.Common.{◌∙◌, ◌++◌, List, ℕ, Option, Some, ap, refl}
 use Rattle.stream_model.specs.declared.replies.Reply.{Reply}
 use Rattle.stream_model.specs.Known.{answered}
 use Rattle.relay_script.specs.declared.line.DrillLine.{DrillLine}
