@@ -10,3 +10,6 @@
 mod cursor;
 
 pub use cursor::Cursor;
+
+#[cfg(test)]
+mod tests;

@@ -1,9 +1,11 @@
 -- What an answer to a Take makes of the player's cursor.
-use Rattle.std.proofs.Common.{◌≡◌, ℕ, zero, suc, ◌+◌, ◌<◌, ◌≤◌, ◌⊎◌, inl, inr, max, nat_lt, nat_le, Bool, true, false, if◌then◌else◌, List, [], ◌∷◌, ◌++◌, length, drop, Some, None, Option, option_map, refl, ap, sym, ◌∙◌, arith}
+use Rattle.std.proofs.Common.{◌≡◌, ℕ, zero, suc, ◌+◌, ◌<◌, ◌≤◌, ◌⊎◌, inl, inr, max, nat_lt, nat_le, Bool, true, false, if◌then◌else◌, List, [], ◌∷◌, ◌++◌, length, drop, Some, None, Option, Result, Ok, Err, IfOk, refl, ap, sym, ◌∙◌, arith}
 use Rattle.std.specs.List.{slice_get}
 use Rattle.std.specs.Option.{IfSome}
 use Rattle.std.proofs.lemmas.Bool.{lt-ltb, le-ltb}
 use Rattle.std.proofs.lemmas.List.{take_all}
+use Rattle.av_unit.specs.declared.bytes.OutOfMemory.{OutOfMemory}
+use Rattle.stream_model.specs.declared.replies.Reply.{Reply}
 use Rattle.av_unit.specs.declared.item.Item.{Item}
 use Rattle.av_unit.specs.declared.item.Item.TheVariants as item
 use Rattle.av_unit.specs.declared.unit.UnitArc.{UnitArc}
@@ -99,3 +101,7 @@ pub configured_next : (s : Slot) (n : ℕ) (c : CursorState) → (configured s n
 configured_next slot.Meta n c = refl
 configured_next slot.Video n c = refl
 configured_next slot.Audio n c = refl
+
+pub if_ok_more : (result : Result Reply OutOfMemory) (P Q : Reply → Type 0) → ((r : Reply) → P r → Q r) → IfOk result P → IfOk result Q
+if_ok_more (Ok r) P Q more h = more r h
+if_ok_more (Err e) P Q more h = tt

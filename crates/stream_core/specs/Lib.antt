@@ -3,3 +3,4 @@ pub mod Answers
 pub mod Tally
 pub mod IsPast
 pub mod Itemless
+pub mod Alone

@@ -6,6 +6,7 @@ ghost use Rattle.stream_model.specs.History.{items_of};
 ghost use Rattle.stream_model.specs.Known.{StreamKnown, answered, IsLawful};
 ghost use Rattle.stream_model.specs.Legal.{Legal};
 ghost use Rattle.stream_core.specs.Placed.{free_place};
+ghost use Rattle.stream_core.specs.Alone.{DependsOnItsOwn};
 ghost use Rattle.stream_core.specs.Itemless.{Itemless};
 ghost use Rattle.stream_core.specs.Tally.{tally_after};
 
@@ -19,7 +20,7 @@ use player_cursor::Cursor;
 use std::alloc::Global;
 use std::marker::Model;
 use std::snapshot::Snapshot;
-use stream_law::viewers_law;
+use stream_law::{takes_alone, viewers_law};
 use stream_model::{Call, Entry, Reply, StreamLimits};
 use unit_ring::Ring;
 
@@ -72,9 +73,11 @@ impl Stream {
         ensures err { OnErr result (self.new ≡ self.old) }
         ensures memory { OnErr result (IsSent (reply self.old.limits self.old.past entry)) }
         ensures viewers { (place : ℕ) → Legal self.new.limits self.new.past place }
+        ensures alone { IfOk result (λ r. DependsOnItsOwn self.old.limits self.old.past entry r) }
     {
         let reply = self.answer(entry);
         self.history_law();
+        takes_alone();
         reply
     }
 
