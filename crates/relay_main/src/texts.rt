@@ -56,6 +56,10 @@ are decimal digits without a sign or a leading zero.
   count
       How many calls so far were answered so.
       counts BEGAN PUSHED ENDED JOINED SKIPS
+  held
+      How many bytes of bodies the stream holds: those of its window, and of the
+      configurations in effect where the window begins.
+      held BYTES
 
 WHO and TIME are below 4294967296, PLAYER is below 256. LEN is at most 4194304,
 and at most 65536 for meta, vconfig and aconfig. BYTES is at most 268435456,

@@ -1,5 +1,5 @@
 -- What a put reply line says of its line.
-use Rattle.std.proofs.Common.{◌≡◌, ℕ, List, [], Option, Some, Result, Ok, Err, MatchResult, refl, ap, sym, ◌∙◌}
+use Rattle.std.proofs.Common.{◌≡◌, ℕ, List, [], Option, Some, Result, Ok, Err, MatchResult, refl, ap, sym, ◌∙◌, subst}
 use Rattle.std.specs.Io.KnownBytes.{append_known}
 use Rattle.relay_program.specs.declared.drills.DrillFail.{DrillFail}
 use Rattle.relay_program.specs.declared.drills.DrillFail.TheVariants.{Outside, SourceFault, SinkFault, OutOfMemory}
@@ -50,3 +50,23 @@ limits_cause (Err (Outside n)) limits old new number faults h = refl
 limits_cause (Err SourceFault) limits old new number faults h = absurd h
 limits_cause (Err SinkFault) limits old new number faults h = absurd h
 limits_cause (Err OutOfMemory) limits old new number faults h = refl
+
+-- ---- what is held
+
+pub held_told : (r : Result (Unit {0}) DrillFail) (after : Option Done) (does : Done) (new : State) (number : ℕ) (before now : Option (List ℕ)) → after
+    ≡ Some does
+    → MatchResult r (λ _. Answered (Some does) new before now) (λ fail. PutFails fail does.text before now)
+    → MatchResult r (λ _. Answered after new before now) (λ fail. AnswerFails fail after number before now)
+held_told (Ok x) after does new number before now is h = rw is h
+held_told (Err fail) after does new number before now is h = fails fail after number does.text before now (ap said_by (sym is)) h
+
+put_fails : (fail : DrillFail) (text other : List ℕ) (before now : Option (List ℕ)) → text ≡ other → PutFails fail text before now
+    → PutFails fail other before now
+put_fails fail text other before now e h = subst (λ (l : List ℕ). PutFails fail l before now) e h
+
+pub held_put : (r : Result (Unit {0}) DrillFail) (does : Done) (new : State) (text : List ℕ) (before now : Option (List ℕ)) →
+    MatchResult r (λ _. now ≡ append_known before text) (λ fail. PutFails fail text before now) → new ≡ does.state → text ≡ does.text
+    → MatchResult r (λ _. Answered (Some does) new before now) (λ fail. PutFails fail does.text before now)
+held_put (Ok x) does new text before now puts grows spelled =
+    record { does = does; after_is = refl; state = grows; writes = puts ∙ ap (append_known before) spelled }
+held_put (Err fail) does new text before now puts grows spelled = put_fails fail text does.text before now spelled puts

@@ -4,13 +4,15 @@ use Rattle.std.specs.declared.option.Option.{Option}
 use Rattle.stream_model.specs.declared.calls.StreamLimits.{StreamLimits}
 use Rattle.stream_model.specs.declared.calls.Entry.{Entry}
 use Rattle.stream_model.specs.declared.replies.Reply.{Reply}
+use Rattle.stream_model.specs.History.{items_of}
+use Rattle.stream_model.specs.Held.{held}
 use Rattle.stream_model.specs.Known.{StreamKnown, answered}
 use Rattle.stream_model.specs.Answer.{reply}
 use Rattle.relay_script.specs.declared.line.DrillLine.{DrillLine}
-use Rattle.relay_script.specs.declared.line.DrillLine.TheVariants.{Nothing, Ring, Step}
+use Rattle.relay_script.specs.declared.line.DrillLine.TheVariants.{Nothing, Ring, Step, Held}
 use Rattle.relay_script.specs.Script.{Line, lines, line_says}
 use Rattle.relay_script.specs.Lines.{meaning}
-use Rattle.relay_script.specs.Texts.{line_of}
+use Rattle.relay_script.specs.Texts.{line_of, held_text}
 
 -- ---- one line
 
@@ -47,11 +49,16 @@ replied k entry r = done (Some (answered k entry r)) (line_of r)
 abbrev pub call_does : StreamKnown → Entry → Done
 call_does k entry = replied k entry (reply k.limits k.past entry)
 
+-- what the stream holds is printed, and it stays as it is
+abbrev pub held_does : StreamKnown → Done
+held_does k = done (Some k) (held_text (held k.limits (items_of k.past)))
+
 -- what a line does in that state: None where it may not stand there
 abbrev pub does : DrillLine → State → Option Done
 does Nothing s = Some (done s [])
 does (Ring limits) s = ring_does limits s
 does (Step entry) s = Some (call_does (stream_of s) entry)
+does Held s = Some (held_does (stream_of s))
 
 -- the same of a line by its meaning, which it lacks where it is no line of a script
 abbrev pub after_line : Option DrillLine → State → Option Done

@@ -3,9 +3,11 @@ ghost use Rattle.std.specs.Prelude.{Some, None, MatchResult, IfOk, OnOk};
 ghost use Rattle.std.specs.Io.KnownBytes.{append_known, IsAtEnd};
 ghost use Rattle.stream_model.specs.Answer.{reply};
 ghost use Rattle.stream_model.specs.Known.{answered};
+ghost use Rattle.stream_model.specs.History.{items_of};
+ghost use Rattle.stream_model.specs.Held.{held};
 ghost use Rattle.relay_script.specs.Lines.{meaning};
 ghost use Rattle.relay_script.specs.Script.{NoLineFeed};
-ghost use Rattle.relay_program.specs.Drill.{defaults, done, stream_of, ring_does, after_line, drill_text, outside_line};
+ghost use Rattle.relay_program.specs.Drill.{defaults, done, stream_of, ring_does, held_does, after_line, drill_text, outside_line};
 ghost use Rattle.relay_program.specs.Outcome.{in_out, Outcome, Writes, WritesPartOfRead};
 ghost use Rattle.relay_program.specs.Parts.{PutFails, AfterFaultOf, SinkCause, SinkFaults, SourceFaults, Answered, AnswerFails, LimitsFail};
 ghost use Rattle.relay_program.specs.Parts.{Fit, Advances, Fails, FailsAt, Extended, ExtendFails, text_ahead, outside_ahead};
@@ -15,7 +17,7 @@ ghost use Rattle.relay_program.specs.Words.{is_drill};
 use av_unit::{Bytes, OutOfMemory};
 use relay_base::Status;
 use relay_outside::{Got, Put, Sink, Source};
-use relay_script::{DrillLine, LineFail, drill_line, reply_text};
+use relay_script::{DrillLine, LineFail, drill_line, held_text, reply_text};
 use std::alloc::Global;
 use stream_core::{Entry, Reply, Stream, StreamLimits};
 
@@ -104,6 +106,43 @@ fn make_call(alloc: Global, stream: &mut Option<Stream>, entry: Entry) -> Result
     }
 }
 
+// The number of bytes that the stream holds, which has the default limits where the script has said none.
+fn held_bytes(alloc: Global, stream: &mut Option<Stream>) -> Result<u64, OutOfMemory>
+    ensures held { IfOk result (λ n. n ≡ held (stream_of stream.old).limits (items_of (stream_of stream.old).past)) }
+    ensures stream { IfOk result (λ _. stream.new ≡ Some (stream_of stream.old)) }
+{
+    match stream {
+        Some(stream) => Ok(stream.held()),
+        None => {
+            let new = Stream::new(alloc, default_limits())?;
+            let bytes = new.held();
+            *stream = Some(new);
+            Ok(bytes)
+        }
+    }
+}
+
+// Puts the line of what the stream holds.
+fn tell_held<K: Sink>(
+    alloc: Global,
+    stream: &mut Option<Stream>,
+    out: &mut K,
+) -> Result<(), DrillFail>
+    ensures stream { OnOk result (stream.new ≡ Some (stream_of stream.old)) }
+    ensures says { MatchResult result (λ _. Answered (Some (held_does (stream_of stream.old))) stream.new (K.holds out.old) (K.holds out.new))
+        (λ fail. PutFails fail (held_does (stream_of stream.old)).text (K.holds out.old) (K.holds out.new)) }
+    ensures faults { MatchResult result (λ _. K.faults out.new ≡ K.faults out.old) (λ fail. SinkCause fail (K.faults out.old) (K.faults out.new)) }
+{
+    let Ok(bytes) = held_bytes(alloc, stream) else {
+        return Err(DrillFail::OutOfMemory);
+    };
+    let mut text = Bytes::new(alloc);
+    let Ok(()) = held_text(alloc, bytes, &mut text) else {
+        return Err(DrillFail::OutOfMemory);
+    };
+    put_all(out, text.as_slice())
+}
+
 // Answers the line with that number.
 fn answer<K: Sink>(
     alloc: Global,
@@ -121,6 +160,7 @@ fn answer<K: Sink>(
     let entry = match drill_line(alloc, line) {
         Ok(DrillLine::Nothing) => return Ok(()),
         Ok(DrillLine::Ring(limits)) => return take_limits(alloc, stream, limits, number),
+        Ok(DrillLine::Held) => return tell_held(alloc, stream, out),
         Ok(DrillLine::Step(entry)) => entry,
         Err(LineFail::Outside) => return Err(DrillFail::Outside { line: number }),
         Err(LineFail::OutOfMemory) => return Err(DrillFail::OutOfMemory),

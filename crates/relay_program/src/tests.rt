@@ -210,6 +210,23 @@ const SCRIPTS: &[u8] = b"
 <item 4 4 key 120 336
 <notyet 5
 
+># what is held: the items from the base on and the configuration in effect there
+>ring 1000 16 4
+>held
+>begin 1
+>push 1 vconfig 0 36
+>push 1 key 0 336
+>push 1 inter 40 336
+>push 1 key 80 336
+>held
+<held 0
+<began 0
+<pushed 1
+<pushed 2
+<pushed 3
+<pushed 4
+<held 708
+
 ># sound alone is passed over
 >ring 1000000 3 4
 >begin 1
@@ -255,6 +272,11 @@ const SCRIPTS: &[u8] = b"
 
 >ring 0 1 1
 >ring 0 1 1
+<code 4 at 2
+
+>held
+>ring 0 1 1
+<held 0
 <code 4 at 2
 
 >count

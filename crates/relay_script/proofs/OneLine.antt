@@ -11,7 +11,7 @@ use Rattle.av_unit.specs.declared.item.Item.TheVariants as item
 use Rattle.stream_model.specs.declared.replies.Reply.{Reply}
 use Rattle.stream_model.specs.declared.replies.Reply.TheVariants.{Began, InUse, Pushed, NotPublisher, Ended, Joined, Full, NotPlayer, Sent, Skip, NotYet}
 use Rattle.stream_model.specs.declared.replies.Reply.TheVariants.{Left, Counts}
-use Rattle.relay_script.specs.Texts.{line_of, item_text, kind_text, live_text}
+use Rattle.relay_script.specs.Texts.{line_of, held_text, item_text, kind_text, live_text}
 use Rattle.relay_script.specs.OneLine.{IsOneLine, IsU64, IsLive, IsItem, IsReply}
 use Rattle.relay_script.specs.Script.{NoLineFeed}
 
@@ -91,3 +91,6 @@ one_line (Left player) h = ended (and (fixed (codes "left ") refl) (num player h
 one_line (Counts began pushed ended_ joined skips) h =
     ended (and (and (and (and (and (and (and (and (and (fixed (codes "counts ") refl) (num began h.0)) space) (num pushed h.1)) space) (num ended_ h.2))
     space) (num joined h.3)) space) (num skips h.4))
+
+pub held_line : (bytes : ℕ) → IsU64 bytes → IsOneLine (held_text bytes)
+held_line bytes h = ended (and (fixed (codes "held ") refl) (num bytes h))

@@ -13,7 +13,7 @@ use Rattle.av_unit.specs.Fits.{most_bytes}
 use Rattle.stream_model.specs.declared.calls.Call.{Call}
 use Rattle.stream_model.specs.declared.calls.Call.TheVariants as call
 use Rattle.relay_script.specs.declared.line.DrillLine.{DrillLine}
-use Rattle.relay_script.specs.declared.line.DrillLine.TheVariants.{Nothing, Ring, Step}
+use Rattle.relay_script.specs.declared.line.DrillLine.TheVariants.{Nothing, Ring, Step, Held}
 
 -- ---- words
 
@@ -170,21 +170,21 @@ leave_line words =
     next rest player_of (λ player rest.
     last rest (step who (call.Leave player))))
 
--- a call other than a push, by its first word
+-- a line other than a push, by its first word
 abbrev pub plain_line : List ℕ → Option (List ℕ) → Option DrillLine
 plain_line word rest =
-    if is_text word (codes "begin") then who_line call.Begin rest
+    if is_text word (codes "ring") then ring_line rest
+    else (if is_text word (codes "held") then last rest Held
+    else (if is_text word (codes "begin") then who_line call.Begin rest
     else (if is_text word (codes "end") then who_line call.End rest
     else (if is_text word (codes "join") then who_line call.Join rest
     else (if is_text word (codes "take") then take_line rest
     else (if is_text word (codes "leave") then leave_line rest
-    else (if is_text word (codes "count") then last rest (step 0 call.Count) else None)))))
+    else (if is_text word (codes "count") then last rest (step 0 call.Count) else None)))))))
 
 -- a line by its first word
 abbrev pub worded_line : List ℕ → Option (List ℕ) → Option DrillLine
-worded_line word rest =
-    if is_text word (codes "push") then push_line rest
-    else (if is_text word (codes "ring") then ring_line rest else plain_line word rest)
+worded_line word rest = if is_text word (codes "push") then push_line rest else plain_line word rest
 
 -- an empty line, a line that begins with `#`, or one of the lines above
 abbrev pub form : List ℕ → Option DrillLine

@@ -35,6 +35,10 @@ item_text item.Begin = codes "begin"
 item_text item.End = codes "end"
 item_text (item.Unit u) = unit_text u.kind u.time (length u.body)
 
+-- the line of what is held, with its LF
+abbrev pub held_text : ℕ → List ℕ
+held_text bytes = codes "held " ++ decimal bytes ++ codes "\n"
+
 -- the line of a reply, with its LF
 abbrev pub line_of : Reply → List ℕ
 line_of (Began n) = codes "began " ++ decimal n ++ codes "\n"

@@ -3,7 +3,7 @@ ghost use Rattle.std.specs.Prelude.{position, ◌==◌, codes, true};
 ghost use Rattle.std.specs.Option.{option_copied, option_map, IfSome};
 ghost use Rattle.stream_model.specs.declared.calls.Call.{Call};
 ghost use Rattle.av_unit.specs.Fits.{most_bytes};
-ghost use Rattle.relay_script.specs.declared.line.DrillLine.TheVariants.{Ring};
+ghost use Rattle.relay_script.specs.declared.line.DrillLine.TheVariants.{Ring, Held};
 ghost use Rattle.relay_script.specs.Lines.{is_text, digits_from, below, number, count_of, first_word, kind_of, want_of, who_of, last, step};
 ghost use Rattle.relay_script.specs.Lines.{ring_line, who_line, push_step, push_line, take_line, leave_line, plain_line, worded_line, meaning};
 
@@ -20,6 +20,8 @@ pub enum DrillLine {
     Ring(StreamLimits),
     /// A call at the stream, made before its caller was fed any byte.
     Step(Entry),
+    /// What the stream holds.
+    Held,
 }
 
 /// Why a line gives nothing.
@@ -294,11 +296,24 @@ fn count_line(words: Option<&[u8]>) -> Option<DrillLine>
     }
 }
 
-// A call other than a push.
+fn held_line(words: Option<&[u8]>) -> Option<DrillLine>
+    ensures { result ≡ last (option_copied words.entry) Held }
+{
+    match words {
+        Some(_) => None,
+        None => Some(DrillLine::Held),
+    }
+}
+
+// A line other than a push.
 fn plain_line(word: &[u8], rest: Option<&[u8]>) -> Option<DrillLine>
     ensures { result ≡ plain_line word.now (option_copied rest.entry) }
 {
-    if word == b"begin".as_slice() {
+    if word == b"ring".as_slice() {
+        ring_line(rest)
+    } else if word == b"held".as_slice() {
+        held_line(rest)
+    } else if word == b"begin".as_slice() {
         who_line(Call::Begin, rest)
     } else if word == b"end".as_slice() {
         who_line(Call::End, rest)
@@ -324,12 +339,7 @@ fn worded_line(alloc: Global, word: &[u8], rest: Option<&[u8]>) -> Result<DrillL
     if word == b"push".as_slice() {
         return push_line(alloc, rest);
     }
-    let line = if word == b"ring".as_slice() {
-        ring_line(rest)
-    } else {
-        plain_line(word, rest)
-    };
-    line.ok_or(LineFail::Outside)
+    plain_line(word, rest).ok_or(LineFail::Outside)
 }
 
 /// What a line of a drill's script says, its LF left out.
@@ -337,7 +347,7 @@ fn worded_line(alloc: Global, word: &[u8], rest: Option<&[u8]>) -> Result<DrillL
 /// The answer is `Outside` exactly where the line has none of the forms of a line, or has more than
 /// 65,536 bytes. A line that begins with `#` is a comment. The other forms are `ring BYTES ITEMS PLAYERS`,
 /// `begin WHO`, `push WHO KIND TIME LEN`, `end WHO`, `join WHO`, `take WHO PLAYER WANT`,
-/// `leave WHO PLAYER` and `count`, with one space between two words. BYTES is at most 268,435,456, ITEMS
+/// `leave WHO PLAYER`, `count` and `held`, with one space between two words. BYTES is at most 268,435,456, ITEMS
 /// 1 to 65,536, and PLAYERS 1 to 256. WHO and TIME are below 2^32, PLAYER is below 256, and LEN is at most
 /// what a unit of that KIND has; TIME is in milliseconds, and LEN in bytes, which are all 0. Numbers are
 /// decimal, without a sign or a leading zero. Where in a script a line may stand is no matter here.

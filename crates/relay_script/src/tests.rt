@@ -1,15 +1,17 @@
-use crate::{DrillLine, LineFail, drill_line, reply_text};
+use crate::{DrillLine, LineFail, drill_line, held_text, reply_text};
 use av_unit::Bytes;
 use std::alloc::{AllocError, Global};
 use std::test::Fail;
 use stream_model::Reply;
 
-// `.` for a line that does nothing, `=` for limits, `+` for a step, `-` for a line outside the grammar.
+// `.` for a line that does nothing, `=` for limits, `+` for a step, `h` for `held`, `-` for a line outside the
+// grammar.
 fn judged(alloc: Global, line: &[u8]) -> Result<u8, AllocError> {
     match drill_line(alloc, line) {
         Ok(DrillLine::Nothing) => Ok(b'.'),
         Ok(DrillLine::Ring(_)) => Ok(b'='),
         Ok(DrillLine::Step(_)) => Ok(b'+'),
+        Ok(DrillLine::Held) => Ok(b'h'),
         Err(LineFail::Outside) => Ok(b'-'),
         Err(LineFail::OutOfMemory) => Err(AllocError),
     }
@@ -40,6 +42,7 @@ fn a_line_is_inside_the_grammar(rt: HostRuntime) -> Result<(), Fail> {
 .#begin 1
 =ring 0 1 1
 =ring 268435456 65536 256
+hheld
 +begin 0
 +begin 4294967295
 +end 1
@@ -103,7 +106,7 @@ fn a_line_is_outside_the_grammar(rt: HostRuntime) -> Result<(), Fail> {
 -ring 1000 16 0
 -ring 1000 16 257
 -ring 1000 016 4
--held
+-held 1
 -frob
 ",
     )?;
@@ -124,9 +127,10 @@ fn a_reply_line_is_added_at_the_end(rt: HostRuntime) -> Result<(), Fail> {
         },
         &mut out,
     )?;
+    held_text(alloc, 708, &mut out)?;
     assert_eq!(rt;
         out.as_slice(),
-        b"notpublisher 7\nskip 3 18446744073709551615\n".as_slice()
+        b"notpublisher 7\nskip 3 18446744073709551615\nheld 708\n".as_slice()
     );
     Ok(())
 }

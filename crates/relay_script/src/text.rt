@@ -1,7 +1,7 @@
-ghost use Rattle.std.specs.Prelude.{◌≡◌, ◌++◌, OnOk, OnErr, IfOk, string_bytes};
+ghost use Rattle.std.specs.Prelude.{◌≡◌, ◌++◌, ℕ, OnOk, OnErr, IfOk, string_bytes};
 ghost use Rattle.stream_model.specs.declared.replies.Reply.{Reply};
-ghost use Rattle.relay_script.specs.OneLine.{IsOneLine, IsReply};
-ghost use Rattle.relay_script.specs.Texts.{line_of, item_text, kind_text, live_text, unit_text};
+ghost use Rattle.relay_script.specs.OneLine.{IsOneLine, IsReply, IsU64};
+ghost use Rattle.relay_script.specs.Texts.{line_of, held_text, item_text, kind_text, live_text, unit_text};
 
 use av_unit::{Bytes, Item, Kind, OutOfMemory};
 use std::alloc::Global;
@@ -122,8 +122,19 @@ pub fn reply_text(alloc: Global, reply: &Reply, out: &mut Bytes) -> Result<(), O
     out.append(text.as_str().as_bytes())
 }
 
-/// Reply lines can't run together: the line of a reply has one LF, which stands at its end.
-#[tactic(auto, using(crate::proofs::OneLine::one_line))]
+/// Adds the line of what a stream holds, with its LF. A refusal changes nothing.
+pub fn held_text(alloc: Global, bytes: u64, out: &mut Bytes) -> Result<(), OutOfMemory>
+    ensures ok { OnOk result (out.new ≡ out.old ++ held_text bytes) }
+    ensures err { OnErr result (out.new ≡ out.old) }
+{
+    let text = format!(in alloc; "held {bytes}\n")?;
+    out.append(text.as_str().as_bytes())
+}
+
+/// Reply lines can't run together: the line of a reply, and of what is held, has one LF, which stands at
+/// its end.
+#[tactic(auto, using(crate::proofs::OneLine::one_line, crate::proofs::OneLine::held_line))]
 pub fn reply_line_law()
-    ensures { (r : Reply) → IsReply r → IsOneLine (line_of r) }
+    ensures reply { (r : Reply) → IsReply r → IsOneLine (line_of r) }
+    ensures held { (bytes : ℕ) → IsU64 bytes → IsOneLine (held_text bytes) }
 {}

@@ -4,10 +4,10 @@ use Rattle.stream_model.specs.Known.{answered}
 use Rattle.relay_script.specs.declared.line.DrillLine.{DrillLine}
 use Rattle.relay_script.specs.Lines.{meaning}
 use Rattle.relay_script.specs.Texts.{line_of}
-use Rattle.relay_program.specs.Drill.{after_line, call_does, stream_of}
+use Rattle.relay_program.specs.Drill.{after_line, call_does, held_does, stream_of}
 use Rattle.relay_program.specs.Parts.{said_by}
 use Rattle.relay_program.proofs.Known.{no_part_written}
-use Rattle.relay_program.proofs.Says.{says, limits_taken, limits_cause}
+use Rattle.relay_program.proofs.Says.{says, limits_taken, limits_cause, held_told}
 use Rattle.relay_program.proofs.drills.answer.Goals as goal
 
 pub returns-in-Ok-Ring-clause-says : goal.returns-in-Ok-Ring-clause-says
@@ -21,6 +21,13 @@ pub returns-in-Ok-Ring-clause-faults : goal.returns-in-Ok-Ring-clause-faults
 returns-in-Ok-Ring-clause-faults g c =
     limits_cause c.take_limits.result c.in-Ok-Ring.limits c.args.stream.now c.take_limits.new.stream c.args.number
     (g.K.Sink.faults c.args.out.now) c.take_limits.ensures.says
+
+pub returns-in-Ok-Held-clause-says : goal.returns-in-Ok-Held-clause-says
+returns-in-Ok-Held-clause-says g c =
+    let means = c.in-Ok-Held.ensures.says ∙ ap Some c.in-Ok-Held.field-0-is in
+    held_told c.tell_held.result (after_line (meaning c.args.line.now) c.args.stream.now) (held_does (stream_of c.args.stream.now)) c.tell_held.new.stream
+    c.args.number (g.K.Sink.holds c.args.out.now) (g.K.Sink.holds c.tell_held.new.out)
+    (ap (λ (m : Option DrillLine). after_line m c.args.stream.now) means) c.tell_held.ensures.says
 
 pub returns-in-Err-OutOfMemory-clause-says : goal.returns-in-Err-OutOfMemory-clause-says
 returns-in-Err-OutOfMemory-clause-says g c = no_part_written (said_by (after_line (meaning c.args.line.now) c.args.stream.now)) _ _ refl
