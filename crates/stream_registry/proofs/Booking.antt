@@ -8,11 +8,10 @@ use Rattle.stream_model.specs.History.{History}
 use Rattle.stream_model.specs.Known.{IsLawful}
 use Rattle.stream_model.specs.Legal.{Legal}
 use Rattle.turn_gate.specs.Histories.{Begins}
-use Rattle.stream_registry.specs.Names.{PortRules}
 use Rattle.stream_registry.specs.Told.{Step, Keeps}
 use Rattle.stream_registry.proofs.Rooting.{begins_same, begins_trans}
 use Rattle.stream_registry.proofs.Counted.{no_more_items}
-use Rattle.stream_registry.specs.Books.{BookState, SoleState, SeenState, journal_of, journal_at, FitsSole}
+use Rattle.stream_registry.specs.Books.{BookState, SoleRules, SoleState, SeenState, journal_of, journal_at, FitsSole}
 
 pub keeps_law : (limits : StreamLimits) (past : History) (journal : List Step) → past ≡ reverse journal → IsLawful limits past → ((player : ℕ) → Legal limits past player) → Keeps limits journal
 keeps_law limits past journal is l v = record { rules = subst (λ (h : History). IsLawful limits h) is l; viewers = λ player. subst (λ (h : History). Legal limits h player) is (v player) }
@@ -53,7 +52,7 @@ length_set (b ∷ bs) (suc place) w = ap suc (length_set bs place w)
 -- a pass fits where journals have grown
 pub fits_later : (s s' : SoleState) (q : ℕ) (p : SeenState) → length s'.books ≡ length s.books → s'.rules ≡ s.rules → ((q : ℕ) → Begins (journal_at s.books q) (journal_at s'.books q)) → FitsSole s q p → FitsSole s' q p
 fits_later s s' q p count rules later f =
-    record { there = omega (arith, f.there, count); limits = f.limits ∙ sym (ap (λ (r : PortRules). r.limits) rules); seen = begins_trans p.seen (journal_at s.books q) (journal_at s'.books q) f.seen (later q) }
+    record { there = omega (arith, f.there, count); limits = f.limits ∙ sym (ap (λ (r : SoleRules). r.limits) rules); seen = begins_trans p.seen (journal_at s.books q) (journal_at s'.books q) f.seen (later q) }
 
 pub empty_journals : (limits : StreamLimits) (books : List BookState) → All (λ b. b ≡ record { limits = limits; journal = [] }) books → (q : ℕ) → journal_at books q ≡ []
 empty_journals limits [] a q = refl
@@ -68,7 +67,7 @@ pub record Left (s s' : SoleState) (place : ℕ) (v w : SeenState) : Type 0 wher
   pub others : (q : ℕ) → q ≢ place → journal_at s'.books q ≡ journal_at s.books q
   pub still : (q : ℕ) (p : SeenState) → FitsSole s q p → FitsSole s' q p
 
-pub sole_call : (s : SoleState) (rules : PortRules) (books : List BookState) (place : ℕ) (b b' : BookState) (v w : SeenState) → rules ≡ s.rules → books ≡ s.books → FitsSole s place v → b ≡ get_or books place b → Begins b.journal b'.journal → w.limits ≡ v.limits → w.seen ≡ b'.journal
+pub sole_call : (s : SoleState) (rules : SoleRules) (books : List BookState) (place : ℕ) (b b' : BookState) (v w : SeenState) → rules ≡ s.rules → books ≡ s.books → FitsSole s place v → b ≡ get_or books place b → Begins b.journal b'.journal → w.limits ≡ v.limits → w.seen ≡ b'.journal
     → Left s (record { rules = rules; books = slice_set books place b' }) place v w
 sole_call s rules books place b b' v w same_rules view f read begins same seen =
     let s' : SoleState = record { rules = rules; books = slice_set books place b' } in
@@ -77,7 +76,7 @@ sole_call s rules books place b b' v w same_rules view f read begins same seen =
     let here : journal_at (slice_set books place b') place ≡ w.seen = journal_set_here books place b' there ∙ sym seen in
     let count : length (slice_set books place b') ≡ length s.books = length_set books place b' ∙ ap length view in
     record {
-      fits = record { there = omega (arith, f.there, count); limits = same ∙ (f.limits ∙ sym (ap (λ (r : PortRules). r.limits) same_rules)); seen = ([], append-nil w.seen ∙ sym here) };
+      fits = record { there = omega (arith, f.there, count); limits = same ∙ (f.limits ∙ sym (ap (λ (r : SoleRules). r.limits) same_rules)); seen = ([], append-nil w.seen ∙ sym here) };
       seen = begins_trans v.seen (journal_at s.books place) w.seen f.seen (subst (λ (h : List Step). Begins (journal_at s.books place) h) here (later place));
       later = later;
       others = λ q d. journal_set_else books place b' q d ∙ ap (λ (l : List BookState). journal_at l q) view;

@@ -4,3 +4,4 @@ pub mod Rooting
 pub mod Placing
 pub mod Naming
 pub mod Booking
+pub mod Wanting

@@ -17,10 +17,12 @@ use Rattle.turn_gate.specs.Known.{PassKnown, GateId, RepliedAfter}
 use Rattle.stream_registry.specs.Pasts.{Attempt, past_of, IsLawfulAt}
 use Rattle.stream_registry.specs.Roots.{Root, Later, Remembers, seen_at, gates}
 use Rattle.stream_registry.specs.Told.{Keeps}
-use Rattle.stream_registry.specs.Names.{PortRules}
-use Rattle.stream_registry.specs.SharedState.{SharedState, IsFork, IsNewPort}
+use Rattle.stream_registry.specs.declared.names.Name.{Name}
+use Rattle.stream_registry.specs.SharedState.{Streams, IsFork, IsNewPort, limits_of, shared_rules}
 use Rattle.stream_registry.specs.Placed.{Placed}
 use Rattle.stream_registry.specs.Gates.{told, told_at, numbers}
+use Rattle.stream_registry.specs.Wants.{IsTake}
+use Rattle.stream_registry.proofs.Wanting.{refused_take}
 use Rattle.stream_registry.proofs.Tells.{begins_told, told_more, told_back, past_more, numbers_placed, numbers_begin}
 
 abbrev pub Known : Type 0
@@ -35,7 +37,7 @@ pub placed : (limits : StreamLimits) (entry : Entry) (a : Result Reply OutOfMemo
 placed limits entry a r root v w is p own =
     let q = p.replied in
     let seen : w.seen ≡ q.before ++ (entry, Ok r) ∷ [] = q.seen ∙ ap (λ (x : Result Reply OutOfMemory). q.before ++ (entry, x) ∷ []) is in
-    let law : IsLawful limits ((entry, r) ∷ past_of q.before) = subst (λ (h : History). IsLawful limits h) (ap past_of seen ∙ past_more q.before entry (Ok r)) q.lawful_seen in
+    let law : IsLawful limits ((entry, r) ∷ past_of q.before) = subst (λ (h : History). IsLawful limits h) (ap past_of seen ∙ past_more q.before entry (Ok r)) q.lawful_seen.0 in
     record {
       before = told q.before;
       root_first = begins_told root q.before p.root_begins;
@@ -49,7 +51,7 @@ placed limits entry a r root v w is p own =
 pub keeps : (limits : StreamLimits) (seen : List Attempt) → IsLawfulAt limits seen → ((player : ℕ) → Legal limits (past_of seen) player) → Keeps limits (told seen)
 keeps limits seen law legal =
     let back : past_of seen ≡ reverse (told seen) = sym (told_back seen) in
-    record { rules = subst (λ (h : History). IsLawful limits h) back law; viewers = λ player. subst (λ (h : History). Legal limits h player) back (legal player) }
+    record { rules = subst (λ (h : History). IsLawful limits h) back law.0; viewers = λ player. subst (λ (h : History). Legal limits h player) back (legal player) }
 
 -- at most 2^62 calls
 pub room : (limits : StreamLimits) (root : List Attempt) (v w : Known) (e : Attempt) → RepliedAfter (IsLawfulAt limits) root v e w → length w.seen ≤ 2 ^ 62
@@ -65,14 +67,20 @@ unmade limits entry a x root v w is p own =
     ∙ (ap (numbers (q.before ++ (entry, Err x) ∷ [])) q.mine
     ∙ (numbers_placed v.seen q.before (entry, Err x) v.mine q.begins (λ n. (own n).1) ∙ append-nil (numbers v.seen v.mine)))
 
+-- it was a Take
+pub refused : (limits : StreamLimits) (entry : Entry) (a : Result Reply OutOfMemory) (x : OutOfMemory) (root : List Attempt) (v w : Known) → a ≡ Err x → RepliedAfter (IsLawfulAt limits) root v (entry, a) w → IsTake entry.call
+refused limits entry a x root v w is p =
+    let q = p.replied in
+    let seen : w.seen ≡ q.before ++ (entry, Err x) ∷ [] = q.seen ∙ ap (λ (y : Result Reply OutOfMemory). q.before ++ (entry, y) ∷ []) is in
+    refused_take limits q.before entry x (subst (λ (h : List Attempt). IsLawfulAt limits h) seen q.lawful_seen)
+
 pub same_own : (v w : Known) → Remembers v w → w.mine ≡ v.mine → AreOwn v.mine (length v.seen) → numbers w.seen w.mine ≡ numbers v.seen v.mine
 same_own v w s e own = ap (numbers w.seen) e ∙ numbers_begin v.seen w.seen v.mine s.1 (λ n. (own n).1)
 
-pub passes : (ids ids' : List (GateId StreamLimits)) (place : ℕ) (limits : StreamLimits) (v w : Known) → ids' ≡ ids → slice_get ids place ≡ Some v.gate → v.gate.about ≡ limits → Remembers v w
-    → ((slice_get ids' place ≡ Some w.gate) × (w.gate.about ≡ limits)) × (w.gate.about ≡ v.gate.about) × Begins (told v.seen) (told w.seen)
-passes ids ids' place limits v w same at about s =
-    let about' : w.gate.about ≡ v.gate.about = ap (λ g. g.about) s.0 in
-    ((ap (λ (l : List (GateId StreamLimits)). slice_get l place) same ∙ (at ∙ ap Some (sym s.0)), about' ∙ about), about', begins_told v.seen w.seen s.1)
+pub passes : (ids ids' : List (GateId StreamLimits)) (place : ℕ) (v w : Known) → ids' ≡ ids → slice_get ids place ≡ Some v.gate → Remembers v w
+    → (slice_get ids' place ≡ Some w.gate) × (w.gate.about ≡ v.gate.about) × Begins (told v.seen) (told w.seen)
+passes ids ids' place v w same at s =
+    (ap (λ (l : List (GateId StreamLimits)). slice_get l place) same ∙ (at ∙ ap Some (sym s.0)), ap (λ g. g.about) s.0, begins_told v.seen w.seen s.1)
 
 pub kept : (roots roots' : List At) (v w : Known) → roots' ≡ roots → numbers w.seen w.mine ≡ numbers v.seen v.mine
     → (numbers w.seen w.mine ≡ numbers v.seen v.mine) × ((q : ℕ) → told_at roots' q ≡ told_at roots q)
@@ -90,9 +98,19 @@ pub about_all : (limits : StreamLimits) (roots : List At) → All (λ k. (k.seen
 about_all limits [] a = All-nil (λ (g : GateId StreamLimits). g.about ≡ limits)
 about_all limits (k ∷ ks) a = All-cons (λ (g : GateId StreamLimits). g.about ≡ limits) k.gate (gates ks) (All-head (λ (k : At). (k.seen ≡ []) × (k.gate.about ≡ limits)) k ks a).1 (about_all limits ks (All-tail (λ (k : At). (k.seen ≡ []) × (k.gate.about ≡ limits)) k ks a))
 
-pub new_each : (rules : PortRules) (first : SharedState) (list : List SharedState) → IsNewPort rules first → All (IsFork first) list → All (IsNewPort rules) list
-new_each rules first [] n a = All-nil (IsNewPort rules)
-new_each rules first (p ∷ ps) n a =
+pub new_each : (names : List Name) (first : Streams) (list : List Streams) → IsNewPort names (gates first.roots) first → All (IsFork first) list → All (IsNewPort names (gates first.roots)) list
+new_each names first [] n a = All-nil (IsNewPort names (gates first.roots))
+new_each names first (p ∷ ps) n a =
     let f = All-head (IsFork first) p ps a in
-    let new : IsNewPort rules p = record { rules_are = f.0 ∙ n.rules_are; unseen = λ q. ap (λ (l : List At). told_at l q) f.1 ∙ n.unseen q; no_busies = f.2 } in
-    All-cons (IsNewPort rules) p ps new (new_each rules first ps n (All-tail (IsFork first) p ps a))
+    let new : IsNewPort names (gates first.roots) p =
+    record {
+      names_are = f.0 ∙ n.names_are;
+      gates_are = ap (λ (l : List At). gates l) f.1;
+      unseen = λ q. ap (λ (l : List At). told_at l q) f.1 ∙ n.unseen q;
+      no_busies = f.2;
+    } in
+    All-cons (IsNewPort names (gates first.roots)) p ps new (new_each names first ps n (All-tail (IsFork first) p ps a))
+
+-- what never changes of a port that has the same names and gates
+pub rules_same : (s t : Streams) → t.names ≡ s.names → gates t.roots ≡ gates s.roots → shared_rules t ≡ shared_rules s
+rules_same s t n g = λ i. record { names = n i; limits = λ place. limits_of (slice_get (g i) place); gates = g i }

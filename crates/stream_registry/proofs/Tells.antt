@@ -16,7 +16,7 @@ use Rattle.turn_gate.specs.Histories.{Begins, longer, times}
 use Rattle.stream_registry.specs.Pasts.{Attempt, past_after, past_of, GoesOn}
 use Rattle.stream_registry.specs.Gates.{told, number_if, number, numbers}
 
-abbrev folds : History → List Attempt → History
+abbrev pub folds : History → List Attempt → History
 folds past h = fold (λ p step. past_after p step.0 step.1) past h
 
 ends_after : (past : History) (e : Entry) (r : Result Reply OutOfMemory) → GoesOn past (past_after past e r)

@@ -2,6 +2,7 @@
 use Rattle.std.specs.Prelude.{◌≡◌, ℕ, ◌<◌, List, [], slice_get, length, Option, Some, None}
 use Rattle.stream_model.specs.declared.calls.StreamLimits.{StreamLimits}
 use Rattle.turn_gate.specs.Histories.{Begins}
+use Rattle.stream_registry.specs.declared.names.Name.{Name}
 use Rattle.stream_registry.specs.Names.{PortRules}
 use Rattle.stream_registry.specs.Told.{Step, Histories}
 
@@ -10,8 +11,12 @@ pub record BookState : Type 0 where
   -- the calls so far with their replies, the oldest first
   pub journal : List Step
 
+pub record SoleRules : Type 0 where
+  pub names : List Name
+  pub limits : StreamLimits
+
 pub record SoleState : Type 0 where
-  pub rules : PortRules
+  pub rules : SoleRules
   pub books : List BookState
 
 pub record SeenState : Type 0 where
@@ -32,3 +37,7 @@ pub record FitsSole (s : SoleState) (place : ℕ) (p : SeenState) : Type 0 where
   pub there : place < length s.books
   pub limits : p.limits ≡ s.rules.limits
   pub seen : Begins p.seen (journal_at s.books place)
+
+-- what never changes of a port of one thread: each stream has the same limits, and stands behind no gate
+abbrev pub sole_rules : SoleRules → PortRules
+sole_rules r = record { names = r.names; limits = λ place. r.limits; gates = [] }

@@ -6,3 +6,4 @@ pub mod Placed
 pub mod Gates
 pub mod SharedState
 pub mod Books
+pub mod Wants

@@ -23,7 +23,7 @@ IsPlaceOf names app name (Err e) = NoneNamed names (length names) app name
 pub record PortRules : Type 0 where
   -- the name of the stream at each place
   pub names : List Name
-  -- the limits of each stream
-  pub limits : StreamLimits
+  -- the limits of each stream, by its place
+  pub limits : ℕ → StreamLimits
   -- the gates behind which the streams stand, or none where no other port serves them
   pub gates : List (GateId StreamLimits)

@@ -8,6 +8,7 @@ use Rattle.av_unit.specs.declared.bytes.OutOfMemory.{OutOfMemory}
 use Rattle.stream_model.specs.declared.calls.StreamLimits.{StreamLimits}
 use Rattle.stream_model.specs.declared.calls.Entry.{Entry}
 use Rattle.stream_model.specs.declared.replies.Reply.{Reply}
+use Rattle.stream_model.specs.Answer.{reply, IsSent}
 use Rattle.stream_model.specs.History.{History}
 use Rattle.stream_model.specs.Known.{StreamKnown, IsLawful}
 
@@ -24,13 +25,19 @@ past_after past entry (Err e) = past
 abbrev pub past_of : List Attempt → History
 past_of h = fold (λ past step. past_after past step.0 step.1) [] h
 
--- a stream has had these calls, and its replies are the rules'
-abbrev pub Stands : StreamKnown → List Attempt → Type 0
-Stands known h = (known.past ≡ past_of h) × IsLawful known.limits (past_of h)
+-- each call that memory refused was one that the rules answer with an item, after the calls before it and this past
+abbrev pub AreWants : StreamLimits → History → List Attempt → Type 0
+AreWants limits past [] = Unit {0}
+AreWants limits past ((entry, Ok r) ∷ h) = AreWants limits ((entry, r) ∷ past) h
+AreWants limits past ((entry, Err e) ∷ h) = IsSent (reply limits past entry) × AreWants limits past h
 
--- the calls that memory didn't refuse were answered by the rules of these limits
+-- the calls that memory didn't refuse were answered by the rules of these limits, and the others wanted memory for an item
 abbrev pub IsLawfulAt : StreamLimits → List Attempt → Type 0
-IsLawfulAt limits h = IsLawful limits (past_of h)
+IsLawfulAt limits h = IsLawful limits (past_of h) × AreWants limits [] h
+
+-- a stream has had these calls, and they are lawful
+abbrev pub Stands : StreamKnown → List Attempt → Type 0
+Stands known h = (known.past ≡ past_of h) × IsLawfulAt known.limits h
 
 -- the first past goes on to the second
 abbrev pub GoesOn : History → History → Type 0

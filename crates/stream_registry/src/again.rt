@@ -1,7 +1,8 @@
 //! An entry once more.
 ghost use Rattle.std.specs.Prelude.{◌≡◌, IfOk};
+ghost use Rattle.stream_registry.specs.Wants.{taking, numbers_of};
 
-use av_unit::OutOfMemory;
+use av_unit::{OutOfMemory, Want};
 use stream_core::{Call, Entry};
 
 /// The same entry once more: its unit is shared, not copied.
@@ -52,5 +53,43 @@ pub(crate) fn entry_again(entry: &Entry) -> Result<Entry, OutOfMemory>
             at,
             call: Call::Count,
         }),
+    }
+}
+
+/// The numbers of a Take, of which it can be made once more.
+#[derive(Clone, Copy)]
+pub(crate) struct TakeNumbers {
+    pub who: u64,
+    pub at: u64,
+    pub player: u32,
+    pub want: Want,
+}
+
+impl TakeNumbers {
+    pub fn of(entry: &Entry) -> Option<TakeNumbers>
+        ensures { result ≡ numbers_of entry.now entry.now.call }
+    {
+        match &entry.call {
+            Call::Take { player, want } => Some(TakeNumbers {
+                who: entry.who,
+                at: entry.at,
+                player: *player,
+                want: *want,
+            }),
+            _ => None,
+        }
+    }
+
+    pub fn entry(self) -> Entry
+        ensures { result ≡ taking self }
+    {
+        Entry {
+            who: self.who,
+            at: self.at,
+            call: Call::Take {
+                player: self.player,
+                want: self.want,
+            },
+        }
     }
 }

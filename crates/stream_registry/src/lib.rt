@@ -13,6 +13,8 @@ mod place;
 mod port;
 mod shared;
 mod sole;
+#[cfg(test)]
+mod tests;
 mod ways;
 
 pub use desk::{Desk, pasts_law};

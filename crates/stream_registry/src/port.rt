@@ -5,6 +5,8 @@ ghost use Rattle.turn_gate.specs.Histories.{Begins, longer};
 ghost use Rattle.stream_registry.specs.Names.{PortRules, IsPlaceOf};
 ghost use Rattle.stream_registry.specs.Told.{Step, Histories, Keeps};
 ghost use Rattle.stream_registry.specs.Placed.{Placed, Failed};
+ghost use Rattle.stream_registry.specs.Wants.{IsWanted};
+ghost use Rattle.stream_model.specs.declared.calls.Entry.{Entry};
 
 use crate::names::NotFound;
 use stream_core::{Entry, Reply};
@@ -28,7 +30,7 @@ pub trait StreamPort: Drop {
     // How many calls were answered Busy; it never falls.
     ghost busies: { Self → ℕ };
 
-    // What never changes of it: the names of the streams at its places, and the limits of each.
+    // What never changes of it: the name and the limits of the stream at each place.
     ghost rules: { Self → PortRules };
 
     // What the root has seen at each place.
@@ -47,6 +49,9 @@ pub trait StreamPort: Drop {
     // How many calls it has seen, those that were refused for memory as well.
     ghost count: { Self.Pass → ℕ };
 
+    // Whether there may be no memory for this call.
+    ghost wants: { Entry → Type 0 };
+
     /// The place that has a stream of that name. `NotFound` comes exactly where none has it.
     fn find(&self, app: &[u8], name: &[u8]) -> Result<u32, NotFound>
         ensures { IsPlaceOf (rules self.now).names app.now name.now result };
@@ -54,7 +59,7 @@ pub trait StreamPort: Drop {
     /// A pass that has made no call, and has seen what the root has.
     fn attach(&mut self, place: u32) -> Self::Pass
         requires { place < length (rules self.old).names }
-        ensures pass { fits self.new place result × (limits result ≡ (rules self.old).limits) }
+        ensures pass { fits self.new place result × (limits result ≡ (rules self.old).limits place) }
         ensures seen { (seen result ≡ root self.old place) × (mine result ≡ []) }
         ensures fixed { (rules self.new ≡ rules self.old) × (busies self.new ≡ busies self.old) }
         ensures root { (q : ℕ) → root self.new q ≡ root self.old q }
@@ -78,6 +83,7 @@ pub trait StreamPort: Drop {
         ensures laws { IfOk result (λ _. Keeps (limits pass.new) (seen pass.new)) }
         ensures room { IfOk result (λ _. count pass.new ≤ 2 ^ 62) }
         ensures fails { IfErr result (λ e. Failed entry (busies self.old) (busies self.new) (count pass.new) e) }
+        ensures memory { IfErr result (IsWanted (wants entry)) }
         ensures unmade { IfErr result (λ _. (mine pass.new ≡ mine pass.old) × ((q : ℕ) → root self.new q ≡ root self.old q)) }
         ensures busies { busies self.old ≤ busies self.new }
         ensures here { Begins (root self.old place) (root self.new place) }
@@ -85,6 +91,6 @@ pub trait StreamPort: Drop {
         ensures fixed { rules self.new ≡ rules self.old }
         ensures fits { (q : ℕ) (p : Self.Pass) → fits self.old q p → fits self.new q p };
 
-    // A pass that fits has the limits of the port.
-    ghost ruled: { (x : Self) (q : ℕ) (p : Self.Pass) → fits x q p → limits p ≡ (rules x).limits };
+    // A pass that fits has the limits of the stream at its place.
+    ghost ruled: { (x : Self) (q : ℕ) (p : Self.Pass) → fits x q p → limits p ≡ (rules x).limits q };
 }

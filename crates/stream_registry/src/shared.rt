@@ -1,11 +1,10 @@
 //! The port of one thread to streams that many serve.
 ghost use Rattle.std.specs.Prelude.{◌≡◌, ◌≤◌, ℕ, [], length, IfOk, All};
-ghost use Rattle.std.specs.Arc.{arc_value};
 ghost use Rattle.stream_registry.specs.Roots.{Later, gates};
 ghost use Rattle.stream_registry.specs.Gates.{told_at};
-ghost use Rattle.stream_registry.specs.SharedState.{IsFork, IsNewPort, AreNewPorts};
+ghost use Rattle.stream_registry.specs.SharedState.{IsFork, IsNewPort, AreNewPorts, shared_rules};
 
-use crate::again::entry_again;
+use crate::again::TakeNumbers;
 use crate::desk::Desk;
 use crate::names::{NameList, NotFound};
 use crate::place::Place;
@@ -17,28 +16,27 @@ use std::marker::Model;
 use std::sync::Arc;
 use stream_core::{Entry, Reply, Stream, StreamLimits};
 use stream_law::viewers_law;
-use turn_gate::{CallFail, Pass};
+use turn_gate::{CallFail, Machine, Pass};
 
-/// A gate for each place, and what was seen there.
+/// A gate for each place, and what was seen there. The machine behind a gate is a [`Desk`], a stream. The type is generic in
+/// it, so that it is seen to cross threads.
 #[derive(Drop)]
-pub struct Shared {
-    ways: Ways<Desk>,
+pub struct Shared<T: Machine + Drop> {
+    ways: Ways<T>,
     names: Arc<NameList, Global>,
-    limits: StreamLimits,
     busies: u64,
 }
 
-impl Model for Shared {
-    ghost use Rattle.std.specs.Prelude.{◌≡◌, ◌≤◌, All, length};
+impl<T: Machine + Drop> Model for Shared<T> {
+    ghost use Rattle.std.specs.Prelude.{◌≡◌, ◌≤◌, length};
     ghost use Rattle.std.specs.Arc.{arc_value};
-    ghost use Rattle.stream_registry.specs.Roots.{gates};
     ghost use Rattle.stream_registry.specs.SharedState.{SharedState};
 
-    ghost Value = { SharedState };
+    ghost Value = { SharedState T.About (T.Call × T.Reply) };
 
-    ghost view = { λ s. record { rules = record { names = arc_value s.names; limits = s.limits; gates = gates s.ways }; roots = s.ways; busies = s.busies } };
+    ghost view = { λ s. record { names = arc_value s.names; roots = s.ways; busies = s.busies } };
 
-    ghost invariant = { λ s. All (λ g. g.about ≡ s.limits) (gates s.ways) × (length s.ways ≡ length (arc_value s.names)) × (length (arc_value s.names) ≤ 64) };
+    ghost invariant = { λ s. (length s.ways ≡ length (arc_value s.names)) × (length (arc_value s.names) ≤ 64) };
 }
 
 /// Ports for so many threads to streams with these names, each of which has these limits. At each place all ports have the
@@ -48,7 +46,7 @@ pub fn shared_ports(
     names: NameList,
     limits: StreamLimits,
     ports: usize,
-) -> Result<Vec<Shared>, OutOfMemory>
+) -> Result<Vec<Shared<Desk>>, OutOfMemory>
     requires { length names ≤ 64 }
     ensures { IfOk result (λ list. AreNewPorts names limits ports list.items) }
 {
@@ -58,7 +56,11 @@ pub fn shared_ports(
 }
 
 // So many ports to the gates of the first.
-fn fork_ports(alloc: Global, first: &mut Shared, ports: usize) -> Result<Vec<Shared>, OutOfMemory>
+fn fork_ports(
+    alloc: Global,
+    first: &mut Shared<Desk>,
+    ports: usize,
+) -> Result<Vec<Shared<Desk>>, OutOfMemory>
     ensures forks { IfOk result (λ list. (length list.items ≡ ports) × All (IsFork first.old) list.items) }
     ensures same { first.new ≡ first.old }
 {
@@ -83,10 +85,15 @@ fn new_ways(alloc: Global, limits: StreamLimits, places: usize) -> Result<Ways<D
     Ok(ways)
 }
 
-impl Shared {
-    fn new(alloc: Global, names: NameList, limits: StreamLimits) -> Result<Shared, OutOfMemory>
+impl Shared<Desk> {
+    fn new(
+        alloc: Global,
+        names: NameList,
+        limits: StreamLimits,
+    ) -> Result<Shared<Desk>, OutOfMemory>
         requires { length names ≤ 64 }
-        ensures { IfOk result (λ s. IsNewPort record { names = names; limits = limits; gates = gates s.roots } s) }
+        ensures new { IfOk result (λ s. IsNewPort names (gates s.roots) s) }
+        ensures gates { IfOk result (λ s. All (λ g. g.about ≡ limits) (gates s.roots) × (length (gates s.roots) ≡ length names)) }
     {
         let ways = new_ways(alloc, limits, names.len())?;
         let Ok(names) = Arc::new(alloc, names) else {
@@ -95,13 +102,12 @@ impl Shared {
         Ok(Shared {
             ways,
             names,
-            limits,
             busies: 0,
         })
     }
 
     // A port for another thread, to the same gates.
-    pub(crate) fn fork(&mut self, alloc: Global) -> Result<Shared, OutOfMemory>
+    pub(crate) fn fork(&mut self, alloc: Global) -> Result<Shared<Desk>, OutOfMemory>
         ensures fork { IfOk result (IsFork self.old) }
         ensures same { self.new ≡ self.old }
     {
@@ -112,42 +118,43 @@ impl Shared {
         Ok(Shared {
             ways,
             names,
-            limits: self.limits,
             busies: 0,
         })
     }
 
     /// What the other's root had seen is a beginning of what this one has then seen, at each place. Both come from one call
     /// of `shared_ports`.
-    pub fn gather(&mut self, other: Shared)
-        requires { other.rules ≡ self.old.rules }
-        ensures same { (self.new.rules ≡ self.old.rules) × (self.new.busies ≡ self.old.busies) }
+    pub fn gather(&mut self, other: Shared<Desk>)
+        requires { shared_rules other ≡ shared_rules self.old }
+        ensures same { (shared_rules self.new ≡ shared_rules self.old) × (self.new.busies ≡ self.old.busies) }
         ensures grown { Later (told_at self.old.roots) (told_at self.new.roots) }
         ensures later { Later (told_at other.roots) (told_at self.new.roots) }
     {
         let Shared {
             ways,
             names: _,
-            limits: _,
             busies: _,
         } = other;
         self.ways.gather(ways);
     }
 }
 
-impl StreamPort for Shared {
+impl StreamPort for Shared<Desk> {
     type Pass = Pass<Desk>;
 
     ghost use Rattle.std.specs.Prelude.{◌≡◌, Some, length, slice_get};
     ghost use Rattle.stream_registry.specs.Gates.{told, told_at, numbers};
+    ghost use Rattle.stream_registry.specs.Roots.{gates};
+    ghost use Rattle.stream_registry.specs.SharedState.{shared_rules, limits_at};
+    ghost use Rattle.stream_registry.specs.Wants.{IsTake};
 
     ghost busies = { λ s. s.busies };
 
-    ghost rules = { λ s. s.rules };
+    ghost rules = { shared_rules };
 
     ghost root = { λ s. told_at s.roots };
 
-    ghost fits = { λ s place p. (slice_get s.rules.gates place ≡ Some p.gate) × (p.gate.about ≡ s.rules.limits) };
+    ghost fits = { λ s place p. slice_get (gates s.roots) place ≡ Some p.gate };
 
     ghost limits = { λ p. p.gate.about };
 
@@ -157,12 +164,14 @@ impl StreamPort for Shared {
 
     ghost count = { λ p. length p.seen };
 
+    ghost wants = { λ e. IsTake e.call };
+
     fn find(&self, app: &[u8], name: &[u8]) -> Result<u32, NotFound> {
         self.names.find(app, name)
     }
 
     fn attach(&mut self, place: u32) -> Pass<Desk> {
-        let _ = &self.limits;
+        let _ = &self.names;
         self.ways.attach(place as usize)
     }
 
@@ -172,15 +181,13 @@ impl StreamPort for Shared {
 
     fn call(&mut self, place: u32, pass: &mut Pass<Desk>, entry: Entry) -> Result<Reply, PortFail> {
         let _ = pass.seen();
-        let Ok(spare) = entry_again(&entry) else {
-            return Err(PortFail::OutOfMemory(entry));
-        };
+        let numbers = TakeNumbers::of(&entry);
         match self.ways.call(place as usize, pass, entry) {
             Ok(Ok(reply)) => {
                 viewers_law();
                 Ok(reply)
             }
-            Ok(Err(OutOfMemory)) => Err(PortFail::OutOfMemory(spare)),
+            Ok(Err(OutOfMemory)) => Err(PortFail::OutOfMemory(numbers.unwrap().entry())),
             Err(CallFail::Busy(entry)) => {
                 self.busies = self.busies.saturating_add(1);
                 Err(PortFail::Busy(entry))
@@ -189,5 +196,5 @@ impl StreamPort for Shared {
         }
     }
 
-    ghost ruled = { λ x q p f. f.1 };
+    ghost ruled = { λ x q p f. limits_at (slice_get (gates x.roots) q) p.gate f };
 }

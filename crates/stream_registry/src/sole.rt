@@ -31,7 +31,7 @@ impl Model for Sole {
 
     ghost Value = { SoleState };
 
-    ghost view = { λ s. record { rules = record { names = s.names; limits = s.limits; gates = [] }; books = s.books.items } };
+    ghost view = { λ s. record { rules = record { names = s.names; limits = s.limits }; books = s.books.items } };
 
     ghost invariant = { λ s. All (λ b. b.limits ≡ s.limits) s.books.items × (length s.books.items ≡ length s.names) × (length s.names ≤ 64) };
 }
@@ -55,7 +55,7 @@ impl Sole {
     /// A port to streams with these names, each of which has these limits.
     pub fn new(alloc: Global, names: NameList, limits: StreamLimits) -> Result<Sole, OutOfMemory>
         requires { length names ≤ 64 }
-        ensures { IfOk result (λ s. (s.rules ≡ record { names = names; limits = limits; gates = [] }) × ((q : ℕ) → journal_at s.books q ≡ [])) }
+        ensures { IfOk result (λ s. (s.rules ≡ record { names = names; limits = limits }) × ((q : ℕ) → journal_at s.books q ≡ [])) }
     {
         let books = new_books(alloc, limits, names.len())?;
         Ok(Sole {
@@ -90,11 +90,11 @@ impl StreamPort for Sole {
     type Pass = SolePass;
 
     ghost use Rattle.std.specs.Prelude.{length};
-    ghost use Rattle.stream_registry.specs.Books.{journal_at, FitsSole};
+    ghost use Rattle.stream_registry.specs.Books.{journal_at, sole_rules, FitsSole};
 
     ghost busies = { λ s. 0 };
 
-    ghost rules = { λ s. s.rules };
+    ghost rules = { λ s. sole_rules s.rules };
 
     ghost root = { λ s. journal_at s.books };
 
@@ -107,6 +107,8 @@ impl StreamPort for Sole {
     ghost mine = { λ p. p.mine };
 
     ghost count = { λ p. length p.seen };
+
+    ghost wants = { λ _. Unit {0} };
 
     fn find(&self, app: &[u8], name: &[u8]) -> Result<u32, NotFound> {
         self.names.find(app, name)

@@ -5,6 +5,8 @@ use Rattle.stream_registry.proofs.shared.shared_ports.Goals as goal
 pub returns : goal.returns
 returns c = record {
   ids = gates c.in_ok-first.first.roots;
-  each = new_each record { names = c.args.names; limits = c.args.limits; gates = gates c.in_ok-first.first.roots } c.in_ok-first.first c.in_ok-list.list.items c.in_ok-first.ensures c.in_ok-list.ensures.forks.1;
+  limits_are = c.in_ok-first.ensures.gates.0;
+  a_gate_each = c.in_ok-first.ensures.gates.1;
+  each = new_each c.args.names c.in_ok-first.first c.in_ok-list.list.items c.in_ok-first.ensures.new c.in_ok-list.ensures.forks.1;
   all = c.in_ok-list.ensures.forks.0;
 }

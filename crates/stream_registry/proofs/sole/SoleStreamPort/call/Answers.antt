@@ -7,7 +7,7 @@ use Rattle.stream_registry.proofs.sole.SoleStreamPort.call.Goals as goal
 
 pub returns-clause-pass : goal.returns-clause-pass
 returns-clause-pass c =
-    let s = sole_call c.args.self.now record { names = c.self.inside.names; limits = c.self.inside.limits; gates = [] } c.self.inside.books.items c.args.place c.index_mut.result.now c.ask.new.book c.args.pass.now c.ask.new.pass (search rules) (search rules) c.requires (search rules) c.ask.ensures.book.1 c.ask.ensures.pass.0 c.ask.ensures.pass.1 in
+    let s = sole_call c.args.self.now record { names = c.self.inside.names; limits = c.self.inside.limits } c.self.inside.books.items c.args.place c.index_mut.result.now c.ask.new.book c.args.pass.now c.ask.new.pass (search rules) (search rules) c.requires (search rules) c.ask.ensures.book.1 c.ask.ensures.pass.0 c.ask.ensures.pass.1 in
     (s.fits, c.ask.ensures.pass.0, s.seen)
 
 pub returns-clause-reply : goal.returns-clause-reply
@@ -21,15 +21,15 @@ returns-clause-reply c =
 
 pub returns-clause-here : goal.returns-clause-here
 returns-clause-here c =
-    let s = sole_call c.args.self.now record { names = c.self.inside.names; limits = c.self.inside.limits; gates = [] } c.self.inside.books.items c.args.place c.index_mut.result.now c.ask.new.book c.args.pass.now c.ask.new.pass (search rules) (search rules) c.requires (search rules) c.ask.ensures.book.1 c.ask.ensures.pass.0 c.ask.ensures.pass.1 in
+    let s = sole_call c.args.self.now record { names = c.self.inside.names; limits = c.self.inside.limits } c.self.inside.books.items c.args.place c.index_mut.result.now c.ask.new.book c.args.pass.now c.ask.new.pass (search rules) (search rules) c.requires (search rules) c.ask.ensures.book.1 c.ask.ensures.pass.0 c.ask.ensures.pass.1 in
     s.later c.args.place
 
 pub returns-clause-others : goal.returns-clause-others
 returns-clause-others c =
-    let s = sole_call c.args.self.now record { names = c.self.inside.names; limits = c.self.inside.limits; gates = [] } c.self.inside.books.items c.args.place c.index_mut.result.now c.ask.new.book c.args.pass.now c.ask.new.pass (search rules) (search rules) c.requires (search rules) c.ask.ensures.book.1 c.ask.ensures.pass.0 c.ask.ensures.pass.1 in
+    let s = sole_call c.args.self.now record { names = c.self.inside.names; limits = c.self.inside.limits } c.self.inside.books.items c.args.place c.index_mut.result.now c.ask.new.book c.args.pass.now c.ask.new.pass (search rules) (search rules) c.requires (search rules) c.ask.ensures.book.1 c.ask.ensures.pass.0 c.ask.ensures.pass.1 in
     s.others
 
 pub returns-clause-fits : goal.returns-clause-fits
 returns-clause-fits c =
-    let s = sole_call c.args.self.now record { names = c.self.inside.names; limits = c.self.inside.limits; gates = [] } c.self.inside.books.items c.args.place c.index_mut.result.now c.ask.new.book c.args.pass.now c.ask.new.pass (search rules) (search rules) c.requires (search rules) c.ask.ensures.book.1 c.ask.ensures.pass.0 c.ask.ensures.pass.1 in
+    let s = sole_call c.args.self.now record { names = c.self.inside.names; limits = c.self.inside.limits } c.self.inside.books.items c.args.place c.index_mut.result.now c.ask.new.book c.args.pass.now c.ask.new.pass (search rules) (search rules) c.requires (search rules) c.ask.ensures.book.1 c.ask.ensures.pass.0 c.ask.ensures.pass.1 in
     s.still
