@@ -1,4 +1,5 @@
-ghost use Rattle.std.specs.Prelude.{◌≡◌, ◌<◌, length, []};
+ghost use Rattle.std.specs.Prelude.{◌≡◌, ◌<◌, ◌≤◌, ◌+◌, length, []};
+ghost use Rattle.stream_model.specs.History.{items_of};
 
 use super::*;
 use av_unit::{Bytes, Item, Kind, OutOfMemory, Unit, UnitArc, Want};
@@ -106,8 +107,16 @@ fn text_of(alloc: Global, reply: &Reply) -> Result<String, AllocError> {
     }
 }
 
-// Each step is answered so by one stream with these limits.
+// One call more, by which one item more is published at most.
 #[tactic(auto, using(stream_model::proofs::Growth::one_item_more))]
+fn next_reply(stream: &mut Stream, entry: Entry) -> Result<Reply, OutOfMemory>
+    requires { length (items_of stream.old.past) < 1000 }
+    ensures { length (items_of stream.new.past) ≤ length (items_of stream.old.past) + 1 }
+{
+    stream.apply(entry)
+}
+
+// Each step is answered so by one stream with these limits.
 fn answers(rt: &impl Abort, alloc: Global, limits: StreamLimits, steps: &[Step]) -> Result<(), Fail>
     requires { length steps.now < 1000 }
 {
@@ -118,7 +127,7 @@ fn answers(rt: &impl Abort, alloc: Global, limits: StreamLimits, steps: &[Step])
             at: 0,
             call: call_of(alloc, step.ask)?,
         };
-        let reply = stream.apply(entry)?;
+        let reply = next_reply(&mut stream, entry)?;
         let text = text_of(alloc, &reply)?;
         assert_eq!(rt; text.as_str(), step.answer);
     }
