@@ -1,3 +1,4 @@
+-- Only proofs and private functions use it.
 -- How the reader's fields stand for the state and the bytes of the chunk in progress
 use Rattle.std.specs.Prelude.{◌≡◌, ℕ, ◌+◌, ◌<◌, ◌≤◌, ◌⊎◌, List, length, get_or, set}
 use Rattle.chunk_wire.specs.declared.kept.Kept.{Kept}

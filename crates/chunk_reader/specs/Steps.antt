@@ -1,3 +1,4 @@
+-- Only proofs and private functions use it.
 -- What the steps of the reader leave, by its fields
 use Rattle.std.specs.Prelude.{◌≡◌, ℕ, ◌+◌, ◌^◌, ◌<◌, ◌≤◌, ◌⊎◌, nat_eq, nat_lt, if◌then◌else◌, Bool, true, false}
 use Rattle.std.specs.Prelude.{Result, MatchOption, MatchResult, List, [], ◌++◌, is_some, IfSome, length, take, Option, Some, None, get_or, set}

@@ -1,3 +1,4 @@
+-- Only proofs and private functions use it.
 -- What a writer keeps true of its fields
 use Rattle.std.specs.Prelude.{◌≡◌, Bool, true, ℕ, ◌+◌, ◌<◌, ◌≤◌, nat_eq, if◌then◌else◌, List, [], ◌∷◌, length, Option, Some, None}
 use Rattle.chunk_writer.specs.declared.begun.Begun.{Begun}

@@ -1,3 +1,4 @@
+-- Only proofs and private functions use it.
 -- What a reader keeps true of its fields
 use Rattle.std.specs.Prelude.{◌≡◌, ◌⊎◌, ◌<◌, ◌≤◌, ℕ, List, [], ◌++◌, length, Option, is_some, false}
 use Rattle.flv_tags.specs.declared.tag.Tag.{Tag}

@@ -1,3 +1,4 @@
+-- Only proofs and private functions use it.
 -- What the steps of the reader leave, by its fields
 use Rattle.std.specs.Prelude.{◌≡◌, ◌≢◌, ◌⊎◌, ◌<◌, ◌≤◌, ℕ, ◌+◌, ◌-◌, List, [], ◌++◌, length, take, slice_index, Option, Some, None}
 use Rattle.flv_tags.specs.declared.tag.Tag.{Tag}

@@ -1,3 +1,4 @@
+-- Only proofs and private functions use it.
 -- Counts that rise more than once.
 use Rattle.std.proofs.Common.{ℕ, ◌≤◌, arith}
 use Rattle.relay_outside.specs.Counts.{Rose}

@@ -1,3 +1,4 @@
+-- Only proofs and private functions use it.
 -- How a drill ends.
 use Rattle.std.specs.Prelude.{◌≡◌, ℕ, ◌+◌, List, ◌++◌, length, Some}
 use Rattle.std.specs.declared.option.Option.{Option}

@@ -1,3 +1,4 @@
+-- Only proofs and private functions use it.
 -- What the parts of a drill do.
 use Rattle.std.specs.Prelude.{◌≡◌, ◌⊎◌, ℕ, ◌+◌, ◌≤◌, ◌<◌, ◌^◌, List, [], ◌++◌, length, None, Some, Ok, Err}
 use Rattle.std.specs.declared.option.Option.{Option}

@@ -1,3 +1,4 @@
+-- Only proofs and private functions use it.
 -- What is kept of C1 until it is complete: the bytes of it that S2 gives back.
 use Rattle.std.specs.Prelude.{ℕ, ◌-◌, List, ◌++◌, take, drop}
 use Rattle.rtmp_handshake.specs.Answer.{s0, s1, zeros}

@@ -1,3 +1,4 @@
+-- Only proofs and private functions use it.
 -- How the fields of a handshake stand for what it read.
 use Rattle.std.specs.Prelude.{◌≡◌, ◌≢◌, ℕ, ◌≤◌, ◌<◌, List, [], length, Option, None}
 use Rattle.rtmp_handshake.specs.declared.fail.HandFail.{HandFail}
