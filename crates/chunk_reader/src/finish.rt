@@ -1,4 +1,4 @@
-ghost use Rattle.std.specs.Prelude.{◌≡◌, ◌≤◌, ◌<◌, length, vec_len, OnOk, IfOk, IfErr, Some, None, if◌then◌else◌, []};
+ghost use Rattle.std.specs.Prelude.{◌≡◌, ◌≤◌, ◌<◌, vec_len, OnOk, IfOk, IfErr, Some, None, if◌then◌else◌, []};
 ghost use Rattle.chunk_wire.specs.Chunk.{with_part};
 ghost use Rattle.chunk_wire.specs.State.{part_bytes};
 ghost use Rattle.chunk_reader.specs.Control.{by_message, dropped, refused_size};

@@ -1,4 +1,4 @@
-ghost use Rattle.std.specs.Prelude.{◌≡◌, ◌⊎◌, not, Some, None, option_map, option_copied, string_bytes, is_none};
+ghost use Rattle.std.specs.Prelude.{◌≡◌, ◌⊎◌, not, Some, None, option_map, option_copied, string_bytes};
 ghost use Rattle.std.specs.List.{find};
 ghost use Rattle.std.specs.BTreeMap.{keys};
 ghost use Rattle.toml.specs.View.{view};

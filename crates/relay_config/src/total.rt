@@ -1,5 +1,4 @@
-ghost use Rattle.std.specs.Prelude.{◌≡◌, ◌+◌, ◌*◌, ◌≤◌, ◌<◌, ◌^◌, is_some, length};
-ghost use Rattle.std.specs.Int.{div_ceil};
+ghost use Rattle.std.specs.Prelude.{◌≡◌, ◌+◌, ◌*◌, ◌≤◌, ◌<◌, ◌^◌, length};
 ghost use Rattle.relay_config.specs.Sum.{stream_bytes, session_bytes, recorder_bytes, total_of, recorders_of, configured_sum, InRange};
 
 use crate::{Config, PlaceRule};
