@@ -1,4 +1,4 @@
-ghost use Rattle.std.specs.Prelude.{◌≡◌, ℕ, ◌+◌, ◌*◌, ◌<◌, ◌≤◌, ◌^◌, ◌⊎◌, true, false, List, [], ◌∷◌, ◌++◌, length, Some};
+ghost use Rattle.std.specs.Prelude.{◌≡◌, ℕ, ◌*◌, ◌<◌, ◌≤◌, ◌^◌, ◌⊎◌, true, false, List, [], ◌∷◌, ◌++◌, length, Some};
 ghost use Rattle.std.specs.List.{slice_get};
 ghost use Rattle.av_unit.specs.declared.item.Item.{Item};
 ghost use Rattle.av_unit.specs.declared.unit.Kind.TheVariants.{Key};
@@ -6,7 +6,7 @@ ghost use Rattle.stream_model.specs.Items.{last_where};
 ghost use Rattle.stream_model.specs.Chain.{whole};
 ghost use Rattle.stream_model.specs.Slots.{slot_kind, head_of, is_video};
 ghost use Rattle.stream_model.specs.Take.{at_kind, last_sent, takes};
-ghost use Rattle.player_cursor.specs.CursorState.{fresh, last_in, is_wanted_head, passed, configured, is_before, skipped, last_after};
+ghost use Rattle.player_cursor.specs.CursorState.{fresh, last_in, is_wanted_head, passed, configured, skipped};
 ghost use Rattle.player_cursor.specs.StandsFor.{StandsFor, numbers_after};
 
 use av_unit::{Head, Kind, Slot, Want};

@@ -1,5 +1,5 @@
 -- The parts of a stream, from past to past.
-use Rattle.std.proofs.Common.{◌≡◌, ℕ, ◌<◌, true, Option, None, Some, List, ◌∷◌, ◌++◌, length, set, refl, ap, sym, ◌∙◌, length-set, if◌then◌else◌, [], slice_index_or, get_or}
+use Rattle.std.proofs.Common.{◌≡◌, ℕ, ◌<◌, true, Option, None, Some, List, ◌∷◌, ◌++◌, length, set, refl, ap, sym, ◌∙◌, length-set, if◌then◌else◌, [], slice_index_or}
 use Rattle.av_unit.specs.declared.item.Item.{Item}
 use Rattle.av_unit.specs.declared.item.Item.TheVariants as item
 use Rattle.av_unit.specs.declared.unit.UnitArc.{UnitArc}
@@ -8,7 +8,7 @@ use Rattle.stream_model.specs.declared.calls.Call.{Call}
 use Rattle.stream_model.specs.declared.calls.Call.TheVariants.{Begin, Push, End, Take, Leave, Join}
 use Rattle.stream_model.specs.declared.calls.Entry.{Entry}
 use Rattle.stream_model.specs.declared.replies.Reply.{Reply}
-use Rattle.stream_model.specs.declared.replies.Reply.TheVariants.{Began, Pushed, Ended, NotPlayer, Joined, Left, Full}
+use Rattle.stream_model.specs.declared.replies.Reply.TheVariants.{Began, Pushed, Ended, Joined, Left, Full}
 use Rattle.stream_model.specs.declared.replies.Taken.{Taken}
 use Rattle.stream_model.specs.declared.replies.Taken.TheVariants.{Sent, Skip, NotYet}
 use Rattle.stream_model.specs.Answer.{reply, is_who, free_place as least_free}

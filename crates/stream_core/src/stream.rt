@@ -1,4 +1,4 @@
-ghost use Rattle.std.specs.Prelude.{◌≡◌, ℕ, ◌<◌, ◌≤◌, ◌+◌, ◌^◌, [], ◌∷◌, length, true, vec_len, IfOk, OnErr, slice_index_or};
+ghost use Rattle.std.specs.Prelude.{◌≡◌, ℕ, ◌<◌, ◌≤◌, ◌+◌, ◌^◌, [], ◌∷◌, length, vec_len, IfOk, OnErr, slice_index_or};
 ghost use Rattle.stream_model.specs.Held.{held};
 ghost use Rattle.std.specs.Option.{IfSome};
 ghost use Rattle.stream_model.specs.Answer.{free_place as least_free, reply, IsSent};

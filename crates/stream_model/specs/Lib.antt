@@ -10,3 +10,4 @@ pub mod Known
 pub mod Legal
 pub mod Slots
 pub mod Held
+pub mod Examples

@@ -140,24 +140,6 @@ gone_by limits w new x is none slots base cost items kept small =
       each = λ i s e. let f : slice_get [] i ≡ Some s = rw (slots, empty) at e in absurd (cc f);
     }
 
--- where there is no room, one number less isn't the base
-pub tight_now : (limits : StreamLimits) (w new : Window) (more : ℕ) → IsWindow limits w → (HasRoom limits more w → ⊥) → new.base ≡ w.base + 1 → new.items ≡ w.items → IsTight limits more new
-tight_now limits w new more is full base items =
-    let at : new.base - 1 ≡ w.base = omega arith in
-    let end = slots_are limits w is in
-    let count : length (drop w.base w.items) ≡ deque_len w.slots = omega (arith, length-drop w.base w.items) in
-    let sum = is.cost in
-    rw (at, items) (
-      omega arith,
-      elim (cases_lt limits.bytes (w.cost + more)) [
-        | inl lt ↦ inl (omega arith)
-        | inr ge ↦ elim (cases_lt (deque_len w.slots) limits.items) [
-          | inl lt ↦ absurd (full (ge, lt))
-          | inr le ↦ inr (omega arith)
-        ]
-      ],
-    )
-
 -- more items at the end cost more
 unfit_grown : (limits : StreamLimits) (xs : List Item) (x : Item) (v : ℕ) → v ≤ length xs → fits limits (drop v xs) ≡ false → fits limits (drop v (xs ++ x ∷ [])) ≡ false
 unfit_grown limits xs x v le e = rw (drop-append-le v xs (x ∷ []) le) (grind (arith, nat_tests, cost_sum-append (drop v xs) (x ∷ []), length-append (drop v xs) (x ∷ [])))
@@ -175,20 +157,6 @@ least_added limits old w new x least same le t base items = λ pos. rw (base, it
   | inl e ↦ unfit_grown limits w.items x (w.base - 1) (omega arith) (rw (same, e) (least (omega arith)))
   | inr t ↦ tight_unfit limits w x le t
 ])
-
--- and after one that has none
-pub least_gone : (limits : StreamLimits) (w new : Window) (x : Item) → IsWindow limits w → deque_len w.slots ≡ 0 → (HasRoom limits (cost_of x) w → ⊥) → new.base ≡ w.base + 1 → new.items ≡ w.items ++ x ∷ [] → IsLeast limits new
-least_gone limits w new x is none full base items = λ pos.
-    let end = slots_are limits w is in
-    let before : new.base - 1 ≡ length w.items = omega arith in
-    let alone : drop (length w.items) (w.items ++ x ∷ []) ≡ x ∷ [] = rw (drop-append-le (length w.items) w.items (x ∷ []) (omega arith), drop_all (length w.items) w.items (omega arith)) refl in
-    rw (before, items, alone) (elim (cases_lt limits.bytes (cost_of x)) [
-      | inl lt ↦ fits_no_bytes limits (x ∷ []) (omega arith)
-      | inr ge ↦ elim (cases_lt 0 limits.items) [
-        | inl lt ↦ absurd (full (let a = is.cost in let b : drop w.base w.items ≡ [] = drop_all w.base w.items (omega arith) in let c : cost_sum (drop w.base w.items) ≡ 0 = rw b refl in (omega arith, omega arith)))
-        | inr le ↦ fits_no_items limits (x ∷ []) (omega arith)
-      ]
-    ])
 
 window_fits : (limits : StreamLimits) (w : Window) → IsWindow limits w → fits limits (drop w.base w.items) ≡ true
 window_fits limits w is =

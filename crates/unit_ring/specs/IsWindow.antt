@@ -1,4 +1,5 @@
--- What the parts of a ring are after the items that were pushed (for the ring's own contracts).
+-- Only proofs and private functions use it.
+-- What the parts of a ring are after the items that were pushed.
 use Rattle.std.specs.Prelude.{◌≡◌, ℕ, ◌+◌, ◌-◌, ◌^◌, ◌<◌, ◌≤◌, ◌⊎◌, false, length, map, drop, Some}
 use Rattle.std.specs.List.{slice_get}
 use Rattle.std.specs.VecDeque.{deque_len, deque_capacity}

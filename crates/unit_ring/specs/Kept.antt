@@ -1,4 +1,5 @@
--- The configurations in effect at the base, which have left the slots (for the ring's own contracts).
+-- Only proofs and private functions use it.
+-- The configurations in effect at the base, which have left the slots.
 use Rattle.std.specs.Prelude.{◌≡◌, ℕ, ◌+◌, ◌≤◌, List, length, None, Some, if◌then◌else◌}
 use Rattle.std.specs.List.{slice_get}
 use Rattle.std.specs.declared.option.Option.{Option}

@@ -1,4 +1,5 @@
--- The numbers of the configurations in effect (for the ring's own contracts).
+-- Only proofs and private functions use it.
+-- The numbers of the configurations in effect.
 use Rattle.std.specs.Prelude.{◌≡◌, ℕ, Bool, true, false, ◌+◌, List, length, None, Some, if◌then◌else◌}
 use Rattle.std.specs.declared.option.Option.{Option}
 use Rattle.av_unit.specs.declared.item.Item.{Item}

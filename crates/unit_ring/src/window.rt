@@ -1,11 +1,10 @@
 // The slots of a ring: the items from its base on.
-ghost use Rattle.std.specs.Prelude.{◌≡◌, ◌+◌, ◌*◌, ◌<◌, ◌≤◌, ◌⊎◌, ◌^◌, ◌-◌, ◌↔◌, ℕ, [], ◌∷◌, ◌++◌, length, true, false, Some, IfOk, MatchOption};
+ghost use Rattle.std.specs.Prelude.{◌≡◌, ◌+◌, ◌*◌, ◌<◌, ◌≤◌, ◌⊎◌, ◌^◌, ◌-◌, ◌↔◌, [], ◌∷◌, ◌++◌, length, true, false, Some, IfOk, MatchOption};
 ghost use Rattle.std.specs.List.{slice_get};
 ghost use Rattle.unit_ring.specs.Kept.{kept_sum};
 ghost use Rattle.unit_ring.specs.Marks.{marks_at, is_unit};
 ghost use Rattle.stream_model.specs.declared.calls.StreamLimits.{StreamLimits};
 ghost use Rattle.std.specs.VecDeque.{deque_len};
-ghost use Rattle.av_unit.specs.Cost.{cost_of};
 ghost use Rattle.unit_ring.specs.IsWindow.{IsWindow, HasRoom, IsTight, IsLeast};
 
 use crate::kept::KeptConfigs;
