@@ -1,5 +1,5 @@
 -- A call at a gate, as a caller sees it
-use Rattle.std.proofs.Common.{◌≡◌, ℕ, zero, suc, refl, ◌≤◌, ◌^◌, List, [], ◌∷◌, ◌++◌, length, sym, ap, ◌∙◌, subst, append-nil, arith, length-append, slice_get, Some}
+use Rattle.std.proofs.Common.{◌≡◌, ℕ, zero, suc, refl, ◌≤◌, ◌^◌, List, [], ◌∷◌, ◌++◌, length, sym, ap, ◌∙◌, subst, append-nil, arith, length-append, slice_get, Option, Some, None, ◌⊎◌, inl, inr}
 use Rattle.std.specs.Prelude.{reverse, All}
 use Rattle.std.proofs.lemmas.List.Elements.{All-head, All-tail, All-nil, All-cons}
 use Rattle.std.specs.declared.result.Result.{Result}
@@ -15,21 +15,23 @@ use Rattle.stream_model.specs.Legal.{Legal}
 use Rattle.turn_gate.specs.Histories.{Begins, AreOwn}
 use Rattle.turn_gate.specs.Known.{PassKnown, GateId, RepliedAfter}
 use Rattle.stream_registry.specs.Pasts.{Attempt, past_of, IsLawfulAt}
-use Rattle.stream_registry.specs.Roots.{Root, Later, Remembers, seen_at, gates}
+use Rattle.stream_registry.specs.Roots.{Root, Later, Remembers, seen_of, seen_at, gates}
 use Rattle.stream_registry.specs.Told.{Keeps}
+use Rattle.stream_registry.specs.declared.desk.Site.{Site}
 use Rattle.stream_registry.specs.declared.names.Name.{Name}
 use Rattle.stream_registry.specs.SharedState.{Streams, IsFork, IsNewPort, limits_of, shared_rules}
 use Rattle.stream_registry.specs.Placed.{Placed}
+use Rattle.stream_registry.specs.Sites.{site, AreSites, AreApart, AreNewRoots}
 use Rattle.stream_registry.specs.Gates.{told, told_at, numbers}
 use Rattle.stream_registry.specs.Wants.{IsTake}
 use Rattle.stream_registry.proofs.Wanting.{refused_take}
 use Rattle.stream_registry.proofs.Tells.{begins_told, told_more, told_back, past_more, numbers_placed, numbers_begin}
 
 abbrev pub Known : Type 0
-Known = PassKnown StreamLimits Attempt
+Known = PassKnown Site Attempt
 
 abbrev pub At : Type 0
-At = Root StreamLimits Attempt
+At = Root Site Attempt
 
 -- an answered call stands in what is told
 pub placed : (limits : StreamLimits) (entry : Entry) (a : Result Reply OutOfMemory) (r : Reply) (root : List Attempt) (v w : Known) → a ≡ Ok r → RepliedAfter (IsLawfulAt limits) root v (entry, a) w → AreOwn v.mine (length v.seen)
@@ -77,10 +79,10 @@ refused limits entry a x root v w is p =
 pub same_own : (v w : Known) → Remembers v w → w.mine ≡ v.mine → AreOwn v.mine (length v.seen) → numbers w.seen w.mine ≡ numbers v.seen v.mine
 same_own v w s e own = ap (numbers w.seen) e ∙ numbers_begin v.seen w.seen v.mine s.1 (λ n. (own n).1)
 
-pub passes : (ids ids' : List (GateId StreamLimits)) (place : ℕ) (v w : Known) → ids' ≡ ids → slice_get ids place ≡ Some v.gate → Remembers v w
-    → (slice_get ids' place ≡ Some w.gate) × (w.gate.about ≡ v.gate.about) × Begins (told v.seen) (told w.seen)
+pub passes : (ids ids' : List (GateId Site)) (place : ℕ) (v w : Known) → ids' ≡ ids → slice_get ids place ≡ Some v.gate → Remembers v w
+    → (slice_get ids' place ≡ Some w.gate) × (w.gate.about.limits ≡ v.gate.about.limits) × Begins (told v.seen) (told w.seen)
 passes ids ids' place v w same at s =
-    (ap (λ (l : List (GateId StreamLimits)). slice_get l place) same ∙ (at ∙ ap Some (sym s.0)), ap (λ g. g.about) s.0, begins_told v.seen w.seen s.1)
+    (ap (λ (l : List (GateId Site)). slice_get l place) same ∙ (at ∙ ap Some (sym s.0)), ap (λ (g : GateId Site). g.about.limits) s.0, begins_told v.seen w.seen s.1)
 
 pub kept : (roots roots' : List At) (v w : Known) → roots' ≡ roots → numbers w.seen w.mine ≡ numbers v.seen v.mine
     → (numbers w.seen w.mine ≡ numbers v.seen v.mine) × ((q : ℕ) → told_at roots' q ≡ told_at roots q)
@@ -89,14 +91,48 @@ kept roots roots' v w same e = (e, λ q. ap (λ (l : List At). told_at l q) same
 pub later_told : (a b : List At) → Later (seen_at a) (seen_at b) → Later (told_at a) (told_at b)
 later_told a b l = record { at = λ p. begins_told (seen_at a p) (seen_at b p) (l.at p) }
 
-pub seen_all : (limits : StreamLimits) (roots : List At) → All (λ k. (k.seen ≡ []) × (k.gate.about ≡ limits)) roots → (q : ℕ) → told_at roots q ≡ []
-seen_all limits [] a q = refl
-seen_all limits (k ∷ ks) a zero = ap told (All-head (λ (k : At). (k.seen ≡ []) × (k.gate.about ≡ limits)) k ks a).0
-seen_all limits (k ∷ ks) a (suc q) = seen_all limits ks (All-tail (λ (k : At). (k.seen ≡ []) × (k.gate.about ≡ limits)) k ks a) q
+-- what stands in a list with one more stood there before, or is that one
+get_either : (roots : List At) (x : At) (q : ℕ) (k : At) → slice_get (roots ++ x ∷ []) q ≡ Some k → (slice_get roots q ≡ Some k) ⊎ ((q ≡ length roots) × (x ≡ k))
+get_either [] x zero k at = inr (refl, cc)
+get_either [] x (suc q) k at = absurd (cc)
+get_either (r ∷ roots) x zero k at = inl at
+get_either (r ∷ roots) x (suc q) k at = elim (get_either roots x q k at) [
+  | inl old ↦ inl old
+  | inr last ↦ inr (ap suc last.0, last.1)
+]
 
-pub about_all : (limits : StreamLimits) (roots : List At) → All (λ k. (k.seen ≡ []) × (k.gate.about ≡ limits)) roots → All (λ g. g.about ≡ limits) (gates roots)
-about_all limits [] a = All-nil (λ (g : GateId StreamLimits). g.about ≡ limits)
-about_all limits (k ∷ ks) a = All-cons (λ (g : GateId StreamLimits). g.about ≡ limits) k.gate (gates ks) (All-head (λ (k : At). (k.seen ≡ []) × (k.gate.about ≡ limits)) k ks a).1 (about_all limits ks (All-tail (λ (k : At). (k.seen ≡ []) × (k.gate.about ≡ limits)) k ks a))
+-- the root that has a gate
+root_of : (roots : List At) (q : ℕ) (g : GateId Site) → slice_get (gates roots) q ≡ Some g → (k : At) × (slice_get roots q ≡ Some k) × (k.gate ≡ g)
+root_of [] q g at = absurd (cc)
+root_of (r ∷ roots) zero g at = (r, refl, cc)
+root_of (r ∷ roots) (suc q) g at = root_of roots q g at
+
+seen_one : (limits : StreamLimits) (q : ℕ) (o : Option At) → ((k : At) → o ≡ Some k → (k.seen ≡ []) × (k.gate.about ≡ site q limits)) → told (seen_of o) ≡ []
+seen_one limits q None a = refl
+seen_one limits q (Some k) a = ap told (a k refl).0
+
+-- no place yet
+pub no_roots : (limits : StreamLimits) → AreNewRoots limits []
+no_roots limits = λ q k at. absurd (cc)
+
+-- one place more
+pub root_more : (limits : StreamLimits) (roots roots' : List At) (x : At) (n : ℕ) → AreNewRoots limits roots → length roots ≡ n → (x.seen ≡ []) × (x.gate.about ≡ site n limits) → roots' ≡ roots ++ x ∷ [] → AreNewRoots limits roots'
+root_more limits roots roots' x n all count new is q k at =
+    let here : slice_get (roots ++ x ∷ []) q ≡ Some k = subst (λ (l : List At). slice_get l q ≡ Some k) is at in
+    elim (get_either roots x q k here) [
+      | inl old ↦ all q k old
+      | inr last ↦ subst (λ (r : At). (r.seen ≡ []) × (r.gate.about ≡ site q limits)) last.1 (new.0, new.1 ∙ ap (λ m. site m limits) (sym count ∙ sym last.0))
+    ]
+
+pub seen_all : (limits : StreamLimits) (roots : List At) → AreNewRoots limits roots → (q : ℕ) → told_at roots q ≡ []
+seen_all limits roots a q = seen_one limits q (slice_get roots q) (a q)
+
+pub sites_all : (limits : StreamLimits) (roots : List At) → AreNewRoots limits roots → AreSites limits (gates roots)
+sites_all limits roots a = λ q g at. let k = root_of roots q g at in subst (λ (h : GateId Site). h.about ≡ site q limits) k.2 (a q k.0 k.1).1
+
+-- gates whose places differ
+pub apart : (limits : StreamLimits) (ids : List (GateId Site)) → AreSites limits ids → AreApart ids
+apart limits ids s = λ p q g h at there other same. other (ap (λ (z : Site). z.place) (sym (s p g at) ∙ (ap (λ (k : GateId Site). k.about) same ∙ s q h there)))
 
 pub new_each : (names : List Name) (first : Streams) (list : List Streams) → IsNewPort names (gates first.roots) first → All (IsFork first) list → All (IsNewPort names (gates first.roots)) list
 new_each names first [] n a = All-nil (IsNewPort names (gates first.roots))

@@ -1,7 +1,7 @@
 -- What a gate's history tells a caller: the calls refused for memory are left out, and the numbers are counted without them
 use Rattle.std.specs.Prelude.{ℕ, List, [], ◌∷◌, ◌++◌, reverse, length, take, slice_get, Option, Some, None}
 use Rattle.std.specs.declared.result.Result.TheVariants.{Ok, Err}
-use Rattle.stream_model.specs.declared.calls.StreamLimits.{StreamLimits}
+use Rattle.stream_registry.specs.declared.desk.Site.{Site}
 use Rattle.stream_registry.specs.Pasts.{Attempt, past_of}
 use Rattle.stream_registry.specs.Roots.{Root, seen_at}
 use Rattle.stream_registry.specs.Told.{Step, Histories}
@@ -25,5 +25,5 @@ numbers h [] = []
 numbers h (n ∷ ns) = number h n ++ numbers h ns
 
 -- what the roots tell of each place
-abbrev pub told_at : List (Root StreamLimits Attempt) → Histories
+abbrev pub told_at : List (Root Site Attempt) → Histories
 told_at roots place = told (seen_at roots place)

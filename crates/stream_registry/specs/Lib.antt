@@ -2,6 +2,7 @@ pub mod Pasts
 pub mod Roots
 pub mod Names
 pub mod Told
+pub mod Sites
 pub mod Placed
 pub mod Gates
 pub mod SharedState

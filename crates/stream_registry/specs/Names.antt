@@ -4,6 +4,7 @@ use Rattle.std.specs.declared.result.Result.{Result}
 use Rattle.std.specs.declared.result.Result.TheVariants.{Ok, Err}
 use Rattle.stream_model.specs.declared.calls.StreamLimits.{StreamLimits}
 use Rattle.turn_gate.specs.Known.{GateId}
+use Rattle.stream_registry.specs.declared.desk.Site.{Site}
 use Rattle.stream_registry.specs.declared.names.Name.{Name}
 use Rattle.stream_registry.specs.declared.names.NotFound.{NotFound}
 
@@ -26,4 +27,4 @@ pub record PortRules : Type 0 where
   -- the limits of each stream, by its place
   pub limits : ℕ → StreamLimits
   -- the gates behind which the streams stand, or none where no other port serves them
-  pub gates : List (GateId StreamLimits)
+  pub gates : List (GateId Site)

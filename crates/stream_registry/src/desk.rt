@@ -5,14 +5,25 @@ ghost use Rattle.stream_model.specs.declared.calls.Entry.{Entry};
 ghost use Rattle.stream_model.specs.declared.replies.Reply.{Reply};
 ghost use Rattle.turn_gate.specs.Histories.{Begins};
 ghost use Rattle.stream_registry.specs.Pasts.{Attempt, past_after, past_of, GoesOn, Stands, IsLawfulAt};
+ghost use Rattle.stream_registry.specs.Sites.{site};
 
 use av_unit::OutOfMemory;
 use stream_core::{Entry, Reply, Stream, StreamLimits};
 use turn_gate::Machine;
 
-/// A stream as the machine of a gate. What never changes of it are its limits.
+/// What never changes of a stream at a place.
+#[derive(Clone, Copy, Debug, PartialEq, Eq)]
+pub struct Site {
+    /// The place, by which the gates of a port are told apart.
+    pub place: u32,
+    /// The limits of the stream.
+    pub limits: StreamLimits,
+}
+
+/// The stream at a place, as the machine of a gate.
 #[derive(Drop)]
 pub struct Desk {
+    pub place: u32,
     pub stream: Stream,
 }
 
@@ -21,15 +32,15 @@ impl Machine for Desk {
 
     type Reply = Result<Reply, OutOfMemory>;
 
-    type About = StreamLimits;
+    type About = Site;
 
-    ghost about = { λ d. d.stream.limits };
+    ghost about = { λ d. site d.place d.stream.limits };
 
-    ghost any = { record { bytes = 0; items = 0; players = 0 } };
+    ghost any = { site 0 record { bytes = 0; items = 0; players = 0 } };
 
     ghost stands = { λ d h. Stands d.stream h };
 
-    ghost lawful = { IsLawfulAt };
+    ghost lawful = { λ s. IsLawfulAt s.limits };
 
     fn apply(&mut self, call: Entry) -> Result<Reply, OutOfMemory> {
         self.stream.apply(call)

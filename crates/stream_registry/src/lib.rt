@@ -17,7 +17,7 @@ mod sole;
 mod tests;
 mod ways;
 
-pub use desk::{Desk, pasts_law};
+pub use desk::{Desk, Site, pasts_law};
 pub use names::{Name, NameList, NotFound};
 pub use port::{PortFail, StreamPort};
 pub use shared::{Shared, shared_ports};

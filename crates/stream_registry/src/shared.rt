@@ -1,11 +1,12 @@
 //! The port of one thread to streams that many serve.
-ghost use Rattle.std.specs.Prelude.{◌≡◌, ◌≤◌, ℕ, [], length, IfOk, All};
+ghost use Rattle.std.specs.Prelude.{◌≡◌, ◌≤◌, length, IfOk, All};
 ghost use Rattle.stream_registry.specs.Roots.{Later, gates};
 ghost use Rattle.stream_registry.specs.Gates.{told_at};
 ghost use Rattle.stream_registry.specs.SharedState.{IsFork, IsNewPort, AreNewPorts, shared_rules};
+ghost use Rattle.stream_registry.specs.Sites.{AreNewRoots, AreSites};
 
 use crate::again::TakeNumbers;
-use crate::desk::Desk;
+use crate::desk::{Desk, Site};
 use crate::names::{NameList, NotFound};
 use crate::place::Place;
 use crate::port::{PortFail, StreamPort};
@@ -40,7 +41,7 @@ impl<T: Machine + Drop> Model for Shared<T> {
 }
 
 /// Ports for so many threads to streams with these names, each of which has these limits. At each place all ports have the
-/// same gate.
+/// same gate, and at no two places.
 pub fn shared_ports(
     alloc: Global,
     names: NameList,
@@ -73,14 +74,14 @@ fn fork_ports(
 }
 
 // Ways to as many new gates as there are places.
-fn new_ways(alloc: Global, limits: StreamLimits, places: usize) -> Result<Ways<Desk>, OutOfMemory>
-    ensures { IfOk result (λ w. (length w ≡ places) × All (λ k. (k.seen ≡ []) × (k.gate.about ≡ limits)) w) }
+fn new_ways(alloc: Global, limits: StreamLimits, places: u32) -> Result<Ways<Desk>, OutOfMemory>
+    ensures { IfOk result (λ w. (length w ≡ places) × AreNewRoots limits w) }
 {
     let mut ways = Ways::new(alloc);
-    for _ in 0..places {
+    for place in 0..places {
         let stream = Stream::new(alloc, limits)?;
-        let place = Place::new(alloc, Desk { stream }, &limits)?;
-        ways.add(place)?;
+        let way = Place::new(alloc, Desk { place, stream }, &Site { place, limits })?;
+        ways.add(way)?;
     }
     Ok(ways)
 }
@@ -93,9 +94,9 @@ impl Shared<Desk> {
     ) -> Result<Shared<Desk>, OutOfMemory>
         requires { length names ≤ 64 }
         ensures new { IfOk result (λ s. IsNewPort names (gates s.roots) s) }
-        ensures gates { IfOk result (λ s. All (λ g. g.about ≡ limits) (gates s.roots) × (length (gates s.roots) ≡ length names)) }
+        ensures gates { IfOk result (λ s. AreSites limits (gates s.roots) × (length (gates s.roots) ≡ length names)) }
     {
-        let ways = new_ways(alloc, limits, names.len())?;
+        let ways = new_ways(alloc, limits, names.len() as u32)?;
         let Ok(names) = Arc::new(alloc, names) else {
             return Err(OutOfMemory);
         };
@@ -156,7 +157,7 @@ impl StreamPort for Shared<Desk> {
 
     ghost fits = { λ s place p. slice_get (gates s.roots) place ≡ Some p.gate };
 
-    ghost limits = { λ p. p.gate.about };
+    ghost limits = { λ p. p.gate.about.limits };
 
     ghost seen = { λ p. told p.seen };
 

@@ -1,3 +1,4 @@
+-- Only proofs and private functions use it.
 -- What lies in the slot while it is at home
 use Rattle.std.specs.Prelude.{◌≡◌, ◌^◌, ◌≤◌, List, length}
 use Rattle.turn_gate.specs.declared.view.Kept.{Kept}

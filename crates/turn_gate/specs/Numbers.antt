@@ -1,3 +1,4 @@
+-- Only proofs and private functions use it.
 -- A list of numbers with a name, the machine of the tests.
 -- A call adds a number, and is answered by its place and the last number before it, which for the first is the name; or by None where there was no memory
 use Rattle.std.specs.Prelude.{◌≡◌, ℕ, List, [], ◌∷◌, ◌++◌, length, ◌-◌, slice_index_or, fold, Option, Some, None}

@@ -1,4 +1,5 @@
--- A call once its pass has the turn. Only private contracts cite this
+-- Only proofs and private functions use it.
+-- A call once its pass has the turn
 use Rattle.std.specs.Prelude.{◌≡◌, ℕ, ◌+◌, ◌^◌, ◌<◌, List, [], ◌∷◌, ◌++◌, length, true, Option, Some, None, Result, Ok, Err}
 use Rattle.atomic_table.specs.Table.{Me}
 use Rattle.turn_gate.specs.declared.gate.CallFail.{CallFail}

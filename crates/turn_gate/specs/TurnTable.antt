@@ -1,3 +1,4 @@
+-- Only proofs and private functions use it.
 -- The gate's table. It has one word, the turn word, and one slot, where the machine lies with the number of its calls.
 -- Each pass has a seat of it. What such a seat knows is its view.
 use Rattle.std.specs.Prelude.{◌≡◌, ◌≢◌, ℕ, ◌+◌, ◌<◌, ◌≤◌, Bool, true, false, List, [], ◌∷◌, ◌++◌, length, slice_index, Option, Some, None}

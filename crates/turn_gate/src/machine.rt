@@ -1,5 +1,5 @@
 //! A machine that answers calls, one at a time.
-ghost use Rattle.std.specs.Prelude.{◌≡◌, ℕ, List, [], ◌∷◌, ◌++◌, length, ◌<◌, ◌^◌};
+ghost use Rattle.std.specs.Prelude.{◌≡◌, List, [], ◌∷◌, ◌++◌, length, ◌<◌, ◌^◌};
 
 /// It stands for the history of its calls with their replies, the oldest first.
 pub trait Machine {

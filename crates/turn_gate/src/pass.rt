@@ -22,9 +22,18 @@ impl<T: Machine> Model for Pass<T> {
 
     ghost Value = { PassKnown T.About (T.Call × T.Reply) };
 
-    ghost view = { λ p. record { gate = record { table = p.seat.table_id; about = about_of T.any p.seat.me.0.of }; holds = p.seat.me.0.holds; met = p.seat.me.0.met; cut = p.seat.me.0.cut; seen = p.seat.me.0.seen; mine = p.seat.me.0.mine } };
+    ghost view = { λ p. record {
+      gate = record { table = p.seat.table_id; about = about_of T.any p.seat.me.0.of };
+      holds = p.seat.me.0.holds;
+      met = p.seat.me.0.met;
+      cut = p.seat.me.0.cut;
+      seen = p.seat.me.0.seen;
+      mine = p.seat.me.0.mine;
+    } };
 
-    ghost invariant = { λ p. (p.seat.me.1 ≡ []) × (p.seat.me.0.holds ≡ false) × (p.seat.me.0.of ≡ Some (about_of T.any p.seat.me.0.of)) × (p.calls ≡ length p.seat.me.0.seen) × AreOwn p.seat.me.0.mine (length p.seat.me.0.seen) × T.lawful (about_of T.any p.seat.me.0.of) p.seat.me.0.seen };
+    ghost invariant = { λ p. (p.seat.me.1 ≡ []) × (p.seat.me.0.holds ≡ false) × (p.seat.me.0.of ≡ Some (about_of T.any p.seat.me.0.of))
+        × (p.calls ≡ length p.seat.me.0.seen) × AreOwn p.seat.me.0.mine (length p.seat.me.0.seen)
+        × T.lawful (about_of T.any p.seat.me.0.of) p.seat.me.0.seen };
 }
 
 impl<T: Machine> Pass<T> {

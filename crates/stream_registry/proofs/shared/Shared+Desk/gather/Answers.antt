@@ -1,5 +1,5 @@
 use Rattle.std.proofs.Common.{◌≡◌, ◌∙◌, List, ap, sym, subst, rules}
-use Rattle.stream_model.specs.declared.calls.StreamLimits.{StreamLimits}
+use Rattle.stream_registry.specs.declared.desk.Site.{Site}
 use Rattle.stream_registry.specs.Pasts.{Attempt}
 use Rattle.stream_registry.specs.Names.{PortRules}
 use Rattle.stream_registry.specs.Roots.{Root, Grown, gates}
@@ -9,15 +9,15 @@ use Rattle.stream_registry.proofs.shared.Shared+Desk.gather.Goals as goal
 
 pub gather-requires : goal.gather-requires
 gather-requires c =
-    let ids : List (Root StreamLimits Attempt) → _ = λ l. gates l in
+    let ids : List (Root Site Attempt) → _ = λ l. gates l in
     ap ids (ap (λ (x : Streams). x.roots) c.other.view_is) ∙ (ap (λ (r : PortRules). r.gates) c.requires ∙ sym (ap ids (ap (λ (x : Streams). x.roots) c.self.view_is)))
 
 pub returns-clause-grown : goal.returns-clause-grown
 returns-clause-grown c =
-    let grown : Grown c.args.self.now.roots c.gather.new.self = subst (λ (l : List (Root StreamLimits Attempt)). Grown l c.gather.new.self) (ap (λ (x : Streams). x.roots) c.self.view_is) c.gather.ensures.grown in
+    let grown : Grown c.args.self.now.roots c.gather.new.self = subst (λ (l : List (Root Site Attempt)). Grown l c.gather.new.self) (ap (λ (x : Streams). x.roots) c.self.view_is) c.gather.ensures.grown in
     later_told _ _ grown.seen
 
 pub returns-clause-later : goal.returns-clause-later
 returns-clause-later c =
-    let grown : Grown c.args.other.roots c.gather.new.self = subst (λ (l : List (Root StreamLimits Attempt)). Grown l c.gather.new.self) (ap (λ (x : Streams). x.roots) c.other.view_is) c.gather.ensures.later in
+    let grown : Grown c.args.other.roots c.gather.new.self = subst (λ (l : List (Root Site Attempt)). Grown l c.gather.new.self) (ap (λ (x : Streams). x.roots) c.other.view_is) c.gather.ensures.later in
     later_told _ _ grown.seen

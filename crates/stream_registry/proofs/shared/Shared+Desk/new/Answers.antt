@@ -1,9 +1,9 @@
 use Rattle.std.proofs.Common.{rules, refl, ◌∙◌}
 use Rattle.std.proofs.lemmas.List.{length-map}
-use Rattle.stream_model.specs.declared.calls.StreamLimits.{StreamLimits}
+use Rattle.stream_registry.specs.declared.desk.Site.{Site}
 use Rattle.stream_registry.specs.Pasts.{Attempt}
 use Rattle.stream_registry.specs.Roots.{Root}
-use Rattle.stream_registry.proofs.Placing.{about_all, seen_all}
+use Rattle.stream_registry.proofs.Placing.{sites_all, seen_all}
 use Rattle.stream_registry.proofs.shared.Shared+Desk.new.Goals as goal
 
 pub returns-clause-new : goal.returns-clause-new
@@ -11,4 +11,4 @@ returns-clause-new c = record { names_are = search rules; gates_are = refl; unse
 
 pub returns-clause-gates : goal.returns-clause-gates
 returns-clause-gates c =
-    (about_all c.args.limits c.in_ok-ways.ways c.in_ok-ways.ensures.1, length-map c.in_ok-ways.ways (λ (k : Root StreamLimits Attempt). k.gate) ∙ search rules)
+    (sites_all c.args.limits c.in_ok-ways.ways c.in_ok-ways.ensures.1, length-map c.in_ok-ways.ways (λ (k : Root Site Attempt). k.gate) ∙ search rules)

@@ -3,7 +3,7 @@ use Rattle.turn_gate.specs.Histories.{Begins, longer}
 use Rattle.stream_registry.specs.Pasts.{Attempt}
 use Rattle.stream_registry.specs.Roots.{Root, Grown, seen_at}
 use Rattle.stream_registry.specs.SharedState.{Streams}
-use Rattle.stream_model.specs.declared.calls.StreamLimits.{StreamLimits}
+use Rattle.stream_registry.specs.declared.desk.Site.{Site}
 use Rattle.stream_registry.specs.Gates.{told}
 use Rattle.stream_registry.proofs.Tells.{begins_told, told_longer}
 use Rattle.stream_registry.proofs.shared.SharedDeskStreamPort.detach.Goals as goal
@@ -12,10 +12,10 @@ pub returns-clause-here : goal.returns-clause-here
 returns-clause-here c =
     let old = seen_at c.args.self.now.roots c.args.place in
     let is : seen_at c.detach.new.self c.args.place ≡ longer old c.args.pass.seen = search rules in
-    let grown : Grown c.args.self.now.roots c.detach.new.self = subst (λ (l : List (Root StreamLimits Attempt)). Grown l c.detach.new.self) (ap (λ (x : Streams). x.roots) c.self.view_is) c.detach.ensures.grown in
+    let grown : Grown c.args.self.now.roots c.detach.new.self = subst (λ (l : List (Root Site Attempt)). Grown l c.detach.new.self) (ap (λ (x : Streams). x.roots) c.self.view_is) c.detach.ensures.grown in
     ap told is ∙ told_longer old c.args.pass.seen (subst (λ (h : List Attempt). Begins old h) is (grown.seen.at c.args.place)) (subst (λ (h : List Attempt). Begins c.args.pass.seen h) is c.detach.ensures.seen)
 
 pub returns-clause-both : goal.returns-clause-both
 returns-clause-both c =
-    let grown : Grown c.args.self.now.roots c.detach.new.self = subst (λ (l : List (Root StreamLimits Attempt)). Grown l c.detach.new.self) (ap (λ (x : Streams). x.roots) c.self.view_is) c.detach.ensures.grown in
+    let grown : Grown c.args.self.now.roots c.detach.new.self = subst (λ (l : List (Root Site Attempt)). Grown l c.detach.new.self) (ap (λ (x : Streams). x.roots) c.self.view_is) c.detach.ensures.grown in
     (begins_told _ _ (grown.seen.at c.args.place), begins_told _ _ c.detach.ensures.seen)
