@@ -1,5 +1,5 @@
 -- Journals of many places, and calls noted there
-use Rattle.std.proofs.Common.{◌≡◌, ◌≢◌, ℕ, zero, suc, ◌<◌, ◌≤◌, List, [], ◌∷◌, ◌++◌, length, slice_get, slice_set, get_or, Some, refl, sym, ap, ◌∙◌, subst, append-nil, append_assoc, arith, All}
+use Rattle.std.proofs.Common.{◌≡◌, ◌≢◌, ℕ, zero, suc, ◌<◌, List, [], ◌∷◌, length, slice_get, slice_set, get_or, Some, refl, sym, ap, ◌∙◌, subst, append-nil, arith, All}
 use Rattle.std.specs.Prelude.{reverse}
 use Rattle.std.proofs.lemmas.List.Elements.{All-get_or, All-head, All-tail, All-nil, All-cons}
 use Rattle.std.proofs.lemmas.Option.{slice_get_read}
@@ -10,7 +10,6 @@ use Rattle.stream_model.specs.Legal.{Legal}
 use Rattle.turn_gate.specs.Histories.{Begins}
 use Rattle.stream_registry.specs.Told.{Step, Keeps}
 use Rattle.stream_registry.proofs.Rooting.{begins_same, begins_trans}
-use Rattle.stream_registry.proofs.Counted.{no_more_items}
 use Rattle.stream_registry.specs.Books.{BookState, SoleRules, SoleState, SeenState, journal_of, journal_at, FitsSole}
 
 pub keeps_law : (limits : StreamLimits) (past : History) (journal : List Step) → past ≡ reverse journal → IsLawful limits past → ((player : ℕ) → Legal limits past player) → Keeps limits journal

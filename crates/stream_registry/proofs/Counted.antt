@@ -1,9 +1,8 @@
 -- A gate's history has at least as many calls as its stream has items
-use Rattle.std.proofs.Common.{◌≡◌, ℕ, ◌+◌, ◌≤◌, List, [], ◌∷◌, ◌++◌, length, arith, refl, sym, ap, ◌∙◌, subst}
+use Rattle.std.proofs.Common.{◌+◌, ◌≤◌, List, [], ◌∷◌, length, arith}
 use Rattle.std.specs.List.{fold}
 use Rattle.std.specs.declared.result.Result.{Result}
 use Rattle.std.specs.declared.result.Result.TheVariants.{Ok, Err}
-use Rattle.std.proofs.lemmas.List.Sums.{fold-append}
 use Rattle.av_unit.specs.declared.bytes.OutOfMemory.{OutOfMemory}
 use Rattle.stream_model.specs.declared.calls.Entry.{Entry}
 use Rattle.stream_model.specs.declared.replies.Reply.{Reply}

@@ -24,7 +24,8 @@ use Rattle.stream_registry.specs.Placed.{Placed}
 use Rattle.stream_registry.specs.Sites.{site, AreSites, AreApart, AreNewRoots}
 use Rattle.stream_registry.specs.Gates.{told, told_at, numbers}
 use Rattle.stream_registry.specs.Wants.{IsTake}
-use Rattle.stream_registry.proofs.Wanting.{refused_take}
+use Rattle.stream_registry.specs.Refusals.{IsRefusedMemory}
+use Rattle.stream_registry.proofs.Wanting.{refused_take, refused_sent}
 use Rattle.stream_registry.proofs.Tells.{begins_told, told_more, told_back, past_more, numbers_placed, numbers_begin}
 
 abbrev pub Known : Type 0
@@ -75,6 +76,22 @@ refused limits entry a x root v w is p =
     let q = p.replied in
     let seen : w.seen ≡ q.before ++ (entry, Err x) ∷ [] = q.seen ∙ ap (λ (y : Result Reply OutOfMemory). q.before ++ (entry, y) ∷ []) is in
     refused_take limits q.before entry x (subst (λ (h : List Attempt). IsLawfulAt limits h) seen q.lawful_seen)
+
+-- and the rules answer it with an item
+pub refused_memory : (entry : Entry) (a : Result Reply OutOfMemory) (x : OutOfMemory) (root : List Attempt) (v w : Known) → a ≡ Err x → RepliedAfter (IsLawfulAt v.gate.about.limits) root v (entry, a) w → IsRefusedMemory v entry w
+refused_memory entry a x root v w is p =
+    let limits = v.gate.about.limits in
+    let q = p.replied in
+    let seen : w.seen ≡ q.before ++ (entry, Err x) ∷ [] = q.seen ∙ ap (λ (y : Result Reply OutOfMemory). q.before ++ (entry, y) ∷ []) is in
+    record {
+      free = q.same.met;
+      before = q.before;
+      begins = q.begins;
+      room = q.room;
+      sent = refused_sent limits q.before entry x (subst (λ (h : List Attempt). IsLawfulAt limits h) seen q.lawful_seen);
+      refusal = x;
+      seen_is = seen;
+    }
 
 pub same_own : (v w : Known) → Remembers v w → w.mine ≡ v.mine → AreOwn v.mine (length v.seen) → numbers w.seen w.mine ≡ numbers v.seen v.mine
 same_own v w s e own = ap (numbers w.seen) e ∙ numbers_begin v.seen w.seen v.mine s.1 (λ n. (own n).1)

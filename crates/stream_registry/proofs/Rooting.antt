@@ -5,7 +5,7 @@ use Rattle.std.specs.Prelude.{All}
 use Rattle.std.specs.Option.{option_map}
 use Rattle.std.proofs.lemmas.List.Elements.{All-head, All-tail}
 use Rattle.std.proofs.lemmas.Option.{slice_get_within, slice_get_read, slice_get_past, slice_get-map, slice_get-get_or}
-use Rattle.std.proofs.lemmas.List.{length-map, map-append, set-get_or, take_more, get_or-map, take-append-le, take_all}
+use Rattle.std.proofs.lemmas.List.{length-map, set-get_or, take_more, take-append-le, take_all}
 use Rattle.turn_gate.specs.Histories.{Begins, longer}
 use Rattle.turn_gate.specs.Known.{GateId}
 use Rattle.stream_registry.specs.Roots.{Root, Stays, seen_of, seen_at, gates, Grown, Gathers, Later}

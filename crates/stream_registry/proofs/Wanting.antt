@@ -13,7 +13,7 @@ use Rattle.stream_model.specs.Answer.{begin_reply, join_reply, is_who, reply_to,
 use Rattle.stream_model.specs.History.{History, items_of, publisher, holder}
 use Rattle.stream_model.specs.Known.{StreamKnown, answered, IsLawful}
 use Rattle.stream_registry.specs.declared.again.TakeNumbers.{TakeNumbers}
-use Rattle.stream_registry.specs.Pasts.{Attempt, past_after, AreWants, IsLawfulAt, past_of, Stands}
+use Rattle.stream_registry.specs.Pasts.{Attempt, AreWants, IsLawfulAt, past_of, Stands}
 use Rattle.stream_registry.specs.Wants.{IsTake, taking, numbers_of}
 use Rattle.stream_registry.proofs.Tells.{folds, past_more}
 
@@ -73,9 +73,13 @@ lawful_answer limits h e r l is = (subst (λ (p : History). IsLawful limits p) (
 pub lawful_refusal : (limits : StreamLimits) (h : List Attempt) (e : Entry) (x : OutOfMemory) → IsLawfulAt limits h → IsSent (reply limits (past_of h) e) → IsLawfulAt limits (h ++ (e, Err x) ∷ [])
 lawful_refusal limits h e x l sent = (subst (λ (p : History). IsLawful limits p) (sym (past_more h e (Err x))) l.0, wants_more limits [] h e (Err x) l.1 (sent, tt))
 
--- what memory refused was answered with an item by the rules, so it was a Take
+-- what memory refused was answered with an item by the rules
+pub refused_sent : (limits : StreamLimits) (h : List Attempt) (e : Entry) (x : OutOfMemory) → IsLawfulAt limits (h ++ (e, Err x) ∷ []) → IsSent (reply limits (past_of h) e)
+refused_sent limits h e x l = (wants_last limits [] h e (Err x) l.1).0
+
+-- so it was a Take
 pub refused_take : (limits : StreamLimits) (h : List Attempt) (e : Entry) (x : OutOfMemory) → IsLawfulAt limits (h ++ (e, Err x) ∷ []) → IsTake e.call
-refused_take limits h e x l = let w = wants_last limits [] h e (Err x) l.1 in sent_take limits (past_of h) e.who e.call w.0
+refused_take limits h e x l = sent_take limits (past_of h) e.who e.call (refused_sent limits h e x l)
 
 -- a stream that answered a call stands for its history with this call and answer
 pub desk_more : (old new : StreamKnown) (h : List Attempt) (e : Entry) (a : Result Reply OutOfMemory) → IfOk a (λ r. (r ≡ reply old.limits old.past e) × (new ≡ answered old e r)) → OnErr a (new ≡ old) → OnErr a (IsSent (reply old.limits old.past e))

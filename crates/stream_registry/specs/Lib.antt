@@ -8,3 +8,4 @@ pub mod Gates
 pub mod SharedState
 pub mod Books
 pub mod Wants
+pub mod Refusals

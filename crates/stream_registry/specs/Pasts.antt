@@ -1,6 +1,6 @@
 -- Which stream past a gate's history is, where the gate's machine is a stream.
 -- The history has each call with its reply or want of memory, the oldest first. The past leaves out the calls that memory refused, and is newest first.
-use Rattle.std.specs.Prelude.{◌≡◌, ℕ, ◌≤◌, List, [], ◌∷◌, ◌++◌, length}
+use Rattle.std.specs.Prelude.{◌≡◌, List, [], ◌∷◌, ◌++◌}
 use Rattle.std.specs.List.{fold}
 use Rattle.std.specs.declared.result.Result.{Result}
 use Rattle.std.specs.declared.result.Result.TheVariants.{Ok, Err}

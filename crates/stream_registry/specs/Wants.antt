@@ -1,11 +1,10 @@
 -- Which calls want memory, and the numbers of a Take
-use Rattle.std.specs.Prelude.{◌≡◌, ℕ, Option, Some, None}
-use Rattle.av_unit.specs.declared.head.Want.{Want}
+use Rattle.std.specs.Prelude.{Option, Some, None}
 use Rattle.stream_model.specs.declared.calls.Call.{Call}
 use Rattle.stream_model.specs.declared.calls.Call.TheVariants.{Take}
 use Rattle.stream_model.specs.declared.calls.Entry.{Entry}
 use Rattle.stream_registry.specs.declared.port.PortFail.{PortFail}
-use Rattle.stream_registry.specs.declared.port.PortFail.TheVariants.{Busy, Worn, OutOfMemory}
+use Rattle.stream_registry.specs.declared.port.PortFail.TheVariants.{OutOfMemory}
 use Rattle.stream_registry.specs.declared.again.TakeNumbers.{TakeNumbers}
 
 abbrev pub IsTake : Call → Type 0

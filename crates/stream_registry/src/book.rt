@@ -1,5 +1,5 @@
 //! A stream with a journal of its calls.
-ghost use Rattle.std.specs.Prelude.{◌≡◌, ◌+◌, ◌<◌, ◌≤◌, ◌^◌, ◌++◌, ◌∷◌, [], length, reverse, IfOk, IfErr, OnErr};
+ghost use Rattle.std.specs.Prelude.{◌≡◌, ◌+◌, ◌<◌, ◌≤◌, ◌^◌, ◌++◌, ◌∷◌, [], length, reverse, IfOk, IfErr};
 ghost use Rattle.stream_model.specs.Answer.{reply};
 ghost use Rattle.stream_model.specs.Held.{held};
 ghost use Rattle.stream_model.specs.History.{items_of};

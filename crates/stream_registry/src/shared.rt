@@ -143,11 +143,18 @@ impl Shared<Desk> {
 impl StreamPort for Shared<Desk> {
     type Pass = Pass<Desk>;
 
-    ghost use Rattle.std.specs.Prelude.{◌≡◌, Some, length, slice_get};
+    ghost use Rattle.std.specs.Prelude.{◌≡◌, ◌≢◌, ◌≤◌, ◌^◌, ℕ, Some, length, slice_get, IfOk, IfErr};
+    ghost use Rattle.turn_gate.specs.Histories.{Begins};
+    ghost use Rattle.turn_gate.specs.Known.{PassKnown};
+    ghost use Rattle.stream_registry.specs.declared.desk.Site.{Site};
+    ghost use Rattle.stream_registry.specs.Pasts.{Attempt};
+    ghost use Rattle.stream_registry.specs.Told.{Keeps};
+    ghost use Rattle.stream_registry.specs.Placed.{Placed, Failed};
+    ghost use Rattle.stream_registry.specs.Refusals.{IsRefused};
     ghost use Rattle.stream_registry.specs.Gates.{told, told_at, numbers};
     ghost use Rattle.stream_registry.specs.Roots.{gates};
     ghost use Rattle.stream_registry.specs.SharedState.{shared_rules, limits_at};
-    ghost use Rattle.stream_registry.specs.Wants.{IsTake};
+    ghost use Rattle.stream_registry.specs.Wants.{IsTake, IsWanted};
 
     ghost busies = { λ s. s.busies };
 
@@ -180,7 +187,29 @@ impl StreamPort for Shared<Desk> {
         self.ways.detach(place as usize, pass);
     }
 
-    fn call(&mut self, place: u32, pass: &mut Pass<Desk>, entry: Entry) -> Result<Reply, PortFail> {
+    /// As the trait says, and by what the pass then knows of the gate: `Busy` comes exactly where its swap found the turn held.
+    fn call(&mut self, place: u32, pass: &mut Pass<Desk>, entry: Entry) -> Result<Reply, PortFail>
+        requires { slice_get (gates self.old.roots) place ≡ Some pass.old.gate }
+        ensures pass { (slice_get (gates self.new.roots) place ≡ Some pass.new.gate)
+            × (pass.new.gate.about.limits ≡ pass.old.gate.about.limits) × Begins (told pass.old.seen) (told pass.new.seen) }
+        ensures reply { IfOk result (λ r.
+            Placed pass.old.gate.about.limits (told_at self.old.roots place) (told pass.old.seen) (numbers pass.old.seen pass.old.mine)
+            (entry, r) (told pass.new.seen) (numbers pass.new.seen pass.new.mine)) }
+        ensures laws { IfOk result (λ _. Keeps pass.new.gate.about.limits (told pass.new.seen)) }
+        ensures room { IfOk result (λ _. length pass.new.seen ≤ 2 ^ 62) }
+        ensures fails { IfErr result (λ e. Failed entry self.old.busies self.new.busies (length pass.new.seen) e) }
+        ensures memory { IfErr result (IsWanted (IsTake entry.call)) }
+        ensures unmade { IfErr result (λ _. (numbers pass.new.seen pass.new.mine ≡ numbers pass.old.seen pass.old.mine)
+            × ((q : ℕ) → told_at self.new.roots q ≡ told_at self.old.roots q)) }
+        ensures busies { self.old.busies ≤ self.new.busies }
+        ensures here { Begins (told_at self.old.roots place) (told_at self.new.roots place) }
+        ensures others { (q : ℕ) → q ≢ place → told_at self.new.roots q ≡ told_at self.old.roots q }
+        ensures fixed { shared_rules self.new ≡ shared_rules self.old }
+        ensures fits { (q : ℕ) (p : PassKnown Site Attempt) → slice_get (gates self.old.roots) q ≡ Some p.gate
+            → slice_get (gates self.new.roots) q ≡ Some p.gate }
+        ensures free { IfOk result (λ _. pass.new.met ≡ pass.old.met) }
+        ensures refused { IfErr result (λ e. IsRefused pass.old entry e pass.new) }
+    {
         let _ = pass.seen();
         let numbers = TakeNumbers::of(&entry);
         match self.ways.call(place as usize, pass, entry) {

@@ -26,7 +26,7 @@ pub struct Sole {
 }
 
 impl Model for Sole {
-    ghost use Rattle.std.specs.Prelude.{◌≡◌, ◌≤◌, [], All, length};
+    ghost use Rattle.std.specs.Prelude.{◌≡◌, ◌≤◌, All, length};
     ghost use Rattle.stream_registry.specs.Books.{SoleState};
 
     ghost Value = { SoleState };

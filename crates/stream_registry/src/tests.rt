@@ -70,7 +70,8 @@ fn until_made<P: StreamPort>(
     requires { P.fits port.old place pass.old }
     ensures fits { P.fits port.new place pass.new }
     ensures fixed { (P.rules port.new ≡ P.rules port.old) × (P.limits pass.new ≡ P.limits pass.old) }
-    ensures reply { IfSome result (λ r. (before : List Step) × (P.seen pass.new ≡ before ++ (entry, r) ∷ []) × (r ≡ reply (P.limits pass.old) (reverse before) entry)) }
+    ensures reply { IfSome result (λ r. (before : List Step) × (P.seen pass.new ≡ before ++ (entry, r) ∷ [])
+        × (r ≡ reply (P.limits pass.old) (reverse before) entry)) }
 {
     for _ in 0..TRIES {
         match port.call(place, pass, entry) {

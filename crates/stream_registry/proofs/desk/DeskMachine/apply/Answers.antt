@@ -1,4 +1,4 @@
-use Rattle.std.proofs.Common.{rules, ◌≡◌, ◌<◌, ◌≤◌, ◌^◌, length, arith, ap, sym}
+use Rattle.std.proofs.Common.{◌≡◌, ◌<◌, ◌^◌, length, arith, ap}
 use Rattle.stream_model.specs.History.{items_of}
 use Rattle.stream_registry.specs.Pasts.{past_of}
 use Rattle.stream_registry.proofs.Counted.{few_items}

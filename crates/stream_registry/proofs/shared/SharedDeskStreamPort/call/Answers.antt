@@ -1,4 +1,4 @@
-use Rattle.std.proofs.Common.{rules, ◌≡◌, List, Some, Ok, Err, refl, sym, ap, ◌∙◌, subst}
+use Rattle.std.proofs.Common.{rules, ◌≡◌, List, Some, Ok, refl, sym, ap, ◌∙◌, subst}
 use Rattle.stream_model.specs.declared.calls.StreamLimits.{StreamLimits}
 use Rattle.turn_gate.specs.Known.{RepliedAfter}
 use Rattle.stream_registry.specs.declared.desk.Site.{Site}
@@ -8,7 +8,7 @@ use Rattle.stream_registry.specs.Roots.{Root, gates, seen_at}
 use Rattle.stream_registry.specs.SharedState.{Streams}
 use Rattle.stream_registry.specs.Told.{Keeps}
 use Rattle.stream_registry.specs.Gates.{told}
-use Rattle.stream_registry.proofs.Placing.{placed, keeps, room, unmade, refused, same_own, passes, kept}
+use Rattle.stream_registry.proofs.Placing.{placed, keeps, room, unmade, refused, refused_memory, same_own, passes, kept}
 use Rattle.stream_registry.proofs.Wanting.{take_numbers, take_back}
 use Rattle.std.specs.Option.{IsSome}
 use Rattle.stream_registry.proofs.shared.SharedDeskStreamPort.call.Goals as goal
@@ -76,3 +76,8 @@ returns-in-Ok-Err-clause-fails c =
     let take = refused c.args.pass.now.gate.about.limits _ _ c.in-Ok-Err.field-0-0 _ _ _ c.in-Ok-Err.field-0-is a in
     let held : c.of-numbers.result ≡ Some c.unwrap.result = search rules in
     c.entry.ensures ∙ take_back c.args.entry c.unwrap.result take (sym c.of-numbers.ensures ∙ held)
+
+pub returns-in-Ok-Err-clause-refused : goal.returns-in-Ok-Err-clause-refused
+returns-in-Ok-Err-clause-refused c =
+    let a : RepliedAfter (IsLawfulAt c.args.pass.now.gate.about.limits) (seen_at c.args.self.now.roots c.args.place) c.args.pass.now (c.args.entry, c.in-Ok-Err.field-0) c.call.new.pass = search rules in
+    refused_memory _ _ c.in-Ok-Err.field-0-0 _ _ _ c.in-Ok-Err.field-0-is a

@@ -1,4 +1,4 @@
-use Rattle.std.proofs.Common.{rules, ◌≡◌, ◌<◌, ◌∙◌, List, length, get_or, sym, ap, subst, IfOk, []}
+use Rattle.std.proofs.Common.{rules, ◌≡◌, ◌<◌, ◌∙◌, List, length, get_or, sym, ap, subst, IfOk}
 use Rattle.stream_registry.specs.Told.{Step}
 use Rattle.stream_registry.specs.Placed.{Placed}
 use Rattle.stream_registry.specs.Books.{journal_at}
