@@ -13,3 +13,6 @@ mod ring;
 mod window;
 
 pub use ring::Ring;
+
+#[cfg(test)]
+mod tests;
