@@ -1,0 +1,6 @@
+pub mod Frames
+pub mod Parts
+pub mod Text
+pub mod Known
+pub mod Ahead
+pub mod Sound

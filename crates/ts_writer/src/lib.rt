@@ -1,0 +1,17 @@
+//! The items of a stream as a transport stream (ISO/IEC 13818-1): AVC as access units, AAC in ADTS frames, and the tables that
+//! name them.
+#![tactic(auto)]
+
+mod ahead;
+mod framed;
+mod in_force;
+mod left;
+mod multiplex;
+mod part;
+mod stop;
+mod tables;
+mod units;
+mod writer;
+
+pub use left::{Left, Wrote};
+pub use writer::TsWriter;

@@ -1,0 +1,199 @@
+ghost use Rattle.std.specs.Prelude.{◌≡◌, ℕ, List, ◌++◌, true, IfOk, IfSome, IsErr, OnOk, OnErr};
+ghost use Rattle.av_unit.specs.declared.item.Item.TheVariants.{Unit as AUnit};
+ghost use Rattle.ts_writer.specs.Frames.{Gives, UnlessMemory, IsFramed, video_config, audio_config};
+ghost use Rattle.ts_writer.specs.Parts.{text_behind, with_parts};
+ghost use Rattle.ts_writer.specs.Text.{none_in_force, in_force_after, listed as listed_of, read_or_none, nothing_of, made_of, reading_of, reading, wrote_by, wrote_of, added, item_text};
+ghost use Rattle.ts_writer.specs.Known.{fresh, given};
+
+use crate::Wrote;
+use crate::framed::Framed;
+use crate::in_force::InForce;
+use crate::multiplex::Multiplex;
+use crate::part::Streams;
+use crate::stop::Stop;
+use crate::units::{make_picture, make_sound, read_audio, read_video};
+use av_unit::{Bytes, Item, Kind, OutOfMemory, Unit};
+use past::History;
+use std::alloc::Global;
+use std::marker::Model;
+
+impl InForce {
+    /// None.
+    fn none() -> InForce
+        ensures { result ≡ none_in_force }
+    {
+        InForce {
+            video: None,
+            audio: None,
+        }
+    }
+
+    /// The streams that they list.
+    fn listed(&self) -> Streams
+        ensures { result ≡ listed_of self.now }
+    {
+        Streams {
+            video: self.video.is_some(),
+            audio: self.audio.is_some(),
+        }
+    }
+
+    /// Takes a video configuration, or leaves none where it can't be read.
+    fn set_video(&mut self, alloc: Global, body: &[u8]) -> Result<Option<Framed>, Stop>
+        ensures made { Gives result (made_of (nothing_of (video_config body.now))) }
+        ensures set { UnlessMemory result (self.new ≡ record { video = read_or_none (video_config body.now); audio = self.old.audio }) }
+        ensures fits { IfOk result (λ o. IfSome o IsFramed) }
+    {
+        self.video = None;
+        self.video = Some(read_video(alloc, body)?);
+        Ok(None)
+    }
+
+    /// Takes an audio configuration, or leaves none where it can't be read.
+    fn set_audio(&mut self, body: &[u8]) -> Result<Option<Framed>, Stop>
+        ensures made { Gives result (made_of (nothing_of (audio_config body.now))) }
+        ensures set { UnlessMemory result (self.new ≡ record { video = self.old.video; audio = read_or_none (audio_config body.now) }) }
+        ensures fits { IfOk result (λ o. IfSome o IsFramed) }
+    {
+        self.audio = None;
+        self.audio = Some(read_audio(body)?);
+        Ok(None)
+    }
+
+    /// What is made of a unit, which is in force from then on where it is a configuration.
+    fn read(&mut self, alloc: Global, unit: &Unit) -> Result<Option<Framed>, Stop>
+        ensures made { Gives result (made_of (reading_of self.old unit.now.kind unit.now.time unit.now.body)) }
+        ensures set { UnlessMemory result (self.new ≡ in_force_after self.old (AUnit unit.now)) }
+        ensures fits { IfOk result (λ o. IfSome o IsFramed) }
+    {
+        let time = unit.time;
+        let body = unit.body.as_slice();
+        match unit.kind {
+            Kind::Meta | Kind::Data => Ok(None),
+            Kind::VConfig => self.set_video(alloc, body),
+            Kind::AConfig => self.set_audio(body),
+            Kind::Key => Ok(Some(make_picture(alloc, &self.video, true, time, body)?)),
+            Kind::Inter => Ok(Some(make_picture(alloc, &self.video, false, time, body)?)),
+            Kind::Audio => Ok(Some(make_sound(alloc, &self.audio, time, body)?)),
+        }
+    }
+}
+
+/// Writes an item behind the text so far.
+fn write(
+    alloc: Global,
+    in_force: &mut InForce,
+    text: &mut Multiplex,
+    item: &Item,
+    out: &mut Bytes,
+) -> Result<Wrote, OutOfMemory>
+    ensures in_force { OnOk result (in_force.new ≡ in_force_after in_force.old item.now) }
+    ensures parts { OnOk result (text.new ≡ with_parts text.old (added in_force.old item.now text.old)) }
+    ensures bytes { OnOk result (out.new ≡ out.old ++ text_behind text.old (added in_force.old item.now text.old)) }
+    ensures wrote { IfOk result (λ w. w ≡ wrote_by (reading in_force.old item.now)) }
+    ensures left { OnErr result ((more : List ℕ) × (out.new ≡ out.old ++ more)) }
+{
+    match item {
+        Item::Begin => {
+            *in_force = InForce::none();
+            text.start();
+            Ok(Wrote::Nothing)
+        }
+        Item::Unit(shared) => write_unit(alloc, in_force, text, shared.unit(), out),
+        Item::End => Ok(Wrote::Nothing),
+    }
+}
+
+/// Writes a unit behind the text so far.
+fn write_unit(
+    alloc: Global,
+    in_force: &mut InForce,
+    text: &mut Multiplex,
+    unit: &Unit,
+    out: &mut Bytes,
+) -> Result<Wrote, OutOfMemory>
+    ensures in_force { OnOk result (in_force.new ≡ in_force_after in_force.old (AUnit unit.now)) }
+    ensures parts { OnOk result (text.new ≡ with_parts text.old (added in_force.old (AUnit unit.now) text.old)) }
+    ensures bytes { OnOk result (out.new ≡ out.old ++ text_behind text.old (added in_force.old (AUnit unit.now) text.old)) }
+    ensures wrote { IfOk result (λ w. w ≡ wrote_by (reading in_force.old (AUnit unit.now))) }
+    ensures left { OnErr result ((more : List ℕ) × (out.new ≡ out.old ++ more)) }
+{
+    let streams = in_force.listed();
+    match in_force.read(alloc, unit) {
+        Ok(None) => Ok(Wrote::Nothing),
+        Ok(Some(framed)) => {
+            text.put(streams, framed, out)?;
+            Ok(Wrote::Unit)
+        }
+        Err(Stop::Out(left)) => Ok(Wrote::LeftOut(left)),
+        Err(Stop::Memory) => Err(OutOfMemory),
+    }
+}
+
+/// Writes the items of a stream as a transport stream (ISO/IEC 13818-1): AVC as access units, and AAC in ADTS frames.
+///
+/// It keeps the configurations in force, the next counter of each PID, and what the tables said last. Contracts see it as the
+/// items that it was given, the newest first, and whether it has wanted memory.
+#[derive(Drop)]
+pub struct TsWriter {
+    alloc: Global,
+    in_force: InForce,
+    text: Multiplex,
+    broken: bool,
+    past: History<Item>,
+}
+
+impl Model for TsWriter {
+    ghost use Rattle.ts_writer.specs.Known.{TsKnown};
+    ghost use Rattle.ts_writer.specs.Sound.{IsSound};
+
+    ghost Value = { TsKnown };
+
+    ghost view = { λ w. record { past = w.past; broken = w.broken } };
+
+    ghost invariant = { λ w. IsSound w.broken w.in_force w.text w.past };
+}
+
+impl TsWriter {
+    /// A writer that was given no item.
+    pub fn new(alloc: Global) -> TsWriter
+        ensures { result ≡ fresh }
+    {
+        TsWriter {
+            alloc,
+            in_force: InForce::none(),
+            text: Multiplex::new(alloc),
+            broken: false,
+            past: History::new(),
+        }
+    }
+
+    /// Appends what an item adds to the text of those before it: a unit in packets, and before it both tables where they
+    /// are due. Units of other codecs are left out, and those that can't be read, or without a configuration.
+    ///
+    /// Tables stand before the first unit, where the list of streams has changed, before each key picture, and without
+    /// pictures before each 33rd unit of sound. A writer that wanted memory wants it from then on; what `out` held is the
+    /// beginning of what it holds.
+    #[tactic(auto, unfolding(crate::specs::Text::item_text))]
+    pub fn item(&mut self, item: &Item, out: &mut Bytes) -> Result<Wrote, OutOfMemory>
+        ensures known { OnOk result (self.new ≡ given self.old item.now) }
+        ensures bytes { OnOk result (out.new ≡ out.old ++ item_text self.old.past item.now) }
+        ensures wrote { IfOk result (λ w. w ≡ wrote_of self.old.past item.now) }
+        ensures err { OnErr result ((self.new.broken ≡ true) × (self.new.past ≡ self.old.past) × ((more : List ℕ) × (out.new ≡ out.old ++ more))) }
+        ensures again { self.old.broken ≡ true → IsErr result × (out.new ≡ out.old) }
+    {
+        if self.broken {
+            return Err(OutOfMemory);
+        }
+        match write(self.alloc, &mut self.in_force, &mut self.text, item, out) {
+            Ok(wrote) => {
+                self.past.add(item);
+                Ok(wrote)
+            }
+            Err(e) => {
+                self.broken = true;
+                Err(e)
+            }
+        }
+    }
+}
