@@ -1,15 +1,17 @@
 //! Scripts: what each line says, and the lines that answer them.
 //!
 //! A script is lines that end with an LF, which may lack after the last. [`drill_line`] gives the meaning of
-//! one line of a drill's script, and [`reply_text`] the line that answers a call.
+//! one line of a drill's script, [`replay_line`] that of a replay's, and [`reply_text`] the line that answers a call.
 #![tactic(auto)]
 
 mod laws;
 mod line;
+mod replay;
 mod text;
 
 pub use laws::{kind_law, lines_law, number_law};
 pub use line::{DrillLine, LineFail, drill_line};
+pub use replay::{ReplayLine, replay_line};
 pub use text::{held_text, reply_line_law, reply_text};
 
 #[cfg(test)]

@@ -67,7 +67,7 @@ fn digits(word: &[u8], bound: u64) -> Option<u32>
 }
 
 // The number below the bound that the word spells.
-fn number(word: &[u8], bound: u64) -> Option<u32>
+pub(crate) fn number(word: &[u8], bound: u64) -> Option<u32>
     requires some { 0 < bound }
     requires fits { bound ≤ 2 ^ 32 }
     ensures { result ≡ number bound word.now }
@@ -80,7 +80,7 @@ fn number(word: &[u8], bound: u64) -> Option<u32>
 }
 
 // The number from 1 on and below the bound that the word spells.
-fn count_of(word: &[u8], bound: u64) -> Option<u32>
+pub(crate) fn count_of(word: &[u8], bound: u64) -> Option<u32>
     requires some { 0 < bound }
     requires fits { bound ≤ 2 ^ 32 }
     ensures { result ≡ count_of bound word.now }
@@ -92,7 +92,7 @@ fn count_of(word: &[u8], bound: u64) -> Option<u32>
     }
 }
 
-fn who_of(word: &[u8]) -> Option<u32>
+pub(crate) fn who_of(word: &[u8]) -> Option<u32>
     ensures { result ≡ who_of word.now }
 {
     number(word, 1 << 32)
@@ -105,7 +105,7 @@ fn first_space(text: &[u8]) -> Option<usize>
 }
 
 // The first word, and what follows the space after it.
-fn first_word(text: &[u8]) -> (&[u8], Option<&[u8]>)
+pub(crate) fn first_word(text: &[u8]) -> (&[u8], Option<&[u8]>)
     ensures word { result.0.now ≡ (first_word text.now).word }
     ensures rest { option_copied result.1 ≡ (first_word text.now).rest }
 {

@@ -1,4 +1,4 @@
-use crate::{DrillLine, LineFail, drill_line, held_text, reply_text};
+use crate::{DrillLine, LineFail, ReplayLine, drill_line, held_text, replay_line, reply_text};
 use av_unit::Bytes;
 use std::alloc::{AllocError, Global};
 use std::test::Fail;
@@ -133,4 +133,169 @@ fn a_reply_line_is_added_at_the_end(rt: HostRuntime) -> Result<(), Fail> {
         b"notpublisher 7\nskip 3 18446744073709551615\nheld 708\n".as_slice()
     );
     Ok(())
+}
+
+// What a line of a replay says, `-` for one outside the grammar.
+fn told(alloc: Global, line: &[u8]) -> Result<String, AllocError> {
+    match replay_line(alloc, line) {
+        Ok(ReplayLine::Nothing) => format!(in alloc; "nothing"),
+        Ok(
+            ReplayLine::Limits {
+                message,
+                bytes,
+                items,
+                players,
+                window,
+            },
+        ) => format!(in alloc; "{message} {bytes} {items} {players} {window}"),
+        Ok(ReplayLine::Stream { app, name }) => named(alloc, &app, &name),
+        Ok(ReplayLine::Session) => format!(in alloc; "session"),
+        Ok(ReplayLine::Piece { session, bytes }) => given(alloc, session, &bytes),
+        Ok(ReplayLine::Eof(session)) => format!(in alloc; "{session} ends"),
+        Ok(ReplayLine::Room { session, left }) => format!(in alloc; "{session} room {left:?}"),
+        Ok(ReplayLine::FailRecv(session)) => format!(in alloc; "{session} fails to read"),
+        Ok(ReplayLine::FailSend(session)) => format!(in alloc; "{session} fails to write"),
+        Ok(ReplayLine::Turn { session, count }) => format!(in alloc; "{session} turns {count}"),
+        Ok(ReplayLine::All(count)) => format!(in alloc; "all turn {count}"),
+        Ok(ReplayLine::Quit(session)) => format!(in alloc; "{session} quits"),
+        Err(LineFail::Outside) => format!(in alloc; "-"),
+        Err(LineFail::OutOfMemory) => Err(AllocError),
+    }
+}
+
+fn named(alloc: Global, app: &Bytes, name: &Bytes) -> Result<String, AllocError> {
+    let app = app.as_slice();
+    let name = name.as_slice();
+    format!(in alloc; "{app:?} {name:?}")
+}
+
+fn given(alloc: Global, session: u32, bytes: &Bytes) -> Result<String, AllocError> {
+    let bytes = bytes.as_slice();
+    format!(in alloc; "{session} given {bytes:?}")
+}
+
+// What each of the lines says, a line for each.
+fn all_told(alloc: Global, lines: &[u8]) -> Result<Vec<u8>, AllocError> {
+    let mut text = Vec::new(alloc);
+    for line in lines.split(|b| *b == b'\n') {
+        text.extend_from_slice(told(alloc, line)?.as_bytes())?;
+        text.push(b'\n')?;
+    }
+    Ok(text)
+}
+
+#[test]
+fn a_line_of_a_replay_says(rt: HostRuntime) -> Result<(), Fail> {
+    let text = all_told(
+        rt.alloc(),
+        b"
+# open 1
+limits 4096 0 1 1 1000
+limits 4194304 268435456 65536 256 2147483647
+stream a -
+stream Li.ve_1 z
+open
+in 0 00ff1a
+in 4294967295 c0
+eof 1
+room 2 0
+room 2 18446744073709551615
+room 2 all
+failrecv 3
+failsend 4
+turn 5 1
+turn 5 1000000
+all 1000000
+quit 6",
+    )?;
+    assert_eq!(rt;
+        text.as_slice(),
+        b"nothing
+nothing
+4096 0 1 1 1000
+4194304 268435456 65536 256 2147483647
+[97] [45]
+[76, 105, 46, 118, 101, 95, 49] [122]
+session
+0 given [0, 255, 26]
+4294967295 given [192]
+1 ends
+2 room Some(0)
+2 room Some(18446744073709551615)
+2 room None
+3 fails to read
+4 fails to write
+5 turns 1
+5 turns 1000000
+all turn 1000000
+6 quits
+"
+            .as_slice()
+    );
+    Ok(())
+}
+
+#[test]
+fn a_line_is_outside_the_grammar_of_a_replay(rt: HostRuntime) -> Result<(), Fail> {
+    let inside = not_outside(
+        rt.alloc(),
+        b"limits 4095 0 1 1 1000
+limits 4194305 0 1 1 1000
+limits 4096 268435457 1 1 1000
+limits 4096 0 0 1 1000
+limits 4096 0 65537 1 1000
+limits 4096 0 1 0 1000
+limits 4096 0 1 257 1000
+limits 4096 0 1 1 999
+limits 4096 0 1 1 2147483648
+limits 4096 0 1 1
+limits 4096 0 1 1 1000 1
+stream live
+stream live cam x
+stream live c+m
+stream  cam
+stream live 12345678901234567890123456789012345678901234567890123456789012345
+open 1
+open \nin 0
+in 0 0
+in 0 000
+in 0 0A
+in 0 0g
+in 0 00 00
+in 00 00
+in 4294967296 00
+eof
+eof 1 1
+room 1
+room 1 18446744073709551616
+room 1 99999999999999999999999999999999999999999999
+room 1 01
+room 1 ALL
+failrecv
+failsend 1 2
+turn 1
+turn 1 0
+turn 1 1000001
+all
+all 0
+all 1000001
+quit
+quit x
+held
+begin 1",
+    )?;
+    assert_eq!(rt; inside.as_slice(), b"".as_slice());
+    Ok(())
+}
+
+// Those of the lines that aren't outside the grammar.
+fn not_outside(alloc: Global, lines: &[u8]) -> Result<Vec<u8>, AllocError> {
+    let mut inside = Vec::new(alloc);
+    for line in lines.split(|b| *b == b'\n') {
+        if told(alloc, line)?.as_bytes() != b"-".as_slice() {
+            inside.extend_from_slice(line)?;
+            inside.push(b'\n')?;
+        }
+    }
+    Ok(inside)
 }

@@ -1,0 +1,145 @@
+-- The lines of a replay's script, each by itself.
+use Rattle.std.specs.Prelude.{ℕ, ◌+◌, ◌-◌, ◌*◌, ◌^◌, ◌%◌, Bool, ◌&&◌, ◌||◌, if◌then◌else◌, ◌==◌, nat_le, List, [], ◌∷◌, length, codes, None, Some}
+use Rattle.std.specs.List.{list_all}
+use Rattle.std.specs.declared.option.Option.{Option}
+use Rattle.std.specs.Option.{option_map}
+use Rattle.relay_script.specs.Lines.{first_word, next, last, is_text, number, decimal_of, count_of}
+use Rattle.relay_script.specs.declared.replay.ReplayLine.{ReplayLine}
+use Rattle.relay_script.specs.declared.replay.ReplayLine.TheVariants.{Nothing, Limits, Stream, Session, Piece, Eof, Room, FailRecv, FailSend, Turn, All, Quit}
+
+-- ---- what a word says
+
+abbrev pub within : ℕ → ℕ → ℕ → Bool
+within least most n = nat_le least n && nat_le n most
+
+-- a number from the least on, at most the other
+abbrev pub in_range : ℕ → ℕ → Option ℕ → Option ℕ
+in_range least most None = None
+in_range least most (Some n) = if within least most n then Some n else None
+
+-- M, W
+abbrev pub message_of : List ℕ → Option ℕ
+message_of word = in_range 4096 4194304 (decimal_of word)
+
+abbrev pub window_of : List ℕ → Option ℕ
+window_of word = in_range 1000 (2 ^ 31 - 1) (decimal_of word)
+
+-- the number of a session
+abbrev pub session_of : List ℕ → Option ℕ
+session_of word = number (2 ^ 32) word
+
+-- K, how many turns or rounds
+abbrev pub turns_of : List ℕ → Option ℕ
+turns_of word = count_of (1000000 + 1) word
+
+-- how many bytes may still be sent, None where all may
+abbrev pub room_of : List ℕ → Option (Option ℕ)
+room_of word = if is_text word (codes "all") then Some None else option_map Some (number (2 ^ 64) word)
+
+-- a letter, a digit, `.`, `_` or `-`
+abbrev pub is_name_byte : ℕ → Bool
+is_name_byte c = (within 65 90 c || within 97 122 c) || (within 48 57 c || (c == 46 || (c == 95 || c == 45)))
+
+-- APP and NAME
+abbrev pub name_of : List ℕ → Option (List ℕ)
+name_of word = if within 1 64 (length word) && list_all is_name_byte word then Some word else None
+
+abbrev pub is_hex_byte : ℕ → Bool
+is_hex_byte c = within 48 57 c || within 97 102 c
+
+-- an even number of lower-case hexadecimal digits, at least two
+abbrev pub is_hex : List ℕ → Bool
+is_hex word = nat_le 2 (length word) && (length word % 2 == 0 && list_all is_hex_byte word)
+
+abbrev pub digit : ℕ → ℕ
+digit c = if within 97 102 c then c - 87 else (if within 48 57 c then c - 48 else 0)
+
+-- the byte of each two digits
+abbrev pub pairs : List ℕ → List ℕ
+pairs [] = []
+pairs (high ∷ []) = []
+pairs (high ∷ low ∷ rest) = (16 * digit high + digit low) ∷ pairs rest
+
+-- HEX
+abbrev pub hex_of : List ℕ → Option (List ℕ)
+hex_of word = if is_hex word then Some (pairs word) else None
+
+-- ---- lines
+
+-- M R N P W
+abbrev pub limits_line : Option (List ℕ) → Option ReplayLine
+limits_line words =
+    next words message_of (λ message rest.
+    next rest (number (268435456 + 1)) (λ bytes rest.
+    next rest (count_of (65536 + 1)) (λ items rest.
+    next rest (count_of (256 + 1)) (λ players rest.
+    next rest window_of (λ window rest.
+    last rest (Limits message bytes items players window))))))
+
+-- APP NAME
+abbrev pub stream_line : Option (List ℕ) → Option ReplayLine
+stream_line words =
+    next words name_of (λ app rest.
+    next rest name_of (λ name rest.
+    last rest (Stream app name)))
+
+-- S HEX
+abbrev pub piece_line : Option (List ℕ) → Option ReplayLine
+piece_line words =
+    next words session_of (λ session rest.
+    next rest hex_of (λ bytes rest.
+    last rest (Piece session bytes)))
+
+-- S N, or S `all`
+abbrev pub room_line : Option (List ℕ) → Option ReplayLine
+room_line words =
+    next words session_of (λ session rest.
+    next rest room_of (λ left rest.
+    last rest (Room session left)))
+
+-- S K
+abbrev pub turn_line : Option (List ℕ) → Option ReplayLine
+turn_line words =
+    next words session_of (λ session rest.
+    next rest turns_of (λ count rest.
+    last rest (Turn session count)))
+
+-- K
+abbrev pub all_line : Option (List ℕ) → Option ReplayLine
+all_line words = next words turns_of (λ count rest. last rest (All count))
+
+-- S
+abbrev pub session_line : (ℕ → ReplayLine) → Option (List ℕ) → Option ReplayLine
+session_line says words = next words session_of (λ session rest. last rest (says session))
+
+-- a line without bytes of its own, by its first word
+abbrev pub plain_line : List ℕ → Option (List ℕ) → Option ReplayLine
+plain_line word rest =
+    if is_text word (codes "limits") then limits_line rest
+    else (if is_text word (codes "open") then last rest Session
+    else (if is_text word (codes "eof") then session_line Eof rest
+    else (if is_text word (codes "room") then room_line rest
+    else (if is_text word (codes "failrecv") then session_line FailRecv rest
+    else (if is_text word (codes "failsend") then session_line FailSend rest
+    else (if is_text word (codes "turn") then turn_line rest
+    else (if is_text word (codes "all") then all_line rest
+    else (if is_text word (codes "quit") then session_line Quit rest else None))))))))
+
+-- a line by its first word
+abbrev pub worded_line : List ℕ → Option (List ℕ) → Option ReplayLine
+worded_line word rest =
+    if is_text word (codes "stream") then stream_line rest
+    else (if is_text word (codes "in") then piece_line rest else plain_line word rest)
+
+-- an empty line, a line that begins with `#`, or one of the lines above
+abbrev pub form : List ℕ → Option ReplayLine
+form [] = Some Nothing
+form (c ∷ cs) = if c == 35 then Some Nothing else worded_line (first_word (c ∷ cs)).word (first_word (c ∷ cs)).rest
+
+-- what a line says, its LF left out: None is outside the grammar
+abbrev pub meaning : List ℕ → Option ReplayLine
+meaning line = if nat_le (length line) 65536 then form line else None
+
+-- the lines that take memory
+abbrev pub takes_memory : List ℕ → Bool
+takes_memory word = is_text word (codes "stream") || is_text word (codes "in")

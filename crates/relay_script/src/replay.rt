@@ -1,0 +1,463 @@
+ghost use Rattle.std.specs.Prelude.{◌≡◌, ◌↔◌, ◌≤◌, ℕ, true, Some, None, IfOk, Ok, Err, option_map};
+ghost use Rattle.std.specs.List.{list_all};
+ghost use Rattle.std.specs.Option.{option_copied};
+ghost use Rattle.relay_script.specs.Lines.{digits_from, below, first_word, last};
+ghost use Rattle.relay_script.specs.Lines.{number as number_in};
+ghost use Rattle.relay_script.specs.declared.replay.ReplayLine.{ReplayLine as Line};
+ghost use Rattle.relay_script.specs.declared.replay.ReplayLine.TheVariants.{Stream, Piece, Session};
+ghost use Rattle.relay_script.specs.ReplayLines.{within, message_of, window_of, session_of, turns_of, room_of, is_name_byte, name_of, is_hex_byte};
+ghost use Rattle.relay_script.specs.ReplayLines.{is_hex, digit, pairs, limits_line, stream_line, piece_line, room_line, turn_line, all_line};
+ghost use Rattle.relay_script.specs.ReplayLines.{session_line, plain_line, worded_line, meaning, takes_memory};
+
+use crate::LineFail;
+use crate::line::{count_of, first_word, number, who_of};
+use av_unit::{Bytes, OutOfMemory};
+use std::alloc::Global;
+
+/// What a line of a replay's script says. Sessions and streams are numbered from 0.
+#[derive(Drop)]
+pub enum ReplayLine {
+    /// An empty line or a comment.
+    Nothing,
+    /// The limits of the relay.
+    Limits {
+        /// The bytes of a message at most.
+        message: u32,
+        /// The bytes of a stream's window.
+        bytes: u64,
+        /// The items of a stream's window.
+        items: u32,
+        /// The players of a stream.
+        players: u32,
+        /// The acknowledgement window, in bytes.
+        window: u32,
+    },
+    /// A stream.
+    Stream {
+        app: Bytes,
+        name: Bytes,
+    },
+    /// A session, with room for all that is sent.
+    Session,
+    /// A further piece of a session's input.
+    Piece {
+        session: u32,
+        bytes: Bytes,
+    },
+    /// The session's link ends after its pieces.
+    Eof(u32),
+    /// How many bytes the session may still send, None where all.
+    Room {
+        session: u32,
+        left: Option<u64>,
+    },
+    /// The session's next receive fails.
+    FailRecv(u32),
+    /// The session's next send fails.
+    FailSend(u32),
+    /// So many turns of the session.
+    Turn {
+        session: u32,
+        count: u32,
+    },
+    /// So many rounds of a turn of each session.
+    All(u32),
+    /// The session quits.
+    Quit(u32),
+}
+
+// ---- words
+
+// The value of the digits, if it is below the bound.
+#[tactic(auto, using(crate::proofs::Digits::too_large))]
+fn wide_digits(word: &[u8]) -> Option<u64>
+    ensures { result ≡ below 18446744073709551616 (digits_from 0 word.now) }
+{
+    let mut value: u128 = 0;
+    let mut left = word;
+    while let [c, rest @ ..] = left {
+        if !(b'0' <= *c && *c <= b'9') {
+            return None;
+        }
+        value = 10 * value + u128::from(*c - b'0');
+        if value >= 18_446_744_073_709_551_616 {
+            return None;
+        }
+        left = rest;
+    }
+    Some(value as u64)
+}
+
+// The number below 2^64 that the word spells.
+fn wide_number(word: &[u8]) -> Option<u64>
+    ensures { result ≡ number_in 18446744073709551616 word.now }
+{
+    match word {
+        [] => None,
+        [first, _, ..] if *first == b'0' => None,
+        _ => wide_digits(word),
+    }
+}
+
+fn is_within(least: u32, most: u32, n: u32) -> bool
+    ensures { result ≡ within least most n }
+{
+    least <= n && n <= most
+}
+
+fn session_of(word: &[u8]) -> Option<u32>
+    ensures { result ≡ session_of word.now }
+{
+    who_of(word)
+}
+
+fn turns_of(word: &[u8]) -> Option<u32>
+    ensures { result ≡ turns_of word.now }
+{
+    count_of(word, 1_000_001)
+}
+
+// A number of bytes, or None for `all`.
+fn room_of(word: &[u8]) -> Option<Option<u64>>
+    ensures { result ≡ room_of word.now }
+{
+    if word == b"all".as_slice() {
+        return Some(None);
+    }
+    let left = wide_number(word)?;
+    Some(Some(left))
+}
+
+fn is_name_byte(b: u8) -> bool
+    ensures { result ≡ is_name_byte b }
+{
+    matches!(b, b'A'..=b'Z' | b'a'..=b'z' | b'0'..=b'9' | b'.' | b'_' | b'-')
+}
+
+fn are_name_bytes(word: &[u8]) -> bool
+    ensures { result ≡ list_all is_name_byte word.now }
+{
+    word.iter().all(|b| is_name_byte(*b))
+}
+
+fn is_name_length(length: usize) -> bool
+    ensures { result ≡ within 1 64 length }
+{
+    1 <= length && length <= 64
+}
+
+fn name_of(word: &[u8]) -> Option<&[u8]>
+    ensures { option_copied result ≡ name_of word.now }
+{
+    if is_name_length(word.len()) && are_name_bytes(word) {
+        Some(word)
+    } else {
+        None
+    }
+}
+
+fn is_hex_byte(b: u8) -> bool
+    ensures { result ≡ is_hex_byte b }
+{
+    matches!(b, b'0'..=b'9' | b'a'..=b'f')
+}
+
+fn are_hex_bytes(word: &[u8]) -> bool
+    ensures { result ≡ list_all is_hex_byte word.now }
+{
+    word.iter().all(|b| is_hex_byte(*b))
+}
+
+fn is_hex(word: &[u8]) -> bool
+    ensures { result ≡ is_hex word.now }
+{
+    word.len() >= 2 && word.len() % 2 == 0 && are_hex_bytes(word)
+}
+
+fn digit(b: u8) -> u8
+    ensures value { result ≡ digit b }
+    ensures small { result ≤ 15 }
+{
+    match b {
+        b'a'..=b'f' => b - 87,
+        b'0'..=b'9' => b - b'0',
+        _ => 0,
+    }
+}
+
+// The byte of each two digits.
+fn pairs(alloc: Global, word: &[u8]) -> Result<Vec<u8>, OutOfMemory>
+    ensures { IfOk result (λ bytes. bytes.items ≡ pairs word.now) }
+{
+    let mut bytes = Vec::new(alloc);
+    let mut left = word;
+    while let [high, low, rest @ ..] = left {
+        bytes.push(16 * digit(*high) + digit(*low))?;
+        left = rest;
+    }
+    Ok(bytes)
+}
+
+// ---- lines
+
+// M R N P W
+fn limits_line(words: Option<&[u8]>) -> Option<ReplayLine>
+    ensures { result ≡ limits_line (option_copied words.entry) }
+{
+    let (message, rest) = first_word(words?);
+    let message = message_of(message)?;
+    let (bytes, rest) = first_word(rest?);
+    let bytes = number(bytes, 268_435_457)?;
+    let (items, rest) = first_word(rest?);
+    let items = count_of(items, 65_537)?;
+    let (players, rest) = first_word(rest?);
+    let players = count_of(players, 257)?;
+    let (window, rest) = first_word(rest?);
+    let window = window_of(window)?;
+    match rest {
+        Some(_) => None,
+        None => Some(ReplayLine::Limits {
+            message,
+            bytes: u64::from(bytes),
+            items,
+            players,
+            window,
+        }),
+    }
+}
+
+fn message_of(word: &[u8]) -> Option<u32>
+    ensures { result ≡ message_of word.now }
+{
+    let n = number(word, 4_194_305)?;
+    if n < 4_096 { None } else { Some(n) }
+}
+
+fn window_of(word: &[u8]) -> Option<u32>
+    ensures { result ≡ window_of word.now }
+{
+    let n = number(word, 1 << 31)?;
+    if n < 1_000 { None } else { Some(n) }
+}
+
+// APP NAME
+fn stream_line(alloc: Global, words: Option<&[u8]>) -> Result<ReplayLine, LineFail>
+    ensures says { IfOk result (λ l. stream_line (option_copied words.entry) ≡ Some l) }
+    ensures outside { (result ≡ Err LineFail.Outside) ↔ (stream_line (option_copied words.entry) ≡ None) }
+{
+    let Some(named) = read_stream(words) else {
+        return Err(LineFail::Outside);
+    };
+    match stream(alloc, named.app, named.name) {
+        Ok(line) => Ok(line),
+        Err(_) => Err(LineFail::OutOfMemory),
+    }
+}
+
+// A named stream, before its names are copied.
+#[derive(Clone, Copy)]
+struct Named<'a> {
+    app: &'a [u8],
+    name: &'a [u8],
+}
+
+fn read_stream(words: Option<&[u8]>) -> Option<Named<'_>>
+    ensures { stream_line (option_copied words.entry) ≡ option_map (λ n. Stream n.app.now n.name.now) result }
+{
+    let (app, rest) = first_word(words?);
+    let app = name_of(app)?;
+    let (name, rest) = first_word(rest?);
+    let name = name_of(name)?;
+    match rest {
+        Some(_) => None,
+        None => Some(Named { app, name }),
+    }
+}
+
+fn stream(alloc: Global, app: &[u8], name: &[u8]) -> Result<ReplayLine, OutOfMemory>
+    ensures { IfOk result (λ line. line ≡ Stream app.now name.now) }
+{
+    Ok(ReplayLine::Stream {
+        app: Bytes::from_vec(Vec::from_slice(alloc, app)?),
+        name: Bytes::from_vec(Vec::from_slice(alloc, name)?),
+    })
+}
+
+// S HEX
+fn piece_line(alloc: Global, words: Option<&[u8]>) -> Result<ReplayLine, LineFail>
+    ensures says { IfOk result (λ l. piece_line (option_copied words.entry) ≡ Some l) }
+    ensures outside { (result ≡ Err LineFail.Outside) ↔ (piece_line (option_copied words.entry) ≡ None) }
+{
+    let Some(given) = read_piece(words) else {
+        return Err(LineFail::Outside);
+    };
+    match piece(alloc, given.session, given.digits) {
+        Ok(line) => Ok(line),
+        Err(_) => Err(LineFail::OutOfMemory),
+    }
+}
+
+// A piece, before its digits are read.
+#[derive(Clone, Copy)]
+struct Given<'a> {
+    session: u32,
+    digits: &'a [u8],
+}
+
+fn read_piece(words: Option<&[u8]>) -> Option<Given<'_>>
+    ensures { piece_line (option_copied words.entry) ≡ option_map (λ g. Piece g.session (pairs g.digits.now)) result }
+{
+    let (session, rest) = first_word(words?);
+    let session = session_of(session)?;
+    let (digits, rest) = first_word(rest?);
+    if !is_hex(digits) {
+        return None;
+    }
+    match rest {
+        Some(_) => None,
+        None => Some(Given { session, digits }),
+    }
+}
+
+fn piece(alloc: Global, session: u32, digits: &[u8]) -> Result<ReplayLine, OutOfMemory>
+    ensures { IfOk result (λ line. line ≡ Piece session (pairs digits.now)) }
+{
+    Ok(ReplayLine::Piece {
+        session,
+        bytes: Bytes::from_vec(pairs(alloc, digits)?),
+    })
+}
+
+// S N, or S `all`
+fn room_line(words: Option<&[u8]>) -> Option<ReplayLine>
+    ensures { result ≡ room_line (option_copied words.entry) }
+{
+    let (session, rest) = first_word(words?);
+    let session = session_of(session)?;
+    let (left, rest) = first_word(rest?);
+    let left = room_of(left)?;
+    match rest {
+        Some(_) => None,
+        None => Some(ReplayLine::Room { session, left }),
+    }
+}
+
+// S K
+fn turn_line(words: Option<&[u8]>) -> Option<ReplayLine>
+    ensures { result ≡ turn_line (option_copied words.entry) }
+{
+    let (session, rest) = first_word(words?);
+    let session = session_of(session)?;
+    let (count, rest) = first_word(rest?);
+    let count = turns_of(count)?;
+    match rest {
+        Some(_) => None,
+        None => Some(ReplayLine::Turn { session, count }),
+    }
+}
+
+// K
+fn all_line(words: Option<&[u8]>) -> Option<ReplayLine>
+    ensures { result ≡ all_line (option_copied words.entry) }
+{
+    let (count, rest) = first_word(words?);
+    let count = turns_of(count)?;
+    match rest {
+        Some(_) => None,
+        None => Some(ReplayLine::All(count)),
+    }
+}
+
+// S
+fn one_session(words: Option<&[u8]>) -> Option<u32>
+    ensures { (says : ℕ → Line) → session_line says (option_copied words.entry) ≡ option_map says result }
+{
+    let (session, rest) = first_word(words?);
+    let session = session_of(session)?;
+    match rest {
+        Some(_) => None,
+        None => Some(session),
+    }
+}
+
+fn open_line(words: Option<&[u8]>) -> Option<ReplayLine>
+    ensures { result ≡ last (option_copied words.entry) Session }
+{
+    match words {
+        Some(_) => None,
+        None => Some(ReplayLine::Session),
+    }
+}
+
+// A line that takes no memory.
+fn plain_line(word: &[u8], rest: Option<&[u8]>) -> Option<ReplayLine>
+    ensures { result ≡ plain_line word.now (option_copied rest.entry) }
+{
+    if word == b"limits".as_slice() {
+        limits_line(rest)
+    } else if word == b"open".as_slice() {
+        open_line(rest)
+    } else if word == b"eof".as_slice() {
+        Some(ReplayLine::Eof(one_session(rest)?))
+    } else if word == b"room".as_slice() {
+        room_line(rest)
+    } else if word == b"failrecv".as_slice() {
+        Some(ReplayLine::FailRecv(one_session(rest)?))
+    } else if word == b"failsend".as_slice() {
+        Some(ReplayLine::FailSend(one_session(rest)?))
+    } else if word == b"turn".as_slice() {
+        turn_line(rest)
+    } else if word == b"all".as_slice() {
+        all_line(rest)
+    } else if word == b"quit".as_slice() {
+        Some(ReplayLine::Quit(one_session(rest)?))
+    } else {
+        None
+    }
+}
+
+// A line that begins with that word.
+fn worded_line(alloc: Global, word: &[u8], rest: Option<&[u8]>) -> Result<ReplayLine, LineFail>
+    ensures says { IfOk result (λ l. worded_line word.now (option_copied rest.entry) ≡ Some l) }
+    ensures outside { (result ≡ Err LineFail.Outside) ↔ (worded_line word.now (option_copied rest.entry) ≡ None) }
+    ensures memory { result ≡ Err LineFail.OutOfMemory → takes_memory word.now ≡ true }
+{
+    if word == b"stream".as_slice() {
+        return stream_line(alloc, rest);
+    }
+    if word == b"in".as_slice() {
+        return piece_line(alloc, rest);
+    }
+    plain_line(word, rest).ok_or(LineFail::Outside)
+}
+
+/// What a line of a replay's script says, its LF left out.
+///
+/// The answer is `Outside` exactly where the line has none of the forms of a line, or has more than
+/// 65,536 bytes. A line that begins with `#` is a comment. The other forms, with one space between two words, are
+/// `limits M R N P W`, `stream APP NAME`, `open`, `in S HEX`, `eof S`, `room S N`, `room S all`, `failrecv S`,
+/// `failsend S`, `turn S K`, `all K` and `quit S`.
+///
+/// M is 4,096 to 4,194,304, R at most 268,435,456, N in `limits` 1 to 65,536, P 1 to 256, and W 1,000 to 2^31 - 1.
+/// APP and NAME are 1 to 64 letters, digits, `.`, `_` or `-`. S is below 2^32, N in `room` below 2^64, and K is 1 to
+/// 1,000,000. HEX is an even number of lower-case hexadecimal digits, at least two. Numbers are decimal, without a sign
+/// or a leading zero. Where in a script a line may stand, and whether what it names is there, is no matter here.
+///
+/// `OutOfMemory` comes only at `stream` and `in`.
+pub fn replay_line(alloc: Global, line: &[u8]) -> Result<ReplayLine, LineFail>
+    ensures says { IfOk result (λ l. meaning line.now ≡ Some l) }
+    ensures outside { (result ≡ Err LineFail.Outside) ↔ (meaning line.now ≡ None) }
+    ensures memory { result ≡ Err LineFail.OutOfMemory → takes_memory (first_word line.now).word ≡ true }
+{
+    if line.len() > 65536 {
+        return Err(LineFail::Outside);
+    }
+    match line {
+        [] => Ok(ReplayLine::Nothing),
+        [b'#', ..] => Ok(ReplayLine::Nothing),
+        _ => {
+            let (word, rest) = first_word(line);
+            worded_line(alloc, word, rest)
+        }
+    }
+}
