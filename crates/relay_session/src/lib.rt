@@ -8,6 +8,9 @@ mod core_fields;
 mod desk;
 mod end;
 mod outgoing;
+mod seat;
+mod seat_answers;
+mod seat_law;
 mod steps;
 mod unit_in_hand;
 
@@ -15,4 +18,7 @@ pub use core_fields::Core;
 pub use desk::Desk;
 pub use end::End;
 pub use outgoing::Outgoing;
+pub use seat::Seat;
+pub use seat_answers::{Active, Leaving, Made};
+pub use seat_law::own_calls_law;
 pub use steps::{chunk_piece, hand_piece, hear_reply, note_sent};

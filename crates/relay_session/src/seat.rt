@@ -1,0 +1,338 @@
+ghost use Rattle.std.specs.Prelude.{◌≡◌, ◌≢◌, ◌<◌, ◌≤◌, ℕ, [], length, None, Some};
+ghost use Rattle.relay_session.specs.declared.seat_answers.Active.TheVariants.{Nothing};
+ghost use Rattle.relay_session.specs.SeatVisits.{calls_of};
+ghost use Rattle.relay_session.specs.SeatState.{CanCome, GoOn, HasFit, IsElsewhere, SeatState, StandsAt, active_at, known, left_at, place_of, stays};
+ghost use Rattle.relay_session.specs.SeatState.{Calls, Fails, FinishFails, Finishes, IsNoted, LeaveFails, LeavesFrom, Makes};
+ghost use Rattle.relay_session.specs.SeatState.{active_after, active_then, is_over, last_of};
+
+use crate::{Active, Leaving, Made};
+use past::{History, Pair};
+use std::marker::Model;
+use std::snapshot::Snapshot;
+use stream_model::{Call, Entry, Reply};
+use stream_registry::{PortFail, StreamPort};
+
+/// Where a session stands at the streams: it has a pass at one place at a time. Its calls at all places are known, and are of
+/// no bytes.
+#[derive(Drop)]
+pub struct Seat<P: StreamPort> {
+    spot: Option<(u32, P::Pass)>,
+    active: Active,
+    visits: History<Pair<u32, Pair<Entry, Reply>>>,
+}
+
+impl<P: StreamPort> Model for Seat<P> {
+    ghost use Rattle.relay_session.specs.SeatState.{SeatState};
+
+    ghost Value = { SeatState P.Pass };
+
+    ghost view = { λ s. record { spot = s.spot; active = s.active; visits = s.visits } };
+}
+
+// What is granted after a reply.
+fn active_by(reply: &Reply, active: Active) -> Active
+    ensures { result ≡ active_after reply.now active }
+{
+    match reply {
+        Reply::Began { .. } => Active::Publishes,
+        Reply::Joined { player, .. } => Active::Plays { player: *player },
+        Reply::InUse { .. } | Reply::Full | Reply::Ended { .. } | Reply::Left { .. } => {
+            Active::Nothing
+        }
+        Reply::Pushed { .. }
+        | Reply::NotPublisher { .. }
+        | Reply::NotPlayer
+        | Reply::Sent { .. }
+        | Reply::Skip { .. }
+        | Reply::NotYet { .. }
+        | Reply::Counts { .. } => active,
+    }
+}
+
+// Whether there is nothing more to do after a reply.
+fn over(reply: &Reply) -> bool
+    ensures { result ≡ is_over reply.now }
+{
+    match reply {
+        Reply::InUse { .. } | Reply::Full | Reply::Ended { .. } | Reply::Left { .. } => true,
+        Reply::Began { .. }
+        | Reply::Joined { .. }
+        | Reply::Pushed { .. }
+        | Reply::NotPublisher { .. }
+        | Reply::NotPlayer
+        | Reply::Sent { .. }
+        | Reply::Skip { .. }
+        | Reply::NotYet { .. }
+        | Reply::Counts { .. } => false,
+    }
+}
+
+// The call that ends what was granted.
+fn last(active: Active) -> Option<Call>
+    ensures { result ≡ last_of active }
+{
+    match active {
+        Active::Nothing => None,
+        Active::Publishes => Some(Call::End),
+        Active::Plays { player } => Some(Call::Leave { player }),
+    }
+}
+
+impl<P: StreamPort> Seat<P> {
+    /// It is nowhere, and has made no call.
+    pub fn new() -> Seat<P>
+        ensures { result ≡ record { spot = None; active = Nothing; visits = [] } }
+    {
+        Seat {
+            spot: None,
+            active: Active::Nothing,
+            visits: History::new(),
+        }
+    }
+
+    /// The place where it has a pass.
+    pub fn place(&self) -> Option<u32>
+        ensures { result ≡ place_of self.now.spot }
+    {
+        match &self.spot {
+            None => None,
+            Some((place, _)) => Some(*place),
+        }
+    }
+
+    /// What it was granted there.
+    pub fn active(&self) -> Active
+        ensures { result ≡ self.now.active }
+    {
+        self.active
+    }
+
+    // Leaves the place where it is.
+    fn rise(&mut self, port: &mut P)
+        requires { HasFit (P.fits port.old) self.old.spot }
+        ensures spot { self.new.spot ≡ None }
+        ensures active { self.new.active ≡ Nothing }
+        ensures visits { self.new.visits ≡ self.old.visits }
+        ensures knows { GoOn (known P.root P.seen port.old self.old) (known P.root P.seen port.new self.new) }
+        ensures stands { StandsAt P.rules P.root P.seen port.old self.old → StandsAt P.rules P.root P.seen port.new self.new }
+        ensures roots { GoOn (P.root port.old) (P.root port.new) }
+        ensures others { (q : ℕ) → IsElsewhere self.old.spot q → P.root port.new q ≡ P.root port.old q }
+        ensures fixed { (P.rules port.new ≡ P.rules port.old) × (P.busies port.new ≡ P.busies port.old) }
+        ensures passes { (q : ℕ) (p : P.Pass) → P.fits port.old q p → P.fits port.new q p }
+    {
+        self.active = Active::Nothing;
+        match self.spot.take() {
+            None => {
+                return;
+            }
+            Some((place, pass)) => {
+                port.detach(place, pass);
+                return;
+            }
+        }
+    }
+
+    /// Comes to a place, from the one where it is.
+    fn enter(&mut self, port: &mut P, place: u32)
+        requires fit { HasFit (P.fits port.old) self.old.spot }
+        requires place { CanCome self.old.spot (length (P.rules port.old).names) place }
+        ensures fit { HasFit (P.fits port.new) self.new.spot }
+        ensures spot { place_of self.new.spot ≡ Some place }
+        ensures active { self.new.active ≡ active_at self.old.spot self.old.active place }
+        ensures visits { self.new.visits ≡ self.old.visits }
+        ensures same { known P.root P.seen port.new self.new place ≡ known P.root P.seen port.old self.old place }
+        ensures root { P.root port.new place ≡ P.root port.old place }
+        ensures knows { GoOn (known P.root P.seen port.old self.old) (known P.root P.seen port.new self.new) }
+        ensures stands { StandsAt P.rules P.root P.seen port.old self.old → StandsAt P.rules P.root P.seen port.new self.new }
+        ensures roots { GoOn (P.root port.old) (P.root port.new) }
+        ensures others { (q : ℕ) → IsElsewhere self.old.spot q → P.root port.new q ≡ P.root port.old q }
+        ensures fixed { (P.rules port.new ≡ P.rules port.old) × (P.busies port.new ≡ P.busies port.old) }
+        ensures passes { (q : ℕ) (p : P.Pass) → P.fits port.old q p → P.fits port.new q p }
+    {
+        if self.place() == Some(place) {
+            return;
+        }
+        self.rise(port);
+        self.spot = Some((place, port.attach(place)));
+    }
+
+    // One call at the place where it is.
+    fn ask(&mut self, port: &mut P, place: u32, entry: Entry) -> Made
+        requires fit { HasFit (P.fits port.old) self.old.spot }
+        requires spot { place_of self.old.spot ≡ Some place }
+        ensures fit { HasFit (P.fits port.new) self.new.spot }
+        ensures spot { place_of self.new.spot ≡ Some place }
+        ensures active { self.new.active ≡ active_then result self.old.active }
+        ensures makes { Makes place entry result self.old.visits self.new.visits }
+        ensures noted { IsNoted ((P.rules port.old).limits place) (P.root port.old place) (known P.root P.seen port.old self.old place)
+            entry result (known P.root P.seen port.new self.new place) }
+        ensures fails { Fails P.count (P.wants entry) (P.busies port.old) (P.busies port.new) result self.new.spot }
+        ensures knows { GoOn (known P.root P.seen port.old self.old) (known P.root P.seen port.new self.new) }
+        ensures stands { StandsAt P.rules P.root P.seen port.old self.old → StandsAt P.rules P.root P.seen port.new self.new }
+        ensures roots { GoOn (P.root port.old) (P.root port.new) }
+        ensures others { (q : ℕ) → q ≢ place → P.root port.new q ≡ P.root port.old q }
+        ensures fixed { P.rules port.new ≡ P.rules port.old }
+        ensures busies { P.busies port.old ≤ P.busies port.new }
+        ensures passes { (q : ℕ) (p : P.Pass) → P.fits port.old q p → P.fits port.new q p }
+    {
+        match &mut self.spot {
+            None => unreachable!(),
+            Some((_, pass)) => {
+                let asked = Snapshot::of(&entry);
+                match port.call(place, pass, entry) {
+                    Ok(reply) => {
+                        self.active = active_by(&reply, self.active);
+                        let step = Pair::of(asked, &reply);
+                        self.visits.add(&Pair::of(Snapshot::of(&place), &step));
+                        Made::Answer(reply)
+                    }
+                    Err(PortFail::Busy(entry)) => Made::Busy(entry),
+                    Err(PortFail::Worn(entry)) => Made::Worn(entry),
+                    Err(PortFail::OutOfMemory(entry)) => Made::OutOfMemory(entry),
+                }
+            }
+        }
+    }
+
+    // The same, and it leaves the place where there is nothing more to do.
+    fn call(&mut self, port: &mut P, place: u32, entry: Entry) -> Made
+        requires fit { HasFit (P.fits port.old) self.old.spot }
+        requires spot { place_of self.old.spot ≡ Some place }
+        ensures fit { HasFit (P.fits port.new) self.new.spot }
+        ensures spot { place_of self.new.spot ≡ stays place result }
+        ensures active { self.new.active ≡ active_then result self.old.active }
+        ensures makes { Makes place entry result self.old.visits self.new.visits }
+        ensures noted { IsNoted ((P.rules port.old).limits place) (P.root port.old place) (known P.root P.seen port.old self.old place)
+            entry result (known P.root P.seen port.new self.new place) }
+        ensures fails { Fails P.count (P.wants entry) (P.busies port.old) (P.busies port.new) result self.new.spot }
+        ensures knows { GoOn (known P.root P.seen port.old self.old) (known P.root P.seen port.new self.new) }
+        ensures stands { StandsAt P.rules P.root P.seen port.old self.old → StandsAt P.rules P.root P.seen port.new self.new }
+        ensures roots { GoOn (P.root port.old) (P.root port.new) }
+        ensures others { (q : ℕ) → q ≢ place → P.root port.new q ≡ P.root port.old q }
+        ensures fixed { P.rules port.new ≡ P.rules port.old }
+        ensures busies { P.busies port.old ≤ P.busies port.new }
+        ensures passes { (q : ℕ) (p : P.Pass) → P.fits port.old q p → P.fits port.new q p }
+    {
+        match self.ask(port, place, entry) {
+            Made::Answer(reply) => {
+                if over(&reply) {
+                    self.rise(port);
+                    return Made::Answer(reply);
+                }
+                Made::Answer(reply)
+            }
+            Made::Busy(entry) => Made::Busy(entry),
+            Made::Worn(entry) => Made::Worn(entry),
+            Made::OutOfMemory(entry) => Made::OutOfMemory(entry),
+        }
+    }
+
+    /// Makes one call at a place. It comes to that place first, and leaves it where the reply is InUse, Full, Ended or Left. A
+    /// call that isn't made comes back, and the seat stays there: for another try, or for none.
+    pub fn make(&mut self, port: &mut P, place: u32, entry: Entry) -> Made
+        requires fit { HasFit (P.fits port.old) self.old.spot }
+        requires place { CanCome self.old.spot (length (P.rules port.old).names) place }
+        ensures fit { HasFit (P.fits port.new) self.new.spot }
+        ensures spot { place_of self.new.spot ≡ stays place result }
+        ensures active { self.new.active ≡ active_then result (active_at self.old.spot self.old.active place) }
+        ensures makes { Makes place entry result self.old.visits self.new.visits }
+        ensures calls { Calls entry result (calls_of self.old.visits) (calls_of self.new.visits) }
+        ensures noted { IsNoted ((P.rules port.old).limits place) (P.root port.old place) (known P.root P.seen port.old self.old place)
+            entry result (known P.root P.seen port.new self.new place) }
+        ensures fails { Fails P.count (P.wants entry) (P.busies port.old) (P.busies port.new) result self.new.spot }
+        ensures knows { GoOn (known P.root P.seen port.old self.old) (known P.root P.seen port.new self.new) }
+        ensures stands { StandsAt P.rules P.root P.seen port.old self.old → StandsAt P.rules P.root P.seen port.new self.new }
+        ensures roots { GoOn (P.root port.old) (P.root port.new) }
+        ensures others { (q : ℕ) → q ≢ place → IsElsewhere self.old.spot q → P.root port.new q ≡ P.root port.old q }
+        ensures fixed { P.rules port.new ≡ P.rules port.old }
+        ensures busies { P.busies port.old ≤ P.busies port.new }
+        ensures passes { (q : ℕ) (p : P.Pass) → P.fits port.old q p → P.fits port.new q p }
+    {
+        self.enter(port, place);
+        self.call(port, place, entry)
+    }
+
+    // Makes the call that ends what was granted, if anything was, and leaves.
+    fn finish(&mut self, port: &mut P, place: u32, who: u64, fed: u64) -> Leaving
+        requires fit { HasFit (P.fits port.old) self.old.spot }
+        requires spot { place_of self.old.spot ≡ Some place }
+        ensures fit { HasFit (P.fits port.new) self.new.spot }
+        ensures spot { place_of self.new.spot ≡ left_at result (place_of self.old.spot) }
+        ensures leaves { Finishes place who fed (last_of self.old.active) self.old.active self.old.visits result self.new.active self.new.visits }
+        ensures fails { FinishFails (P.fits port.new) P.count P.wants place who fed (P.busies port.old) (P.busies port.new) result }
+        ensures knows { GoOn (known P.root P.seen port.old self.old) (known P.root P.seen port.new self.new) }
+        ensures stands { StandsAt P.rules P.root P.seen port.old self.old → StandsAt P.rules P.root P.seen port.new self.new }
+        ensures roots { GoOn (P.root port.old) (P.root port.new) }
+        ensures others { (q : ℕ) → IsElsewhere self.old.spot q → P.root port.new q ≡ P.root port.old q }
+        ensures fixed { P.rules port.new ≡ P.rules port.old }
+        ensures busies { P.busies port.old ≤ P.busies port.new }
+        ensures passes { (q : ℕ) (p : P.Pass) → P.fits port.old q p → P.fits port.new q p }
+    {
+        let Some(call) = last(self.active) else {
+            self.rise(port);
+            return Leaving::Done;
+        };
+        match self.call(port, place, Entry { who, at: fed, call }) {
+            Made::Answer(_) => {
+                self.rise(port);
+                Leaving::Done
+            }
+            Made::Busy(_) => Leaving::Busy,
+            Made::OutOfMemory(_) => Leaving::OutOfMemory,
+            Made::Worn(_) => {
+                self.rise(port);
+                Leaving::Worn
+            }
+        }
+    }
+
+    /// Makes the kept call, if there is one, and then the End or Leave of what was granted, named `who` at `fed` bytes of input,
+    /// and leaves. Where the port is busy or has no memory it is still there, and the kept call is kept unless it was made. Where
+    /// the stream has had as many calls as it can count no further call is made, and it leaves.
+    pub fn leave(&mut self, port: &mut P, who: u64, fed: u64, kept: &mut Option<Entry>) -> Leaving
+        requires { HasFit (P.fits port.old) self.old.spot }
+        ensures fit { HasFit (P.fits port.new) self.new.spot }
+        ensures spot { place_of self.new.spot ≡ left_at result (place_of self.old.spot) }
+        ensures leaves { LeavesFrom (place_of self.old.spot) who fed kept.old self.old.active self.old.visits result kept.new self.new.active self.new.visits }
+        ensures fails { LeaveFails (P.fits port.new) P.count P.wants (place_of self.old.spot) who fed kept.old (P.busies port.old) (P.busies port.new) result }
+        ensures knows { GoOn (known P.root P.seen port.old self.old) (known P.root P.seen port.new self.new) }
+        ensures stands { StandsAt P.rules P.root P.seen port.old self.old → StandsAt P.rules P.root P.seen port.new self.new }
+        ensures roots { GoOn (P.root port.old) (P.root port.new) }
+        ensures others { (q : ℕ) → IsElsewhere self.old.spot q → P.root port.new q ≡ P.root port.old q }
+        ensures fixed { P.rules port.new ≡ P.rules port.old }
+        ensures busies { P.busies port.old ≤ P.busies port.new }
+        ensures passes { (q : ℕ) (p : P.Pass) → P.fits port.old q p → P.fits port.new q p }
+    {
+        let Some(place) = self.place() else {
+            return Leaving::Done;
+        };
+        match kept.take() {
+            None => self.finish(port, place, who, fed),
+            Some(entry) => match self.call(port, place, entry) {
+                Made::Answer(_) => match self.place() {
+                    None => Leaving::Done,
+                    Some(_) => self.finish(port, place, who, fed),
+                },
+                Made::Busy(entry) => {
+                    *kept = Some(entry);
+                    Leaving::Busy
+                }
+                Made::OutOfMemory(entry) => {
+                    *kept = Some(entry);
+                    Leaving::OutOfMemory
+                }
+                Made::Worn(entry) => {
+                    *kept = Some(entry);
+                    self.rise(port);
+                    Leaving::Worn
+                }
+            },
+        }
+    }
+
+    /// Where others have made calls at the same port, a seat stands as it stood.
+    pub fn others_law()
+        ensures { (x y : P) (s : SeatState P.Pass) → P.rules y ≡ P.rules x → GoOn (P.root x) (P.root y) → StandsAt P.rules P.root P.seen x s
+            → StandsAt P.rules P.root P.seen y s }
+    {}
+}
