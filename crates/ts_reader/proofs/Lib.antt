@@ -1,0 +1,5 @@
+pub mod Maps
+pub mod Units
+pub mod Standing
+pub mod Feeding
+pub mod Once

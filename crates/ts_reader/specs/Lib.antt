@@ -1,0 +1,11 @@
+pub mod Fields
+pub mod Times
+pub mod Sections
+pub mod Payloads
+pub mod Mux
+pub mod Steps
+pub mod Reads
+pub mod Known
+pub mod Feeds
+pub mod Sound
+pub mod Laws

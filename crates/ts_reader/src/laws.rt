@@ -1,0 +1,26 @@
+ghost use Rattle.std.specs.Prelude.{ℕ, ◌+◌, List, ◌++◌, take};
+ghost use Rattle.ts_reader.specs.declared.unit.TsUnit.{TsUnit};
+ghost use Rattle.ts_reader.specs.declared.fail.TsFail.{TsFail};
+ghost use Rattle.ts_reader.specs.Mux.{Mux};
+ghost use Rattle.ts_reader.specs.Reads.{Reads, Stops};
+ghost use Rattle.ts_reader.specs.Laws.{ReadsPart, SameReading, SameStop};
+
+/// Two readings of the same bytes are one, so the cutting into pieces can't matter.
+pub fn one_reading()
+    ensures { (b : List ℕ) (us vs : List TsUnit) (m n : Mux) (q r : List ℕ) → Reads b us m q → Reads b vs n r → SameReading us vs m n q r }
+{}
+
+/// The first bytes of what is read are read too, as the first of its units.
+pub fn beginnings_are_read()
+    ensures { (b : List ℕ) (n : ℕ) (us : List TsUnit) (m : Mux) (r : List ℕ) → Reads b us m r → ReadsPart b n us }
+{}
+
+/// Where a byte is refused, no list that begins with the bytes up to it and with it is read.
+pub fn refused_bytes_are_not_read()
+    ensures { (b more : List ℕ) (e : TsFail) (n : ℕ) (us vs : List TsUnit) (m : Mux) (r : List ℕ) → Stops b n us e → Reads (take (n + 1) b ++ more) vs m r → ⊥ }
+{}
+
+/// A list of bytes is refused at one byte and in one way.
+pub fn one_refusal()
+    ensures { (b : List ℕ) (c d : TsFail) (m n : ℕ) (us vs : List TsUnit) → Stops b m us c → Stops b n vs d → SameStop c d m n us vs }
+{}

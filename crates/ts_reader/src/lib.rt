@@ -1,0 +1,21 @@
+//! A transport stream (ISO/IEC 13818-1) read back into the pictures and sounds that it carries: the form that is written here,
+//! one program with at most one stream of AVC and one of AAC, whose PES packets don't interleave.
+#![tactic(auto)]
+
+mod fail;
+mod header;
+mod laws;
+mod packet;
+mod payload;
+mod reader;
+mod state;
+mod tables;
+mod unit;
+
+pub use fail::TsFail;
+pub use laws::{beginnings_are_read, one_reading, one_refusal, refused_bytes_are_not_read};
+pub use reader::{TsFed, TsReader};
+pub use unit::TsUnit;
+
+#[cfg(test)]
+mod tests;
