@@ -57,6 +57,11 @@ abbrev pub known_if : {Q : Type 0} → (Q → List Step) → Histories → Optio
 known_if seen root None q = root q
 known_if seen root (Some p) q = if nat_eq p.0 q then seen p.1 else root q
 
+-- the numbers of the calls that were made with its pass at a place
+abbrev pub numbers_at : {Q : Type 0} → (Q → List ℕ) → Option (ℕ × Q) → ℕ → List ℕ
+numbers_at mine None q = []
+numbers_at mine (Some p) q = if nat_eq p.0 q then mine p.1 else []
+
 -- ---- what it was granted
 
 -- after a reply
@@ -183,6 +188,18 @@ Fails count wants busies busies' (made.Answer r) spot' = Unit {0}
 Fails count wants busies busies' (made.Busy e) spot' = Rose busies busies'
 Fails count wants busies busies' (made.Worn e) spot' = HasCount count spot' (2 ^ 62)
 Fails count wants busies busies' (made.OutOfMemory e) spot' = wants
+
+-- its pass has made this call, and no other: one number has come, or none
+abbrev pub Once : Made → List ℕ → List ℕ → Type 0
+Once (made.Answer r) numbers numbers' = (n : ℕ) × (numbers' ≡ numbers ++ n ∷ [])
+Once (made.Busy e) numbers numbers' = numbers' ≡ numbers
+Once (made.Worn e) numbers numbers' = numbers' ≡ numbers
+Once (made.OutOfMemory e) numbers numbers' = numbers' ≡ numbers
+
+-- the same, where it still has the pass
+abbrev pub OnceIf : {Q : Type 0} → Made → (Q → List ℕ) → ℕ → List ℕ → Option (ℕ × Q) → Type 0
+OnceIf r mine place numbers None = Unit {0}
+OnceIf r mine place numbers (Some p) = Once r numbers (numbers_at mine (Some p) place)
 
 -- where it is then: it stays, unless it has nothing more to do there
 abbrev pub stays : ℕ → Made → Option ℕ

@@ -2,7 +2,7 @@ ghost use Rattle.std.specs.Prelude.{◌≡◌, ◌≢◌, ◌<◌, ◌≤◌, �
 ghost use Rattle.relay_session.specs.declared.seat_answers.Active.TheVariants.{Nothing};
 ghost use Rattle.relay_session.specs.SeatVisits.{calls_of};
 ghost use Rattle.relay_session.specs.SeatState.{CanCome, GoOn, HasFit, IsElsewhere, SeatState, StandsAt, active_at, known, left_at, place_of, stays};
-ghost use Rattle.relay_session.specs.SeatState.{Calls, Fails, FinishFails, Finishes, IsNoted, LeaveFails, LeavesFrom, Makes};
+ghost use Rattle.relay_session.specs.SeatState.{Calls, Fails, FinishFails, Finishes, IsNoted, LeaveFails, LeavesFrom, Makes, Once, OnceIf, numbers_at};
 ghost use Rattle.relay_session.specs.SeatState.{active_after, active_then, is_over, last_of};
 
 use crate::{Active, Leaving, Made};
@@ -141,6 +141,7 @@ impl<P: StreamPort> Seat<P> {
         ensures active { self.new.active ≡ active_at self.old.spot self.old.active place }
         ensures visits { self.new.visits ≡ self.old.visits }
         ensures same { known P.root P.seen port.new self.new place ≡ known P.root P.seen port.old self.old place }
+        ensures numbers { numbers_at P.mine self.new.spot place ≡ numbers_at P.mine self.old.spot place }
         ensures root { P.root port.new place ≡ P.root port.old place }
         ensures knows { GoOn (known P.root P.seen port.old self.old) (known P.root P.seen port.new self.new) }
         ensures stands { StandsAt P.rules P.root P.seen port.old self.old → StandsAt P.rules P.root P.seen port.new self.new }
@@ -164,6 +165,7 @@ impl<P: StreamPort> Seat<P> {
         ensures spot { place_of self.new.spot ≡ Some place }
         ensures active { self.new.active ≡ active_then result self.old.active }
         ensures makes { Makes place entry result self.old.visits self.new.visits }
+        ensures once { Once result (numbers_at P.mine self.old.spot place) (numbers_at P.mine self.new.spot place) }
         ensures noted { IsNoted ((P.rules port.old).limits place) (P.root port.old place) (known P.root P.seen port.old self.old place)
             entry result (known P.root P.seen port.new self.new place) }
         ensures fails { Fails P.count (P.wants entry) (P.busies port.old) (P.busies port.new) result self.new.spot }
@@ -202,6 +204,7 @@ impl<P: StreamPort> Seat<P> {
         ensures spot { place_of self.new.spot ≡ stays place result }
         ensures active { self.new.active ≡ active_then result self.old.active }
         ensures makes { Makes place entry result self.old.visits self.new.visits }
+        ensures once { OnceIf result P.mine place (numbers_at P.mine self.old.spot place) self.new.spot }
         ensures noted { IsNoted ((P.rules port.old).limits place) (P.root port.old place) (known P.root P.seen port.old self.old place)
             entry result (known P.root P.seen port.new self.new place) }
         ensures fails { Fails P.count (P.wants entry) (P.busies port.old) (P.busies port.new) result self.new.spot }
@@ -236,6 +239,7 @@ impl<P: StreamPort> Seat<P> {
         ensures spot { place_of self.new.spot ≡ stays place result }
         ensures active { self.new.active ≡ active_then result (active_at self.old.spot self.old.active place) }
         ensures makes { Makes place entry result self.old.visits self.new.visits }
+        ensures once { OnceIf result P.mine place (numbers_at P.mine self.old.spot place) self.new.spot }
         ensures calls { Calls entry result (calls_of self.old.visits) (calls_of self.new.visits) }
         ensures noted { IsNoted ((P.rules port.old).limits place) (P.root port.old place) (known P.root P.seen port.old self.old place)
             entry result (known P.root P.seen port.new self.new place) }
