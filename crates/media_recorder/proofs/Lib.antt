@@ -1,0 +1,7 @@
+pub mod Adding
+pub mod Standing
+pub mod Texts
+pub mod Parting
+pub mod Saying
+pub mod Viewing
+pub mod Tying

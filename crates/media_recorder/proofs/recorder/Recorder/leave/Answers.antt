@@ -1,0 +1,22 @@
+use Rattle.std.proofs.Common.{ap, ◌∙◌, Err}
+use Rattle.media_recorder.proofs.Parting.{gone_made, gone_worn}
+use Rattle.media_recorder.proofs.recorder.Recorder.leave.Goals as goal
+
+pub returns-in-Ok-clause-goes : goal.returns-in-Ok-clause-goes
+returns-in-Ok-clause-goes g c =
+    let P = g.P.StreamPort in
+    let i = c.self.inside in
+    let p = c.call.ensures.port in
+    rw (← c.self.view_is) (gone_made P.rules P.root P.seen P.mine P.busies P.count c.args.port.now c.call.new.port c.part-in-Ok.new.port
+    (record { seat = i.seat; player = i.player; tape = i.tape; end = i.end }) c.in-Some.player c.call.new.self c.call.result c.in-Ok.field-0 c.in-Ok.is
+    c.in-Some.is p.fixed p.here c.part-in-Ok.ensures.busies c.call.ensures.asks c.part-in-Ok.ensures.parts)
+
+pub returns-in-Err-Worn-clause-goes : goal.returns-in-Err-Worn-clause-goes
+returns-in-Err-Worn-clause-goes g c =
+    let P = g.P.StreamPort in
+    let i = c.self.inside in
+    let p = c.call.ensures.port in
+    rw (← c.self.view_is) (gone_worn P.rules P.root P.seen P.mine P.busies P.count c.args.port.now c.call.new.port c.part-in-Err-Worn.new.port
+    (record { seat = i.seat; player = i.player; tape = i.tape; end = i.end }) c.in-Some.player c.call.new.self c.call.result c.in-Err-Worn.field-0-0
+    (c.in-Err-Worn.is ∙ ap Err c.in-Err-Worn.field-0-is)
+    c.in-Some.is p.fixed p.here c.part-in-Err-Worn.ensures.busies c.call.ensures.asks c.part-in-Err-Worn.ensures.parts)

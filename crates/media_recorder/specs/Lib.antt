@@ -1,0 +1,12 @@
+pub mod Taken
+pub mod Mediums
+pub mod Flv
+pub mod Calls
+pub mod Ports
+pub mod Seats
+pub mod Tapes
+pub mod Recorders
+pub mod Turns
+pub mod Says
+pub mod Leaves
+pub mod Viewer

@@ -1,0 +1,20 @@
+//! Recorders: players that write what they take.
+//!
+//! A recorder joins a stream, takes its items as any player does, and writes them by a [`Medium`] to a sink. An
+//! [`FlvRecorder`] writes FLV.
+#![tactic(auto)]
+
+mod flv;
+mod laws;
+mod medium;
+mod pending;
+mod recorder;
+mod seat;
+mod tape;
+mod turn;
+
+pub use flv::{FlvMedium, FlvRecorder};
+pub use laws::{still_fits_law, viewer_law};
+pub use medium::Medium;
+pub use recorder::Recorder;
+pub use turn::{Leaving, RecEnd, RecTurn};

@@ -1,0 +1,73 @@
+ghost use Rattle.std.specs.Prelude.{◌≡◌, ◌≤◌, ◌++◌, [], length, drop, IfOk, OnOk, OnErr};
+ghost use Rattle.media_recorder.specs.Mediums.{Adds, Begun};
+
+use crate::medium::Medium;
+use av_unit::{Bytes, Item, OutOfMemory};
+use std::alloc::Global;
+use std::marker::Model;
+
+/// Bytes that a sink is yet to take.
+#[derive(Drop)]
+pub(crate) struct Pending {
+    bytes: Bytes,
+    from: usize,
+}
+
+impl Model for Pending {
+    ghost use Rattle.std.specs.Prelude.{List, ℕ, ◌≤◌, length, drop};
+
+    ghost Value = { List ℕ };
+
+    ghost view = { λ p. drop p.from p.bytes };
+
+    ghost invariant = { λ p. p.from ≤ length p.bytes };
+}
+
+impl Pending {
+    /// The bytes of a `Bytes`.
+    pub(crate) fn of(bytes: Bytes) -> Pending
+        ensures { result ≡ bytes }
+    {
+        Pending { bytes, from: 0 }
+    }
+
+    /// How many there are.
+    pub(crate) fn len(&self) -> usize
+        ensures { result ≡ length self.now }
+    {
+        self.bytes.len() - self.from
+    }
+
+    /// The bytes.
+    pub(crate) fn as_slice(&self) -> &[u8]
+        ensures { result.now ≡ self.now }
+    {
+        let from = self.from;
+        &self.bytes.as_slice()[from..]
+    }
+
+    /// The first of them were taken. Where all were, their memory serves what comes next.
+    pub(crate) fn took(&mut self, count: usize)
+        requires { count ≤ length self.old }
+        ensures { self.new ≡ drop count self.old }
+    {
+        let len = self.bytes.len();
+        self.from += count;
+        if self.from == len {
+            self.bytes.truncate(0);
+            self.from = 0;
+        }
+    }
+
+    /// Appends an item by its medium. A refusal appends nothing.
+    pub(crate) fn write<M: Medium>(
+        &mut self,
+        medium: &mut M,
+        item: &Item,
+    ) -> Result<(), OutOfMemory>
+        ensures ok { OnOk result (Adds M.text (M.written medium.old) item.now (M.written medium.new) self.old self.new (M.kept medium.new)) }
+        ensures err { OnErr result ((M.written medium.new ≡ M.written medium.old) × (self.new ≡ self.old) × (M.kept medium.new ≤ M.kept medium.old)) }
+    {
+        medium.write(item, &mut self.bytes)
+    }
+}

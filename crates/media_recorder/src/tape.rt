@@ -1,0 +1,91 @@
+ghost use Rattle.std.specs.Prelude.{◌≡◌, ◌≤◌, ◌*◌, ◌+◌, ◌++◌, ◌∷◌, ℕ, [], length, take, drop, IfOk, OnOk, OnErr};
+ghost use Rattle.media_recorder.specs.Mediums.{AreWithin, most_held};
+ghost use Rattle.media_recorder.specs.Turns.{is_empty, sent_more, Writes, Unwritten};
+
+use crate::medium::Medium;
+use crate::pending::Pending;
+use av_unit::{Bytes, Item, OutOfMemory};
+use past::Flow;
+use std::alloc::Global;
+use std::marker::Model;
+
+/// Items on their way to a sink: what a medium makes of them, of which the sink took the first bytes.
+#[derive(Drop)]
+pub struct Tape<M: Medium> {
+    medium: M,
+    pending: Pending,
+    sent: Flow<u8>,
+}
+
+impl<M: Medium> Model for Tape<M> {
+    ghost use Rattle.media_recorder.specs.Tapes.{TapeState, IsTape};
+
+    ghost Value = { TapeState };
+
+    ghost view = { λ t. record { items = M.written t.medium; sent = t.sent; pending = t.pending; kept = M.kept t.medium } };
+
+    ghost invariant = { λ t. IsTape M.text (M.written t.medium) t.sent t.pending (M.kept t.medium) };
+}
+
+impl<M: Medium> Tape<M> {
+    /// The text of no items, of which nothing was sent.
+    pub(crate) fn new(alloc: Global) -> Result<Tape<M>, OutOfMemory>
+        ensures { IfOk result (λ t. (t.items ≡ []) × (t.sent ≡ []) × (t.pending ≡ M.text [])) }
+    {
+        let mut bytes = Bytes::new(alloc);
+        let medium = M::begin(alloc, &mut bytes)?;
+        Ok(Tape {
+            medium,
+            pending: Pending::of(bytes),
+            sent: Flow::new(),
+        })
+    }
+
+    /// What it keeps.
+    pub(crate) fn law(&self)
+        ensures text { self.now.sent ++ self.now.pending ≡ M.text self.now.items }
+        ensures room { (m : ℕ) → AreWithin m self.now.items → length self.now.pending + self.now.kept ≤ most_held m }
+    {
+        let _ = &self.pending;
+    }
+
+    /// The bytes that the sink is yet to take.
+    pub(crate) fn pending(&self) -> &[u8]
+        ensures { result.now ≡ self.now.pending }
+    {
+        self.pending.as_slice()
+    }
+
+    /// Whether the sink took all.
+    pub(crate) fn is_drained(&self) -> bool
+        ensures { result ≡ is_empty self.now.pending }
+    {
+        matches!(self.pending.as_slice(), [])
+    }
+
+    /// The sink took so many bytes.
+    pub(crate) fn took(&mut self, count: usize)
+        requires { count ≤ length self.old.pending }
+        ensures { self.new ≡ sent_more self.old count }
+    {
+        self.sent.add_all(&self.pending.as_slice()[..count]);
+        self.pending.took(count);
+    }
+
+    /// Writes an item where nothing is pending.
+    pub(crate) fn write(&mut self, item: &Item) -> Result<(), OutOfMemory>
+        requires { self.old.pending ≡ [] }
+        ensures ok { OnOk result (Writes self.old item.now self.new) }
+        ensures err { OnErr result (Unwritten self.old self.new) }
+    {
+        self.pending.write(&mut self.medium, item)
+    }
+
+    /// How many bytes are pending or kept by the medium.
+    pub(crate) fn held(&self) -> u64
+        ensures sum { result ≡ length self.now.pending + self.now.kept }
+        ensures most { (m : ℕ) → AreWithin m self.now.items → result ≤ most_held m }
+    {
+        self.pending.len() as u64 + self.medium.held()
+    }
+}

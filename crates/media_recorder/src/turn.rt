@@ -1,0 +1,36 @@
+/// What a recorder's turn did.
+#[derive(Clone, Copy, Debug, PartialEq, Eq)]
+pub enum RecTurn {
+    /// The sink took bytes, or a call was made.
+    Moved,
+    /// The stream has nothing for the recorder yet.
+    Idle,
+    /// The port was busy.
+    Busy,
+    /// The recorder has ended, and does nothing more.
+    Ended(RecEnd),
+}
+
+/// Why a recorder has ended.
+#[derive(Clone, Copy, Debug, PartialEq, Eq)]
+pub enum RecEnd {
+    /// A put failed.
+    SinkFault,
+    /// All places for players were taken.
+    Full,
+    /// The stream's history is full.
+    Worn,
+    /// There was no memory.
+    OutOfMemory,
+}
+
+/// What became of a recorder that was to leave.
+#[derive(Drop)]
+pub enum Leaving<R: Drop> {
+    /// It has left.
+    Done,
+    /// The port was busy. The recorder comes back.
+    Busy(R),
+    /// There was no memory for the call. The recorder comes back.
+    OutOfMemory(R),
+}
