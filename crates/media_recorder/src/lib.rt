@@ -18,3 +18,6 @@ pub use laws::{still_fits_law, viewer_law};
 pub use medium::Medium;
 pub use recorder::Recorder;
 pub use turn::{Leaving, RecEnd, RecTurn};
+
+#[cfg(test)]
+mod tests;
