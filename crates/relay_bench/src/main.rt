@@ -5,6 +5,7 @@ mod chunks;
 mod flv;
 mod gate;
 mod rates;
+mod stream;
 mod writing;
 
 use std::{env, io};
@@ -22,6 +23,9 @@ fn main(rt: HostRuntime) -> io::Result<()> {
         }
         if word.as_str() == "flv" {
             flv::measure(&rt, rt.alloc())?;
+        }
+        if word.as_str() == "stream" {
+            stream::measure(&rt, rt.alloc())?;
         }
     }
     Ok(())
