@@ -1,5 +1,5 @@
 -- What the answer of a turn says follows from what the turn did
-use Rattle.std.proofs.Common.{◌≡◌, ℕ, ◌≤◌, Bool, true, false, List, [], ◌∷◌, ◌++◌, length, Option, Some, None, refl, sym, ap, ◌∙◌, subst, arith, length-append}
+use Rattle.std.proofs.Common.{◌≡◌, ℕ, ◌≤◌, Bool, true, false, List, [], ◌∷◌, ◌++◌, length, Option, Some, None, refl, sym, ap, ◌∙◌, subst}
 use Rattle.std.specs.declared.result.Result.{Result}
 use Rattle.std.specs.declared.result.Result.TheVariants.{Ok, Err}
 use Rattle.relay_outside.specs.declared.sink.Put.{Put}
@@ -7,11 +7,9 @@ use Rattle.relay_outside.specs.declared.sink.Put.TheVariants as put
 use Rattle.av_unit.specs.declared.item.Item.{Item}
 use Rattle.stream_model.specs.declared.calls.StreamLimits.{StreamLimits}
 use Rattle.stream_model.specs.declared.calls.Entry.{Entry}
-use Rattle.stream_model.specs.declared.calls.Call.{Call}
 use Rattle.stream_model.specs.declared.calls.Call.TheVariants as call
 use Rattle.stream_model.specs.declared.replies.Reply.{Reply}
 use Rattle.stream_model.specs.declared.replies.Reply.TheVariants as reply
-use Rattle.turn_gate.specs.Histories.{Begins}
 use Rattle.stream_registry.specs.declared.port.PortFail.{PortFail}
 use Rattle.stream_registry.specs.declared.port.PortFail.TheVariants as fail
 use Rattle.stream_registry.specs.Names.{PortRules}
@@ -22,7 +20,7 @@ use Rattle.media_recorder.specs.declared.turn.RecTurn.TheVariants.{Moved, Idle, 
 use Rattle.media_recorder.specs.Ports.{mine_of}
 use Rattle.media_recorder.specs.Seats.{SeatState, Asks, AskedIf, entry_of}
 use Rattle.media_recorder.specs.Tapes.{TapeState}
-use Rattle.media_recorder.specs.Turns.{RecorderState, all, is_empty, GoesOn, Stops, PutEnds, Unmade, Joins, JoinEnds, Writing, Takes, TakeEnds, Puts, JoinsAt, TakesAt, Calls, Works}
+use Rattle.media_recorder.specs.Turns.{RecorderState, all, is_empty, GoesOn, Stops, PutEnds, Unmade, Joins, JoinEnds, Writing, Takes, TakeEnds, Calls, Works}
 use Rattle.media_recorder.specs.Says.{Rests, Says}
 use Rattle.media_recorder.proofs.Standing.{begins_length}
 

@@ -1,12 +1,10 @@
 -- Calls that stand in a history, as it grows
 use Rattle.std.proofs.Common.{◌≡◌, ℕ, ◌+◌, ◌<◌, ◌≤◌, List, [], ◌∷◌, ◌++◌, length, refl, sym, ap, ◌∙◌, subst, arith, length-append, append_assoc, Option, Some, None, slice_get}
-use Rattle.std.specs.Prelude.{map, reverse, zero, suc}
-use Rattle.std.specs.List.{All}
+use Rattle.std.specs.Prelude.{map, zero, suc}
 use Rattle.std.proofs.lemmas.List.{append-nil, map-append}
 use Rattle.std.proofs.lemmas.List.Elements.{All-push}
 use Rattle.std.proofs.lemmas.Option.{slice_get_within}
 use Rattle.stream_model.specs.declared.calls.StreamLimits.{StreamLimits}
-use Rattle.stream_model.specs.Legal.{Legal}
 use Rattle.turn_gate.specs.Histories.{Begins}
 use Rattle.stream_registry.specs.Told.{Step, Keeps}
 use Rattle.stream_registry.specs.Placed.{Placed}

@@ -1,5 +1,5 @@
 -- What the sink took stays what it holds
-use Rattle.std.proofs.Common.{◌≡◌, ℕ, ◌<◌, Bool, true, false, List, [], ◌∷◌, ◌++◌, length, Option, Some, None, refl, sym, ap, ◌∙◌, subst, arith}
+use Rattle.std.proofs.Common.{◌≡◌, ℕ, ◌<◌, Bool, true, false, List, [], ◌∷◌, length, Option, Some, None, sym, ap, ◌∙◌, arith}
 use Rattle.std.specs.Prelude.{take}
 use Rattle.std.specs.Io.KnownBytes.{append_known}
 use Rattle.std.specs.declared.result.Result.{Result}
@@ -17,7 +17,7 @@ use Rattle.media_recorder.specs.declared.turn.RecEnd.{RecEnd}
 use Rattle.media_recorder.specs.declared.turn.RecTurn.{RecTurn}
 use Rattle.media_recorder.specs.declared.turn.RecTurn.TheVariants.{Moved, Idle, Busy, Ended}
 use Rattle.media_recorder.specs.Tapes.{TapeState}
-use Rattle.media_recorder.specs.Turns.{RecorderState, is_empty, sent_more, PutEnds, Writing, Takes, TakeEnds, Calls, Works}
+use Rattle.media_recorder.specs.Turns.{RecorderState, is_empty, PutEnds, Writing, Takes, TakeEnds, Calls, Works}
 
 put_ties : (answer : Put) (t : TapeState) (turn : RecTurn) (t' : TapeState) (end' : Option RecEnd) (holds holds' : Option (List ℕ)) → PutEnds answer t turn t' end' → PutHolds holds holds' t.pending answer → holds ≡ Some t.sent → holds' ≡ Some t'.sent
 put_ties (put.Took n) t turn t' end' holds holds' p h e =

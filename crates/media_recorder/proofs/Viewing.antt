@@ -1,7 +1,6 @@
 -- What a recorder takes is what a player is sent
 use Rattle.std.proofs.Common.{◌≡◌, ◌==◌, ℕ, suc, zero, Bool, true, false, if◌then◌else◌, List, [], ◌∷◌, ◌++◌, length, None, Some, Option, ◌⊎◌, inl, inr, refl, ap, sym, ◌∙◌, subst}
 use Rattle.std.specs.Option.{is_some}
-use Rattle.std.specs.List.{flat_map}
 use Rattle.std.proofs.lemmas.List.{append-nil}
 use Rattle.std.proofs.lemmas.List.Concat.{flat_map-append}
 use Rattle.std.proofs.lemmas.Bool.Decides.{eqb_tells}
@@ -22,7 +21,6 @@ use Rattle.stream_model.specs.Spell.{Spell, one_more, spell, spell_after, cursor
 use Rattle.stream_model.specs.History.{History, items_of, publisher, holder, holder_after}
 use Rattle.stream_model.specs.Answer.{reply_to, begin_reply, join_reply, free_place, first_or, is_who}
 use Rattle.stream_model.specs.Known.{IsLawful}
-use Rattle.stream_model.specs.Counts.{counts_reply}
 use Rattle.stream_registry.specs.Told.{Step}
 use Rattle.media_recorder.specs.Taken.{item_at, taken}
 use Rattle.media_recorder.specs.Viewer.{items_sent, IsTakeAt, TakesOnly, calls_of}

@@ -1,6 +1,5 @@
 -- What the answer of a turn says
 use Rattle.std.specs.Prelude.{◌≡◌, ℕ, ◌≤◌, List, [], ◌∷◌, ◌++◌, length, Some, None}
-use Rattle.stream_model.specs.declared.calls.Entry.{Entry}
 use Rattle.stream_model.specs.declared.calls.Call.TheVariants.{Take}
 use Rattle.stream_model.specs.declared.replies.Reply.TheVariants.{NotYet}
 use Rattle.stream_registry.specs.Told.{Step, Rose}

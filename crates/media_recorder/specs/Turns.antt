@@ -6,12 +6,10 @@ use Rattle.av_unit.specs.declared.head.Want.{Want}
 use Rattle.av_unit.specs.declared.item.Item.{Item}
 use Rattle.relay_outside.specs.declared.sink.Put.{Put}
 use Rattle.relay_outside.specs.declared.sink.Put.TheVariants as put
-use Rattle.stream_model.specs.declared.calls.StreamLimits.{StreamLimits}
 use Rattle.stream_model.specs.declared.calls.Call.{Call}
 use Rattle.stream_model.specs.declared.calls.Call.TheVariants as call
 use Rattle.stream_model.specs.declared.replies.Reply.{Reply}
 use Rattle.stream_model.specs.declared.replies.Reply.TheVariants as reply
-use Rattle.turn_gate.specs.Histories.{Begins}
 use Rattle.stream_registry.specs.declared.port.PortFail.{PortFail}
 use Rattle.stream_registry.specs.declared.port.PortFail.TheVariants as fail
 use Rattle.stream_registry.specs.Names.{PortRules}

@@ -1,4 +1,4 @@
-ghost use Rattle.std.specs.Prelude.{◌≡◌, ◌≤◌, ℕ, List, ◌∷◌, ◌++◌, [], IfOk, OnOk, OnErr};
+ghost use Rattle.std.specs.Prelude.{◌≡◌, ◌≤◌, ℕ, List, ◌++◌, IfOk, OnOk, OnErr};
 ghost use Rattle.av_unit.specs.declared.item.Item.{Item};
 ghost use Rattle.turn_gate.specs.Histories.{Begins};
 ghost use Rattle.media_recorder.specs.Mediums.{Adds, Begun};

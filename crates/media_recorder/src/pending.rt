@@ -1,5 +1,5 @@
-ghost use Rattle.std.specs.Prelude.{◌≡◌, ◌≤◌, ◌++◌, [], length, drop, IfOk, OnOk, OnErr};
-ghost use Rattle.media_recorder.specs.Mediums.{Adds, Begun};
+ghost use Rattle.std.specs.Prelude.{◌≡◌, ◌≤◌, length, drop, OnOk, OnErr};
+ghost use Rattle.media_recorder.specs.Mediums.{Adds};
 
 use crate::medium::Medium;
 use av_unit::{Bytes, Item, OutOfMemory};

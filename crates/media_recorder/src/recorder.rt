@@ -5,7 +5,7 @@ ghost use Rattle.media_recorder.specs.Mediums.{AreWithin, most_held};
 ghost use Rattle.media_recorder.specs.Taken.{taken};
 ghost use Rattle.media_recorder.specs.Ports.{Serves, FitsIf};
 ghost use Rattle.media_recorder.specs.Seats.{StandIf};
-ghost use Rattle.media_recorder.specs.Turns.{all, is_empty, PutEnds, Unmade, JoinEnds, TakeEnds, Writing, Puts, JoinsAt, TakesAt, Calls, Works, Turns};
+ghost use Rattle.media_recorder.specs.Turns.{is_empty, PutEnds, Unmade, JoinEnds, TakeEnds, Writing, Puts, JoinsAt, TakesAt, Calls, Works, Turns};
 ghost use Rattle.media_recorder.specs.Says.{Says};
 ghost use Rattle.media_recorder.specs.Leaves.{Goes};
 

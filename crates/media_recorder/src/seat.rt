@@ -1,5 +1,4 @@
-ghost use Rattle.std.specs.Prelude.{◌≡◌, ◌<◌, ℕ, [], length, IfOk, IfErr, None};
-ghost use Rattle.turn_gate.specs.Histories.{Begins};
+ghost use Rattle.std.specs.Prelude.{◌≡◌, ◌<◌, ℕ, [], length, None};
 ghost use Rattle.media_recorder.specs.Ports.{Serves, FitsIf, seen_of, mine_of};
 ghost use Rattle.media_recorder.specs.Seats.{StandIf, Asks};
 ghost use Rattle.media_recorder.specs.Leaves.{Parts};

@@ -1,4 +1,4 @@
-ghost use Rattle.std.specs.Prelude.{◌≡◌, ◌≤◌, ◌*◌, ◌+◌, ◌++◌, ◌∷◌, ℕ, [], length, take, drop, IfOk, OnOk, OnErr};
+ghost use Rattle.std.specs.Prelude.{◌≡◌, ◌≤◌, ◌+◌, ◌++◌, ℕ, [], length, IfOk, OnOk, OnErr};
 ghost use Rattle.media_recorder.specs.Mediums.{AreWithin, most_held};
 ghost use Rattle.media_recorder.specs.Turns.{is_empty, sent_more, Writes, Unwritten};
 

@@ -1,6 +1,5 @@
-use Rattle.std.proofs.Common.{◌≡◌, ℕ, ◌≤◌}
 use Rattle.media_recorder.specs.Taken.{taken}
-use Rattle.media_recorder.specs.Mediums.{AreWithin, most_held}
+use Rattle.media_recorder.specs.Mediums.{most_held}
 use Rattle.media_recorder.proofs.Texts.{held_within}
 use Rattle.media_recorder.proofs.recorder.Recorder.held.Goals as goal
 

@@ -1,4 +1,4 @@
-use Rattle.std.proofs.Common.{rules, ◌≡◌, Option, sym, subst, refl}
+use Rattle.std.proofs.Common.{rules, Option, sym, subst, refl}
 use Rattle.turn_gate.specs.Histories.{Begins}
 use Rattle.media_recorder.specs.Ports.{FitsIf, seen_of}
 use Rattle.media_recorder.proofs.Standing.{begins_same}
