@@ -328,3 +328,7 @@ others_later rules rules' seen root root' s same g st =
           (all_later rules.limits (known_if seen root s.spot) (known_if seen root' s.spot) s.visits (others_known seen root root' s.spot g) st.calls);
       granted = st.granted;
     }
+
+pub still_fits : {Q : Type 0} (fits fits' : ℕ → Q → Type 0) (spot : Option (ℕ × Q)) → ((q : ℕ) (p : Q) → fits q p → fits' q p) → HasFit fits spot → HasFit fits' spot
+still_fits fits fits' None more f = tt
+still_fits fits fits' (Some p) more f = more p.0 p.1 f

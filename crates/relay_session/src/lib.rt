@@ -11,6 +11,8 @@ mod outgoing;
 mod seat;
 mod seat_answers;
 mod seat_law;
+#[cfg(test)]
+mod seat_tests;
 mod steps;
 mod unit_in_hand;
 

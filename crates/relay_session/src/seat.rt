@@ -334,9 +334,10 @@ impl<P: StreamPort> Seat<P> {
         }
     }
 
-    /// Where others have made calls at the same port, a seat stands as it stood.
+    /// Where others have made calls at the same port, a seat stands as it stood, and its pass fits.
     pub fn others_law()
-        ensures { (x y : P) (s : SeatState P.Pass) → P.rules y ≡ P.rules x → GoOn (P.root x) (P.root y) → StandsAt P.rules P.root P.seen x s
+        ensures stands { (x y : P) (s : SeatState P.Pass) → P.rules y ≡ P.rules x → GoOn (P.root x) (P.root y) → StandsAt P.rules P.root P.seen x s
             → StandsAt P.rules P.root P.seen y s }
+        ensures fit { (x y : P) (s : SeatState P.Pass) → ((q : ℕ) (p : P.Pass) → P.fits x q p → P.fits y q p) → HasFit (P.fits x) s.spot → HasFit (P.fits y) s.spot }
     {}
 }
