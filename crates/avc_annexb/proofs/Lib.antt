@@ -3,3 +3,4 @@ pub mod Units
 pub mod Prefixes
 pub mod Streams
 pub mod Sets
+pub mod Splits

@@ -189,7 +189,7 @@ split size b u rest fits small e =
       short = rw l (below size b fits small);
     }
 
-then_found : (size : ℕ) (f : Front) (next : List ℕ → Units) (units : List (List ℕ)) → then_units f next ≡ Ok units
+pub then_found : (size : ℕ) (f : Front) (next : List ℕ → Units) (units : List (List ℕ)) → then_units f next ≡ Ok units
     → (p : List ℕ × List ℕ) × (more : List (List ℕ)) × (f ≡ Ok p) × (next p.1 ≡ Ok more) × (units ≡ p.0 ∷ more)
 then_found size (Err e) next units is = absurd (cc)
 then_found size (Ok p) next units is = let h = before_found p.0 (next p.1) units is in (p, h.0, refl, h.1, h.2)

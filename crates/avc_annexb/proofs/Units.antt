@@ -12,7 +12,7 @@ unless_ok : (v : Option AvcFail) (q p : List ℕ × List ℕ) → unless v q ≡
 unless_ok None q p e = (refl, cc)
 unless_ok (Some f) q p e = absurd (cc)
 
-judged_ok : (missing : AvcFail) (nal : ℕ) (o : Option (List ℕ × List ℕ)) (p : List ℕ × List ℕ) → judged nal (or_missing missing o) ≡ Ok p → (o ≡ Some p) × (verdict nal p.0 ≡ None)
+pub judged_ok : (missing : AvcFail) (nal : ℕ) (o : Option (List ℕ × List ℕ)) (p : List ℕ × List ℕ) → judged nal (or_missing missing o) ≡ Ok p → (o ≡ Some p) × (verdict nal p.0 ≡ None)
 judged_ok missing nal None p e = absurd (cc)
 judged_ok missing nal (Some q) p e =
     let h = unless_ok (verdict nal q.0) q p e in
@@ -22,7 +22,7 @@ dirty_none : (nal : ℕ) (o : Option ℕ) → dirty_at nal o ≡ None → o ≡ 
 dirty_none nal None e = refl
 dirty_none nal (Some at) e = absurd (cc)
 
-verdict_none : (nal : ℕ) (u : List ℕ) → verdict nal u ≡ None → IsNal u
+pub verdict_none : (nal : ℕ) (u : List ℕ) → verdict nal u ≡ None → IsNal u
 unfolding verdict
 verdict_none nal [] e = absurd (cc)
 verdict_none nal (x ∷ xs) e = record { some = omega arith; clean = dirty_none nal (dirty_in (x ∷ xs)) e }
@@ -43,7 +43,7 @@ first missing nal size b u rest e =
     let h = judged_ok missing nal (unit_at size b) (u, rest) e in
     record { found = h.0; nal = verdict_none nal u h.1 }
 
-some_if : (t : Bool) (x p : List ℕ × List ℕ) → (if t then Some x else None) ≡ Some p → (t ≡ true) × (x ≡ p)
+pub some_if : (t : Bool) (x p : List ℕ × List ℕ) → (if t then Some x else None) ≡ Some p → (t ≡ true) × (x ≡ p)
 some_if true x p e = (refl, cc)
 some_if false x p e = absurd (cc)
 
@@ -75,7 +75,7 @@ shorter size b u rest fits e =
     let n : length rest ≡ length b - (size + length_at size b) = ap length s.rest_is ∙ length-drop (size + length_at size b) b in
     omega (arith, s.whole)
 
-then_same : (f : Front) (m n : List ℕ → Units) → ((p : List ℕ × List ℕ) → f ≡ Ok p → m p.1 ≡ n p.1) → then_units f m ≡ then_units f n
+pub then_same : (f : Front) (m n : List ℕ → Units) → ((p : List ℕ × List ℕ) → f ≡ Ok p → m p.1 ≡ n p.1) → then_units f m ≡ then_units f n
 then_same (Ok p) m n same = ap (before (p.0 ∷ [])) (same p refl)
 then_same (Err e) m n same = refl
 
@@ -95,10 +95,10 @@ same_most (suc f) (suc g) size total nal (x ∷ xs) fits h k =
     let less = shorter size (x ∷ xs) p.0 p.1 fits one.found in
     same_most f g size total (nal + 1) p.1 fits (omega arith) (omega arith))
 
-then_ok : (f : Front) (next : List ℕ → Units) (p : List ℕ × List ℕ) → f ≡ Ok p → then_units f next ≡ before (p.0 ∷ []) (next p.1)
+pub then_ok : (f : Front) (next : List ℕ → Units) (p : List ℕ × List ℕ) → f ≡ Ok p → then_units f next ≡ before (p.0 ∷ []) (next p.1)
 then_ok f next p e = rw e refl
 
-then_err : (f : Front) (next : List ℕ → Units) (e : AvcFail) → f ≡ Err e → then_units f next ≡ Err e
+pub then_err : (f : Front) (next : List ℕ → Units) (e : AvcFail) → f ≡ Err e → then_units f next ≡ Err e
 then_err f next e is = rw is refl
 
 -- one unit more

@@ -9,12 +9,14 @@ mod fail;
 mod list;
 mod nal;
 mod prefixed;
+mod split;
 
 pub use annexb::to_annexb;
 pub use avcc::Avcc;
 pub use fail::AvcFail;
 pub use list::NalList;
 pub use prefixed::{nals, put_nals};
+pub use split::split_annexb;
 
 #[cfg(test)]
 mod tests;

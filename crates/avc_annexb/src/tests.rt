@@ -65,6 +65,37 @@ fn units_are_refused_at_the_first_place(rt: HostRuntime) {
     assert_eq!(rt; refused(alloc, b"\x02\x41\x00"), [4, 0, 1]);
 }
 
+/// What `split_annexb` refuses; zeros where it doesn't.
+fn not_split(alloc: Global, bytes: &[u8]) -> [u8; 3] {
+    match split_annexb(alloc, bytes) {
+        Ok(_) => [0, 0, 0],
+        Err(fail) => code(fail),
+    }
+}
+
+#[test]
+fn a_byte_stream_is_split(rt: HostRuntime) -> Result<(), Fail> {
+    let alloc = rt.alloc();
+    let text = b"\x00\x00\x00\x01\x09\xf0\x00\x00\x00\x01\x65\x00\x00\x03\x01";
+    let list = split_annexb(alloc, text)?;
+    assert_eq!(rt; list.len(), 2);
+    let mut again = Bytes::new(alloc);
+    to_annexb(&list, &mut again)?;
+    assert_eq!(rt; again.as_slice(), text.as_slice());
+    assert_eq!(rt; not_split(alloc, b""), [0, 0, 0]);
+    assert_eq!(rt; not_split(alloc, b"\x00\x00\x01\x65"), [6, 0, 0]);
+    assert_eq!(rt; not_split(alloc, b"\x00\x00\x00\x01"), [5, 0, 0]);
+    assert_eq!(rt;
+        not_split(alloc, b"\x00\x00\x00\x01\x65\x00\x00\x01\x41"),
+        [4, 0, 1]
+    );
+    assert_eq!(rt;
+        not_split(alloc, b"\x00\x00\x00\x01\x65\x00\x00\x00\x00\x01\x41"),
+        [4, 0, 1]
+    );
+    Ok(())
+}
+
 #[test]
 fn a_configuration_record(rt: HostRuntime) -> Result<(), Fail> {
     let alloc = rt.alloc();

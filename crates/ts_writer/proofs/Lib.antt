@@ -1,3 +1,5 @@
 pub mod Keeping
 pub mod Sections
 pub mod Texts
+pub mod Worked
+pub mod Sizes

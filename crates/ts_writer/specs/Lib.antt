@@ -3,4 +3,6 @@ pub mod Parts
 pub mod Text
 pub mod Known
 pub mod Ahead
+pub mod Held
 pub mod Sound
+pub mod Examples

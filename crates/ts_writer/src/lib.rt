@@ -5,6 +5,7 @@
 mod ahead;
 mod framed;
 mod in_force;
+mod laws;
 mod left;
 mod multiplex;
 mod part;
@@ -13,5 +14,9 @@ mod tables;
 mod units;
 mod writer;
 
+pub use laws::a_frame_of_sound;
 pub use left::{Left, Wrote};
 pub use writer::TsWriter;
+
+#[cfg(test)]
+mod tests;

@@ -1,9 +1,10 @@
-ghost use Rattle.std.specs.Prelude.{◌≡◌, ℕ, List, ◌++◌, true, IfOk, IfSome, IsErr, OnOk, OnErr};
+ghost use Rattle.std.specs.Prelude.{◌≡◌, ◌≤◌, ℕ, List, length, ◌++◌, true, false, IfOk, IfSome, IsErr, OnOk, OnErr};
 ghost use Rattle.av_unit.specs.declared.item.Item.TheVariants.{Unit as AUnit};
 ghost use Rattle.ts_writer.specs.Frames.{Gives, UnlessMemory, IsFramed, video_config, audio_config};
 ghost use Rattle.ts_writer.specs.Parts.{text_behind, with_parts};
-ghost use Rattle.ts_writer.specs.Text.{none_in_force, in_force_after, listed as listed_of, read_or_none, nothing_of, made_of, reading_of, reading, wrote_by, wrote_of, added, item_text};
+ghost use Rattle.ts_writer.specs.Text.{none_in_force, in_force, in_force_after, listed as listed_of, read_or_none, nothing_of, made_of, reading_of, reading, wrote_by, wrote_of, added, item_text};
 ghost use Rattle.ts_writer.specs.Known.{fresh, given};
+ghost use Rattle.ts_writer.specs.Held.{lengths, held_of};
 
 use crate::Wrote;
 use crate::framed::Framed;
@@ -13,6 +14,7 @@ use crate::part::Streams;
 use crate::stop::Stop;
 use crate::units::{make_picture, make_sound, read_audio, read_video};
 use av_unit::{Bytes, Item, Kind, OutOfMemory, Unit};
+use avc_annexb::NalList;
 use past::History;
 use std::alloc::Global;
 use std::marker::Model;
@@ -43,6 +45,7 @@ impl InForce {
         ensures made { Gives result (made_of (nothing_of (video_config body.now))) }
         ensures set { UnlessMemory result (self.new ≡ record { video = read_or_none (video_config body.now); audio = self.old.audio }) }
         ensures fits { IfOk result (λ o. IfSome o IsFramed) }
+        ensures small { held_of self.new ≤ length body.now }
     {
         self.video = None;
         self.video = Some(read_video(alloc, body)?);
@@ -54,6 +57,7 @@ impl InForce {
         ensures made { Gives result (made_of (nothing_of (audio_config body.now))) }
         ensures set { UnlessMemory result (self.new ≡ record { video = self.old.video; audio = read_or_none (audio_config body.now) }) }
         ensures fits { IfOk result (λ o. IfSome o IsFramed) }
+        ensures small { held_of self.new ≡ held_of self.old }
     {
         self.audio = None;
         self.audio = Some(read_audio(body)?);
@@ -65,6 +69,7 @@ impl InForce {
         ensures made { Gives result (made_of (reading_of self.old unit.now.kind unit.now.time unit.now.body)) }
         ensures set { UnlessMemory result (self.new ≡ in_force_after self.old (AUnit unit.now)) }
         ensures fits { IfOk result (λ o. IfSome o IsFramed) }
+        ensures small { held_of self.old ≤ 65536 → held_of self.new ≤ 65536 }
     {
         let time = unit.time;
         let body = unit.body.as_slice();
@@ -92,6 +97,7 @@ fn write(
     ensures bytes { OnOk result (out.new ≡ out.old ++ text_behind text.old (added in_force.old item.now text.old)) }
     ensures wrote { IfOk result (λ w. w ≡ wrote_by (reading in_force.old item.now)) }
     ensures left { OnErr result ((more : List ℕ) × (out.new ≡ out.old ++ more)) }
+    ensures small { held_of in_force.old ≤ 65536 → held_of in_force.new ≤ 65536 }
 {
     match item {
         Item::Begin => {
@@ -117,6 +123,7 @@ fn write_unit(
     ensures bytes { OnOk result (out.new ≡ out.old ++ text_behind text.old (added in_force.old (AUnit unit.now) text.old)) }
     ensures wrote { IfOk result (λ w. w ≡ wrote_by (reading in_force.old (AUnit unit.now))) }
     ensures left { OnErr result ((more : List ℕ) × (out.new ≡ out.old ++ more)) }
+    ensures small { held_of in_force.old ≤ 65536 → held_of in_force.new ≤ 65536 }
 {
     let streams = in_force.listed();
     match in_force.read(alloc, unit) {
@@ -196,4 +203,29 @@ impl TsWriter {
             }
         }
     }
+
+    /// How many bytes it keeps: those of the parameter sets in force, at most 65,536.
+    pub fn held(&self) -> u64
+        ensures sum { self.now.broken ≡ false → result ≡ held_of (in_force self.now.past) }
+        ensures most { result ≤ 65536 }
+    {
+        match &self.in_force.video {
+            Some(config) => length_of(&config.sps) + length_of(&config.pps),
+            None => 0,
+        }
+    }
+}
+
+/// The bytes of NAL units together.
+fn length_of(list: &NalList) -> u64
+    requires { lengths list.now ≤ 65536 }
+    ensures { result ≡ lengths list.now }
+{
+    let mut sum = 0;
+    let mut left = list.as_slice();
+    while let [unit, rest @ ..] = left {
+        sum += unit.len() as u64;
+        left = rest;
+    }
+    sum
 }

@@ -1,0 +1,36 @@
+-- Worked examples of the text, byte by byte
+use Rattle.std.specs.Prelude.{ℕ, List, [], ◌∷◌, ◌++◌, replicate}
+use Rattle.av_unit.specs.declared.unit.Kind.TheVariants.{AConfig, Audio}
+use Rattle.av_unit.specs.declared.item.Item.{Item}
+use Rattle.av_unit.specs.declared.item.Item.TheVariants.{Unit as AUnit}
+
+-- the configuration of AAC LC with 44,100 samples a second and two channels, and a frame with the bytes 1 to 9
+abbrev pub sound_items : List Item
+sound_items =
+    AUnit (record { kind = Audio; time = 0; body = 0xAF ∷ 1 ∷ 1 ∷ 2 ∷ 3 ∷ 4 ∷ 5 ∷ 6 ∷ 7 ∷ 8 ∷ 9 ∷ [] })
+    ∷ AUnit (record { kind = AConfig; time = 0; body = 0xAF ∷ 0 ∷ 0x12 ∷ 0x10 ∷ [] })
+    ∷ []
+
+abbrev pub association : List ℕ
+association =
+    0x47 ∷ 0x40 ∷ 0x00 ∷ 0x10 ∷ 0x00
+    ∷ 0x00 ∷ 0xB0 ∷ 0x0D ∷ 0x00 ∷ 0x01 ∷ 0xC1 ∷ 0x00 ∷ 0x00 ∷ 0x00 ∷ 0x01 ∷ 0xF0 ∷ 0x00 ∷ 0x2A ∷ 0xB1 ∷ 0x04 ∷ 0xB2
+    ∷ replicate 167 0xFF
+
+abbrev pub map_of_sound : List ℕ
+map_of_sound =
+    0x47 ∷ 0x50 ∷ 0x00 ∷ 0x10 ∷ 0x00
+    ∷ 0x02 ∷ 0xB0 ∷ 0x12 ∷ 0x00 ∷ 0x01 ∷ 0xC1 ∷ 0x00 ∷ 0x00 ∷ 0xE1 ∷ 0x01 ∷ 0xF0 ∷ 0x00
+    ∷ 0x0F ∷ 0xE1 ∷ 0x01 ∷ 0xF0 ∷ 0x00 ∷ 0xEC ∷ 0xE2 ∷ 0xB0 ∷ 0x94
+    ∷ replicate 162 0xFF
+
+abbrev pub frame_of_sound : List ℕ
+frame_of_sound =
+    0x47 ∷ 0x41 ∷ 0x01 ∷ 0x30 ∷ 0x99 ∷ 0x10 ∷ 0xFF ∷ 0xFF ∷ 0xA8 ∷ 0x1C ∷ 0x7E ∷ 0x00
+    ∷ (replicate 146 0xFF
+    ++ 0x00 ∷ 0x00 ∷ 0x01 ∷ 0xC0 ∷ 0x00 ∷ 0x18 ∷ 0x80 ∷ 0x80 ∷ 0x05 ∷ 0x21 ∷ 0x00 ∷ 0x01 ∷ 0x00 ∷ 0x01
+    ∷ 0xFF ∷ 0xF1 ∷ 0x50 ∷ 0x80 ∷ 0x02 ∷ 0x1F ∷ 0xFC ∷ 1 ∷ 2 ∷ 3 ∷ 4 ∷ 5 ∷ 6 ∷ 7 ∷ 8 ∷ 9 ∷ [])
+
+-- both tables, and the frame with a clock reference half a second before time 0
+abbrev pub sound_text : List ℕ
+sound_text = association ++ (map_of_sound ++ frame_of_sound)
