@@ -3,3 +3,5 @@ pub mod Units
 pub mod Standing
 pub mod Feeding
 pub mod Once
+pub mod Streams
+pub mod Ends

@@ -14,9 +14,9 @@ pub unit_all : (b : List ℕ) → triple_in b ≡ None → unit_length b ≡ len
 unfolding unit_length
 unit_all b e = rw e refl
 
-picks : (s t : Bool) (q r : List ℕ) → (if not s then None else (if t then None else Some q)) ≡ Some r → (s ≡ true) × (q ≡ r)
+pub picks : (s t : Bool) (q r : List ℕ) → (if not s then None else (if t then None else Some q)) ≡ Some r → (s ≡ true) × (t ≡ false) × (q ≡ r)
 picks true true q r e = absurd (cc)
-picks true false q r e = (refl, cc)
+picks true false q r e = (refl, refl, cc)
 picks false t q r e = absurd (cc)
 
 started_long : (b : List ℕ) → is_started b ≡ true → 4 ≤ length b
@@ -29,7 +29,7 @@ unfolding behind_unit
 behind_shorter b r e =
     let p = picks _ _ _ r e in
     let long = started_long b p.0 in
-    omega (arith, ap length (sym p.1), length-drop (unit_length (drop 4 b)) (drop 4 b), length-drop 4 b)
+    omega (arith, ap length (sym p.2), length-drop (unit_length (drop 4 b)) (drop 4 b), length-drop 4 b)
 
 there : (o : Option (List ℕ)) (f g : List ℕ → Bool) → ((r : List ℕ) → o ≡ Some r → f r ≡ g r) → if_there o f ≡ if_there o g
 there None f g h = refl

@@ -1,8 +1,10 @@
 -- Laws of reading
-use Rattle.std.specs.Prelude.{◌≡◌, ℕ, List, ◌++◌, take}
+use Rattle.std.specs.Prelude.{◌≡◌, ℕ, List, ◌++◌, take, Option}
 use Rattle.ts_reader.specs.declared.unit.TsUnit.{TsUnit}
 use Rattle.ts_reader.specs.declared.fail.TsFail.{TsFail}
 use Rattle.ts_reader.specs.Mux.{Mux}
+use Rattle.avc_annexb.specs.Nal.{AreNals}
+use Rattle.avc_annexb.specs.AnnexB.{annexb}
 use Rattle.ts_reader.specs.Reads.{Reads}
 
 -- two readings give the same units, and leave the same
@@ -25,3 +27,14 @@ pub record SameStop (c d : TsFail) (m n : ℕ) (us vs : List TsUnit) : Type 0 wh
   pub fail_same : c ≡ d
   pub place_same : m ≡ n
   pub units_same : us ≡ vs
+
+-- the bytes are the byte stream of NAL units
+pub record StreamOf (b : List ℕ) : Type 0 where
+  pub units : List (List ℕ)
+  pub nals : AreNals units
+  pub bytes : b ≡ annexb units
+
+-- two ends give the same
+pub record SameEnd (us vs : List TsUnit) (u v : Option TsUnit) : Type 0 where
+  pub units_same : us ≡ vs
+  pub last_same : u ≡ v

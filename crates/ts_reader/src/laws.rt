@@ -1,9 +1,12 @@
-ghost use Rattle.std.specs.Prelude.{ℕ, ◌+◌, List, ◌++◌, take};
+ghost use Rattle.std.specs.Prelude.{◌≡◌, ℕ, ◌+◌, true, List, ◌++◌, take, Option};
+ghost use Rattle.avc_annexb.specs.Nal.{AreNals};
+ghost use Rattle.avc_annexb.specs.AnnexB.{annexb};
 ghost use Rattle.ts_reader.specs.declared.unit.TsUnit.{TsUnit};
 ghost use Rattle.ts_reader.specs.declared.fail.TsFail.{TsFail};
 ghost use Rattle.ts_reader.specs.Mux.{Mux};
-ghost use Rattle.ts_reader.specs.Reads.{Reads, Stops};
-ghost use Rattle.ts_reader.specs.Laws.{ReadsPart, SameReading, SameStop};
+ghost use Rattle.ts_reader.specs.Payloads.{is_stream};
+ghost use Rattle.ts_reader.specs.Reads.{EndFails, Ends, Reads, Stops};
+ghost use Rattle.ts_reader.specs.Laws.{ReadsPart, SameEnd, SameReading, SameStop, StreamOf};
 
 /// Two readings of the same bytes are one, so the cutting into pieces can't matter.
 pub fn one_reading()
@@ -23,4 +26,22 @@ pub fn refused_bytes_are_not_read()
 /// A list of bytes is refused at one byte and in one way.
 pub fn one_refusal()
     ensures { (b : List ℕ) (c d : TsFail) (m n : ℕ) (us vs : List TsUnit) → Stops b m us c → Stops b n vs d → SameStop c d m n us vs }
+{}
+
+/// Bytes behind a refused packet change nothing.
+pub fn refused_bytes_stay_refused()
+    ensures { (b more : List ℕ) (e : TsFail) (n : ℕ) (us : List TsUnit) → Stops b n us e → Stops (b ++ more) n us e }
+{}
+
+/// Bytes give one unit at their end, or none, or are refused there.
+pub fn one_end()
+    ensures given { (b : List ℕ) (us vs : List TsUnit) (u v : Option TsUnit) → Ends b us u → Ends b vs v → SameEnd us vs u v }
+    ensures refused { (b : List ℕ) (us vs : List TsUnit) (u : Option TsUnit) (e : TsFail) → Ends b us u → EndFails b vs e → ⊥ }
+{}
+
+/// What is taken for a byte stream is NAL units, each behind a zero byte and a start code (ISO/IEC 14496-10, annex B), and
+/// each such byte stream is taken.
+pub fn a_byte_stream_is_nal_units()
+    ensures read { (b : List ℕ) → is_stream b ≡ true → StreamOf b }
+    ensures written { (units : List (List ℕ)) → AreNals units → is_stream (annexb units) ≡ true }
 {}

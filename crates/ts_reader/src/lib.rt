@@ -13,7 +13,10 @@ mod tables;
 mod unit;
 
 pub use fail::TsFail;
-pub use laws::{beginnings_are_read, one_reading, one_refusal, refused_bytes_are_not_read};
+pub use laws::{
+    a_byte_stream_is_nal_units, beginnings_are_read, one_end, one_reading, one_refusal,
+    refused_bytes_are_not_read, refused_bytes_stay_refused,
+};
 pub use reader::{TsFed, TsReader};
 pub use unit::TsUnit;
 
