@@ -1,6 +1,6 @@
 -- The calls of a session in the streams' histories, as these go on
 use Rattle.std.proofs.Common.{◌≡◌, ◌≢◌, ℕ, if◌then◌else◌, Bool, true, false, nat_eq, List, [], ◌∷◌, ◌++◌, refl, sym, ap, ◌∙◌, subst, inl, inr, arith, append_assoc, append-nil, Option, Some, None}
-use Rattle.std.specs.Prelude.{reverse, map}
+use Rattle.std.specs.Prelude.{reverse}
 use Rattle.std.proofs.lemmas.List.{reverse-append}
 use Rattle.std.proofs.lemmas.Bool.{cases_eq}
 use Rattle.std.proofs.lemmas.Bool.Decides.{nat_tests}
@@ -17,8 +17,8 @@ use Rattle.relay_session.specs.declared.seat_answers.Active.{Active}
 use Rattle.relay_session.specs.declared.seat_answers.Active.TheVariants as active
 use Rattle.relay_session.specs.declared.seat_answers.Leaving.{Leaving}
 use Rattle.relay_session.specs.declared.seat_answers.Leaving.TheVariants as leaving
-use Rattle.relay_session.specs.SeatVisits.{Visit, calls_at, calls_of, StandIn, Stand, AllStand}
-use Rattle.relay_session.specs.SeatState.{SeatState, IsStanding, HasFit, IsElsewhere, Finishes, Leaves, LeavesFrom, last_of, place_of, GoOn, Noted, active_after, is_over, plays, publishes, IsGranted, IsActive, known_if}
+use Rattle.relay_session.specs.SeatVisits.{Visit, calls_at, StandIn, Stand, AllStand}
+use Rattle.relay_session.specs.SeatState.{SeatState, IsStanding, HasFit, IsElsewhere, Finishes, Leaves, LeavesFrom, last_of, place_of, GoOn, Noted, active_after, plays, publishes, IsGranted, IsActive, known_if}
 
 -- ---- histories
 
@@ -113,10 +113,6 @@ all_more limits h h' place root step visits g n s = record {
   ];
 }
 
--- the newest visit is the last of the calls
-pub calls_more : (place : ℕ) (step : Step) (visits : List Visit) → calls_of ((place, step) ∷ visits) ≡ calls_of visits ++ step ∷ []
-calls_more place step visits = reverse-append (step ∷ []) (map (λ (v : Visit). v.1) visits)
-
 -- what the port says of a call
 pub noted : (limits limits' : StreamLimits) (root seen : List Step) (mine : List ℕ) (step : Step) (seen' : List Step) (mine' : List ℕ) → limits' ≡ limits → Placed limits root seen mine step seen' mine' → Keeps limits' seen'
     → Noted limits root seen step seen'
@@ -162,22 +158,6 @@ granted_more (reply.Counts began pushed ended joined skips) e a calls g = alike 
 
 pub active_more : {Q : Type 0} (place : ℕ) (pass pass' : Q) (r : Reply) (e : Entry) (a : Active) (visits : List Visit) → IsActive (Some (place, pass)) a visits → IsActive (Some (place, pass')) (active_after r a) ((place, (e, r)) ∷ visits)
 active_more place pass pass' r e a visits g = subst (λ (c : List Step). IsGranted (active_after r a) c) (sym (calls_here place (e, r) visits)) (granted_more r e a (calls_at place visits) g)
-
--- where there is nothing more to do nothing is granted
-pub over_nothing : (r : Reply) (a : Active) → is_over r ≡ true → active_after r a ≡ active.Nothing
-over_nothing (reply.Began n) a o = absurd (cc o)
-over_nothing (reply.Joined player from) a o = absurd (cc o)
-over_nothing (reply.InUse by) a o = refl
-over_nothing reply.Full a o = refl
-over_nothing (reply.Ended n) a o = refl
-over_nothing (reply.Left player) a o = refl
-over_nothing (reply.Pushed n) a o = absurd (cc o)
-over_nothing (reply.NotPublisher live) a o = absurd (cc o)
-over_nothing reply.NotPlayer a o = absurd (cc o)
-over_nothing (reply.Sent from n item) a o = absurd (cc o)
-over_nothing (reply.Skip from to) a o = absurd (cc o)
-over_nothing (reply.NotYet end) a o = absurd (cc o)
-over_nothing (reply.Counts began pushed ended joined skips) a o = absurd (cc o)
 
 -- ---- where it stands
 
