@@ -6,6 +6,7 @@ mod flv;
 mod gate;
 mod rates;
 mod stream;
+mod ts;
 mod writing;
 
 use std::{env, io};
@@ -26,6 +27,9 @@ fn main(rt: HostRuntime) -> io::Result<()> {
         }
         if word.as_str() == "stream" {
             stream::measure(&rt, rt.alloc())?;
+        }
+        if word.as_str() == "ts" {
+            ts::measure(&rt, rt.alloc())?;
         }
     }
     Ok(())
