@@ -1,8 +1,8 @@
 -- What bytes give at their end, and what stays refused
-use Rattle.std.proofs.Common.{◌≡◌, ℕ, ◌<◌, inl, inr, List, [], ◌++◌, length, Option, Result, Ok, Err, refl, sym, ap, ◌∙◌, arith, append_assoc, append-nil}
+use Rattle.std.proofs.Common.{◌≡◌, ℕ, inl, inr, List, [], ◌++◌, length, Option, Result, Ok, Err, refl, sym, ap, ◌∙◌, arith, append_assoc, append-nil}
 use Rattle.ts_reader.specs.declared.unit.TsUnit.{TsUnit}
 use Rattle.ts_reader.specs.declared.fail.TsFail.{TsFail}
-use Rattle.ts_reader.specs.Mux.{Mux, Opened}
+use Rattle.ts_reader.specs.Mux.{Mux}
 use Rattle.ts_reader.specs.Steps.{closed}
 use Rattle.ts_reader.specs.Reads.{EndFails, Ends, Reads, Stops}
 use Rattle.ts_reader.specs.Laws.{SameEnd}

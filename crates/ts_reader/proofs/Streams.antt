@@ -1,12 +1,14 @@
 -- A byte stream is NAL units, each behind a zero byte and a start code
-use Rattle.std.proofs.Common.{◌≡◌, ◌≢◌, ℕ, zero, suc, ◌+◌, ◌-◌, ◌<◌, ◌≤◌, Bool, true, false, List, [], ◌∷◌, ◌++◌, length, take, drop, slice_index, Option, Some, None, refl, sym, ap, ◌∙◌, subst, arith, append-nil, length-append}
-use Rattle.std.specs.Prelude.{option_map, not, ◌||◌, ◌&&◌, ◌==◌, nat_le, if◌then◌else◌}
+use Rattle.std.proofs.Common.{◌≡◌, ℕ, zero, suc, ◌+◌, ◌-◌, ◌<◌, ◌≤◌, Bool, true, false, List, [], ◌∷◌, ◌++◌, length, take, drop, slice_index, Option, Some, None, refl, sym, ap, ◌∙◌, arith, append-nil, Ok, subst}
+use Rattle.std.specs.Prelude.{option_map}
 use Rattle.std.proofs.lemmas.Bool.Decides.{nat_tests}
-use Rattle.std.proofs.lemmas.List.{drop_at, get_or-take, get_or_append_left, length-take, length-take-le, take-append-drop, take_at, take_all}
+use Rattle.std.proofs.lemmas.List.{drop_at, get_or-take, get_or_append_left, length-take-le, take-append-drop, take_all}
 use Rattle.std.proofs.lemmas.Slice.Eq.{bytes_eq-Decides}
 use Rattle.avc_annexb.specs.Nal.{AreNals, IsNal, dirty_in, is_triple, or_last, triple_in}
 use Rattle.avc_annexb.specs.AnnexB.{annexb, started}
-use Rattle.ts_reader.specs.Payloads.{behind_unit, is_none, is_started, is_stream, unit_length, units_fill}
+use Rattle.avc_annexb.specs.Split.{split_of}
+use Rattle.avc_annexb.proofs.Splits.{again, found}
+use Rattle.ts_reader.specs.Payloads.{behind_unit, is_none, is_stream, unit_length}
 use Rattle.ts_reader.specs.Laws.{StreamOf}
 use Rattle.ts_reader.proofs.Units.{behind_shorter, fill_ends, fill_more, fill_stops, picks, unit_all, unit_found}
 
@@ -196,3 +198,11 @@ stream_written (n ∷ ns) a =
     let p = nal_parts n a.0 in
     let b = behind_is n (annexb ns) (unit_before n ns a.0) a.0.some p.1 in
     fill_more (started n ++ annexb ns) (annexb ns) (omega arith) b ∙ stream_written ns a.1
+
+-- what `split_annexb` reads of it
+pub stream_split : (b : List ℕ) → is_stream b ≡ true → (units : List (List ℕ)) × (split_of b ≡ Ok units)
+stream_split b e = let s = stream_read b e in (s.units, again s.units b s.nals s.bytes)
+
+pub split_stream : (b : List ℕ) (units : List (List ℕ)) → AreNals units → split_of b ≡ Ok units → is_stream b ≡ true
+split_stream b units a e =
+    let P : List ℕ → Type 0 = λ x. is_stream x ≡ true in subst P (sym (found b units e)) (stream_written units a)

@@ -1,6 +1,7 @@
-ghost use Rattle.std.specs.Prelude.{◌≡◌, ℕ, ◌+◌, true, List, ◌++◌, take, Option};
+ghost use Rattle.std.specs.Prelude.{◌≡◌, ℕ, ◌+◌, true, List, ◌++◌, take, Option, Ok};
 ghost use Rattle.avc_annexb.specs.Nal.{AreNals};
 ghost use Rattle.avc_annexb.specs.AnnexB.{annexb};
+ghost use Rattle.avc_annexb.specs.Split.{split_of};
 ghost use Rattle.ts_reader.specs.declared.unit.TsUnit.{TsUnit};
 ghost use Rattle.ts_reader.specs.declared.fail.TsFail.{TsFail};
 ghost use Rattle.ts_reader.specs.Mux.{Mux};
@@ -40,8 +41,10 @@ pub fn one_end()
 {}
 
 /// What is taken for a byte stream is NAL units, each behind a zero byte and a start code (ISO/IEC 14496-10, annex B), and
-/// each such byte stream is taken.
+/// each such byte stream is taken: it is what `split_annexb` reads.
 pub fn a_byte_stream_is_nal_units()
     ensures read { (b : List ℕ) → is_stream b ≡ true → StreamOf b }
     ensures written { (units : List (List ℕ)) → AreNals units → is_stream (annexb units) ≡ true }
+    ensures split { (b : List ℕ) → is_stream b ≡ true → (units : List (List ℕ)) × (split_of b ≡ Ok units) }
+    ensures only { (b : List ℕ) (units : List (List ℕ)) → AreNals units → split_of b ≡ Ok units → is_stream b ≡ true }
 {}
