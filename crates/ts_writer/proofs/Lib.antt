@@ -3,3 +3,4 @@ pub mod Sections
 pub mod Texts
 pub mod Worked
 pub mod Sizes
+pub mod Bounds

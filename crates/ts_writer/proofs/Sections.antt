@@ -1,5 +1,5 @@
 -- The sections of the tables, byte by byte
-use Rattle.std.proofs.Common.{◌≡◌, ℕ, ◌+◌, ◌*◌, ◌<◌, Bool, true, false, List, [], ◌∷◌, ◌++◌, refl, sym, ap, ◌∙◌, arith, append_assoc}
+use Rattle.std.proofs.Common.{◌≡◌, ℕ, ◌+◌, ◌*◌, ◌<◌, ◌≤◌, Bool, true, false, List, [], ◌∷◌, ◌++◌, refl, sym, ap, ◌∙◌, arith, append_assoc, length, length-append}
 use Rattle.std.specs.Prelude.{if◌then◌else◌}
 use Rattle.std.specs.Int.{bytes_high_first}
 use Rattle.bit_fields.specs.Fields.{field_bytes}
@@ -32,6 +32,22 @@ pmt_is true true version h = ap (λ (t : List ℕ). checked (t ++ (0xE1 ∷ 0 �
 pmt_is true false version h = ap (λ (t : List ℕ). checked (t ++ (0xE1 ∷ 0 ∷ 0xF0 ∷ 0 ∷ entries true false))) (front_is 18 version (omega arith) h)
 pmt_is false true version h = ap (λ (t : List ℕ). checked (t ++ (0xE1 ∷ 1 ∷ 0xF0 ∷ 0 ∷ entries false true))) (front_is 18 version (omega arith) h)
 pmt_is false false version h = ap (λ (t : List ℕ). checked (t ++ (0xE1 ∷ 1 ∷ 0xF0 ∷ 0 ∷ entries false false))) (front_is 13 version (omega arith) h)
+
+checked_length : (section : List ℕ) → length (checked section) ≡ length section + 4
+checked_length section = length-append section (bytes_high_first 4 (crc_of section)) ∙ omega arith
+
+map_length : (video audio : Bool) (len version : ℕ) → length (map_bytes video audio len version) ≤ 22
+map_length true true len version = omega arith
+map_length true false len version = omega arith
+map_length false true len version = omega arith
+map_length false false len version = omega arith
+
+pub map_short : (video audio : Bool) (version : ℕ) → version < 32 → length (pmt video audio version) ≤ 183
+map_short video audio version h =
+    let e = ap length (pmt_is video audio version h) in
+    let n = checked_length (map_bytes video audio (13 + 5 * count_of video audio) version) in
+    let m = map_length video audio (13 + 5 * count_of video audio) version in
+    omega (arith, e, n, m)
 
 len_is : (video audio : Bool) (len v a : ℕ) → v ≡ (if video then 5 else 0) → a ≡ (if audio then 5 else 0) → len ≡ 13 + v + a → len ≡ 13 + 5 * count_of video audio
 len_is true true len v a e f g = omega arith

@@ -1,10 +1,10 @@
 //! Units as PES packets.
-ghost use Rattle.std.specs.Prelude.{◌≡◌, ◌<◌, ◌≤◌, ◌*◌, ◌%◌, ◌^◌, ◌++◌, ℕ, List, [], ◌∷◌, length, drop, IfOk, IfErr, OnOk, OnErr};
+ghost use Rattle.std.specs.Prelude.{◌≡◌, ◌<◌, ◌*◌, ◌%◌, ◌^◌, ◌++◌, ℕ, List, [], ◌∷◌, length, drop, IfOk, IfErr, OnOk, OnErr};
 ghost use Rattle.std.specs.Prelude.{Result as AResult, Ok as AnOk};
 ghost use Rattle.av_unit.specs.Classes.{high as high_of, low as low_of, second_is};
 ghost use Rattle.avc_annexb.specs.AnnexB.{kept_of};
 ghost use Rattle.ts_writer.specs.Frames.{Frame, Gives, IsCause, IsFramed, framed_of, video_config, audio_config, shown, clock, delimiter, sets_if, access_unit, of_avc, some_text, picture, units_text, video_frame, some_raw, audio_frame};
-ghost use Rattle.ts_writer.specs.Held.{sets_length};
+ghost use Rattle.ts_writer.specs.Held.{IsWithin};
 
 use crate::Left;
 use crate::framed::Framed;
@@ -72,7 +72,7 @@ fn has_units(body: &[u8]) -> bool
 #[tactic(auto, using(std::proofs::lemmas::Bool::Decides::nat_tests), unfolding(crate::specs::Frames::video_config))]
 pub fn read_video(alloc: Global, body: &[u8]) -> Result<Avcc, Stop>
     ensures read { Gives result (video_config body.now) }
-    ensures short { IfOk result (λ c. sets_length c ≤ length body.now) }
+    ensures short { IfOk result (λ c. IsWithin (length body.now) c) }
 {
     if low(body) != AVC {
         return Err(Stop::Out(Left::Codec));

@@ -1,10 +1,10 @@
-ghost use Rattle.std.specs.Prelude.{◌≡◌, ◌≤◌, ℕ, List, length, ◌++◌, true, false, IfOk, IfSome, IsErr, OnOk, OnErr};
+ghost use Rattle.std.specs.Prelude.{◌≡◌, ◌≤◌, ◌+◌, ℕ, List, length, ◌++◌, true, false, IfOk, IfSome, IsErr, OnOk, OnErr};
 ghost use Rattle.av_unit.specs.declared.item.Item.TheVariants.{Unit as AUnit};
 ghost use Rattle.ts_writer.specs.Frames.{Gives, UnlessMemory, IsFramed, video_config, audio_config};
 ghost use Rattle.ts_writer.specs.Parts.{text_behind, with_parts};
 ghost use Rattle.ts_writer.specs.Text.{none_in_force, in_force, in_force_after, listed as listed_of, read_or_none, nothing_of, made_of, reading_of, reading, wrote_by, wrote_of, added, item_text};
 ghost use Rattle.ts_writer.specs.Known.{fresh, given};
-ghost use Rattle.ts_writer.specs.Held.{lengths, held_of};
+ghost use Rattle.ts_writer.specs.Held.{lengths, held_of, IsSmall, most_added};
 
 use crate::Wrote;
 use crate::framed::Framed;
@@ -45,7 +45,7 @@ impl InForce {
         ensures made { Gives result (made_of (nothing_of (video_config body.now))) }
         ensures set { UnlessMemory result (self.new ≡ record { video = read_or_none (video_config body.now); audio = self.old.audio }) }
         ensures fits { IfOk result (λ o. IfSome o IsFramed) }
-        ensures small { held_of self.new ≤ length body.now }
+        ensures small { length body.now ≤ 65536 → IsSmall self.new }
     {
         self.video = None;
         self.video = Some(read_video(alloc, body)?);
@@ -57,7 +57,7 @@ impl InForce {
         ensures made { Gives result (made_of (nothing_of (audio_config body.now))) }
         ensures set { UnlessMemory result (self.new ≡ record { video = self.old.video; audio = read_or_none (audio_config body.now) }) }
         ensures fits { IfOk result (λ o. IfSome o IsFramed) }
-        ensures small { held_of self.new ≡ held_of self.old }
+        ensures small { IsSmall self.old → IsSmall self.new }
     {
         self.audio = None;
         self.audio = Some(read_audio(body)?);
@@ -69,7 +69,7 @@ impl InForce {
         ensures made { Gives result (made_of (reading_of self.old unit.now.kind unit.now.time unit.now.body)) }
         ensures set { UnlessMemory result (self.new ≡ in_force_after self.old (AUnit unit.now)) }
         ensures fits { IfOk result (λ o. IfSome o IsFramed) }
-        ensures small { held_of self.old ≤ 65536 → held_of self.new ≤ 65536 }
+        ensures small { IsSmall self.old → IsSmall self.new }
     {
         let time = unit.time;
         let body = unit.body.as_slice();
@@ -97,7 +97,7 @@ fn write(
     ensures bytes { OnOk result (out.new ≡ out.old ++ text_behind text.old (added in_force.old item.now text.old)) }
     ensures wrote { IfOk result (λ w. w ≡ wrote_by (reading in_force.old item.now)) }
     ensures left { OnErr result ((more : List ℕ) × (out.new ≡ out.old ++ more)) }
-    ensures small { held_of in_force.old ≤ 65536 → held_of in_force.new ≤ 65536 }
+    ensures small { IsSmall in_force.old → IsSmall in_force.new }
 {
     match item {
         Item::Begin => {
@@ -123,7 +123,7 @@ fn write_unit(
     ensures bytes { OnOk result (out.new ≡ out.old ++ text_behind text.old (added in_force.old (AUnit unit.now) text.old)) }
     ensures wrote { IfOk result (λ w. w ≡ wrote_by (reading in_force.old (AUnit unit.now))) }
     ensures left { OnErr result ((more : List ℕ) × (out.new ≡ out.old ++ more)) }
-    ensures small { held_of in_force.old ≤ 65536 → held_of in_force.new ≤ 65536 }
+    ensures small { IsSmall in_force.old → IsSmall in_force.new }
 {
     let streams = in_force.listed();
     match in_force.read(alloc, unit) {
@@ -176,7 +176,8 @@ impl TsWriter {
     }
 
     /// Appends what an item adds to the text of those before it: a unit in packets, and before it both tables where they
-    /// are due. Units of other codecs are left out, and those that can't be read, or without a configuration.
+    /// are due. Units of other codecs are left out, and those that can't be read, or without a configuration. A unit adds
+    /// four times its bytes and 131,072 at most.
     ///
     /// Tables stand before the first unit, where the list of streams has changed, before each key picture, and without
     /// pictures before each 33rd unit of sound. A writer that wanted memory wants it from then on; what `out` held is the
@@ -186,6 +187,7 @@ impl TsWriter {
         ensures known { OnOk result (self.new ≡ given self.old item.now) }
         ensures bytes { OnOk result (out.new ≡ out.old ++ item_text self.old.past item.now) }
         ensures wrote { IfOk result (λ w. w ≡ wrote_of self.old.past item.now) }
+        ensures most { OnOk result (length out.new ≤ length out.old + most_added item.now) }
         ensures err { OnErr result ((self.new.broken ≡ true) × (self.new.past ≡ self.old.past) × ((more : List ℕ) × (out.new ≡ out.old ++ more))) }
         ensures again { self.old.broken ≡ true → IsErr result × (out.new ≡ out.old) }
     {
