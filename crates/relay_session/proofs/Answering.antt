@@ -1,12 +1,17 @@
 -- What is answered is what the dialogue says
-use Rattle.std.proofs.Common.{◌≡◌, ◌⊎◌, inl, inr, ℕ, ◌<◌, ◌≤◌, ◌^◌, true, Bool, nat_eq, nat_le, ◌&&◌, List, [], ◌∷◌, ◌++◌, length, Option, Some, None, Result, Ok, Err, refl, sym, ap, ◌∙◌, subst, arith, append-nil}
+use Rattle.std.proofs.Common.{◌≡◌, ◌⊎◌, inl, inr, ℕ, true, Bool, nat_eq, nat_le, ◌&&◌, List, [], ◌∷◌, length, Option, Some, Result, Ok, Err, refl, sym, ap, ◌∙◌, arith, append-nil}
 use Rattle.std.specs.Prelude.{All}
 use Rattle.std.proofs.lemmas.List.Elements.{All-head, All-tail}
 use Rattle.std.proofs.lemmas.Bool.Decides.{nat_tests}
-use Rattle.relay_base.specs.Numbers.{be32_of}
 use Rattle.chunk_wire.specs.declared.message.Message.{Message}
+use Rattle.ack_window.specs.Controls.{message_of}
+use Rattle.ack_window.specs.declared.control.Control.TheVariants as control
+use Rattle.av_unit.specs.declared.item.Item.TheVariants as item
+use Rattle.rtmp_command.specs.declared.answer.Answer.{Answer}
+use Rattle.rtmp_command.proofs.Lengths.{body_of_short}
+use Rattle.command_dialog.specs.Dialog.{answers, shown}
 use Rattle.chunk_writer.specs.Rule.{is_written}
-use Rattle.chunk_writer.specs.Written.{IsWritable, after_all, sets_size, written}
+use Rattle.chunk_writer.specs.Written.{IsWritable, after_all, written}
 use Rattle.command_dialog.specs.declared.types.Ask.{Ask}
 use Rattle.command_dialog.specs.declared.types.Grant.{Grant}
 use Rattle.command_dialog.specs.declared.types.Meant.{Meant}
@@ -15,17 +20,17 @@ use Rattle.command_dialog.specs.declared.types.DialogFail.TheVariants as fail
 use Rattle.command_dialog.specs.Dialog as dialog
 use Rattle.command_dialog.specs.Dialog.{does}
 use Rattle.command_dialog.specs.Meaning.{meaning}
-use Rattle.command_dialog.specs.State.{State, Step}
+use Rattle.command_dialog.specs.State.{State}
 use Rattle.command_dialog.specs.Writable.{IsSaid}
 use Rattle.relay_session.specs.declared.end.End.{End}
 use Rattle.relay_session.specs.declared.end.End.TheVariants as end
-use Rattle.relay_session.specs.Owing.{AreWritable, Owing, Says, pending}
+use Rattle.relay_session.specs.Owing.{AreWritable, Owing, Says, Takes, pending}
 use Rattle.relay_session.specs.Session.{ended_by}
 
 -- nothing is said
 pub says_none : (o : Owing) → Says o [] o
 unfolding written after_all
-says_none o = record { bytes = sym (append-nil (pending o)); writer = refl }
+says_none o = record { bytes = sym (append-nil (pending o)); writer = refl; others = omega arith }
 
 kind_written : (k : ℕ) → (k ≡ 1) ⊎ ((k ≡ 4) ⊎ ((k ≡ 5) ⊎ ((k ≡ 6) ⊎ (k ≡ 20)))) → is_written k ≡ true
 kind_written k (inl e) = rw e refl
@@ -59,3 +64,21 @@ does_is desk s m meant g e is = rw (e, is) refl
 pub end_by : (last : ℕ) (mm : Result Meant DialogFail) (e : DialogFail) (r : End) → Some r ≡ ended_by last (Err e) → (e ≡ fail.OutOfMemory) ⊎ (mm ≡ Err e) → (r ≡ end.OutOfMemory) ⊎ (ended_by last mm ≡ Some r)
 end_by last mm e r is (inl o) = inl (let h : Some r ≡ Some end.OutOfMemory = is ∙ ap (λ (x : DialogFail). ended_by last (Err x)) o in cc)
 end_by last mm e r is (inr o) = inr (ap (ended_by last) o ∙ sym is)
+
+-- what is shown of a marker can be written
+event_can : (event id : ℕ) → IsWritable (message_of (control.User event id))
+event_can event id = record { kind = refl; short = omega arith; some = λ e. absurd (cc); most = λ e. absurd (cc) }
+
+answer_can : (id : ℕ) (a : Answer) → IsWritable (answers id a)
+answer_can id a = record { kind = refl; short = omega (arith, body_of_short a); some = λ e. absurd (cc); most = λ e. absurd (cc) }
+
+pub shown_can_begin : (id : ℕ) → AreWritable (shown id item.Begin)
+shown_can_begin id = (event_can 0 id, (answer_can id _, tt))
+
+pub shown_can_end : (id : ℕ) → AreWritable (shown id item.End)
+shown_can_end id = (event_can 1 id, (answer_can id _, tt))
+
+-- nothing is shown
+pub takes_none : (o : Owing) → Takes o [] o
+unfolding written after_all
+takes_none o = record { bytes = sym (append-nil (pending o)); writer = refl; others = omega arith }

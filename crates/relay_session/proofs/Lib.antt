@@ -1,6 +1,12 @@
 pub mod Filling
 pub mod Pending
 pub mod Answering
+pub mod Placing
 pub mod Living
+pub mod Stopping
+pub mod Going
+pub mod Turning
+pub mod Rounds
+pub mod Whole
 pub mod SeatStanding
 pub mod SeatOwn

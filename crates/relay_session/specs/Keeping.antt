@@ -1,9 +1,14 @@
 -- What the fields of a session keep true
-use Rattle.std.specs.Prelude.{◌≡◌, ◌-◌, ◌<◌, ◌≤◌, ◌++◌, ℕ, List, length, take, drop, None}
+use Rattle.std.specs.Prelude.{◌≡◌, ◌-◌, ◌^◌, ◌<◌, ◌≤◌, ◌++◌, ℕ, List, length, min, take, drop, Option, Some, None}
 use Rattle.chunk_reader.specs.Sound.{IsRead}
+use Rattle.chunk_wire.specs.declared.message.Message.{Message}
 use Rattle.command_dialog.specs.declared.types.Ask.{Ask}
 use Rattle.command_dialog.specs.declared.types.Grant.{Grant}
 use Rattle.command_dialog.specs.State.{State}
+use Rattle.command_dialog.specs.declared.types.Phase.TheVariants.{Idle}
+use Rattle.stream_model.specs.declared.calls.Entry.{Entry}
+use Rattle.rtmp_handshake.specs.Answer.{bad_version}
+use Rattle.session_owed.specs.Owed.{out}
 use Rattle.session_owed.specs.Standing.{Past, Keeps, Stands}
 use Rattle.session_owed.specs.Talk.{hand_bytes}
 use Rattle.relay_session.specs.Owing.{pending}
@@ -23,23 +28,39 @@ keeps_of c = record { pending = pending c.outgoing; writer = c.outgoing.writer; 
 abbrev pub StandsBefore : (Ask → Grant) → Core → Type 0
 StandsBefore desk c = Stands (session c.who c.window desk) (past_of c) (keeps_of c)
 
--- its parts have read the bytes that were fed, and none has failed
+-- no call waits, and no role is active
+pub record IsIdle (call : Option Entry) (s : State) : Type 0 where
+  pub kept : call ≡ None
+  pub phase : s.phase ≡ Idle
+
+-- how many of n bytes that are sent after these are after the handshake's answer
+abbrev pub after_greeting : List ℕ → ℕ → ℕ
+after_greeting sent n = n - min n (hand_bytes - length sent)
+
+-- its parts have read the bytes that were fed, none has failed, the bytes sent are counted, and before it has a place no call
+-- waits and no role is active
 pub record IsSound (c : Core) : Type 0 where
   pub hand : c.hand ≡ record { fed = take hand_bytes c.x; failed = None }
+  pub version : bad_version c.x ≡ None
+  pub early : length c.x < hand_bytes → c.place ≡ None
+  pub placed : c.place ≡ None → IsIdle c.kept c.dialog
   pub fed : c.reader.fed ≡ drop hand_bytes c.x
   pub counted : c.fed ≡ length c.x
   pub taken : c.inbound.taken ≡ length c.x - hand_bytes
   pub reads : c.reader.failed ≡ None
   pub read : IsRead c.reader.max c.reader.fed c.reader.given
   pub short : c.reader.max ≤ 4194304
+  pub greeting : c.greeting ≡ hand_bytes - length c.sent
+  pub sent : c.outbound.sent ≡ min (length c.sent - hand_bytes) (2 ^ 64 - 1)
+  pub others : c.outgoing.others ≤ length (pending c.outgoing)
 
--- bytes of the piece were fed, and nothing else was received, sent or called
-pub record IsFed (old : Core) (piece : List ℕ) (used : ℕ) (new : Core) : Type 0 where
-  pub within : used ≤ length piece
-  pub some : 0 < used
-  pub x : new.x ≡ old.x ++ take used piece
-  pub sent : new.sent ≡ old.sent
-  pub calls : new.calls ≡ old.calls
-  pub who : new.who ≡ old.who
-  pub window : new.window ≡ old.window
-  pub max : new.reader.max ≡ old.reader.max
+-- with this call waiting
+abbrev pub waiting : Core → Entry → Core
+waiting c e = record c { kept = Some e }
+
+-- of a session that has ended: what it sent begins what it owes before this desk for the bytes fed and its calls
+pub record IsOver (desk : Ask → Grant) (c : Core) : Type 0 where
+  pub ms : List (ℕ × Message)
+  pub read : IsRead c.reader.max (drop hand_bytes c.x) ms
+  pub more : List ℕ
+  pub owes : c.sent ++ more ≡ out (session c.who c.window desk) c.x ms c.calls

@@ -1,6 +1,10 @@
 pub mod Owing
 pub mod Session
 pub mod Keeping
+pub mod Feeding
 pub mod SeatVisits
 pub mod SeatState
 pub mod SeatOwn
+pub mod Places
+pub mod Turns
+pub mod SessionState

@@ -2,11 +2,17 @@
 use Rattle.std.specs.Prelude.{ℕ, List, [], ◌∷◌, Option, Some, None, option_map, Result, Ok, Err}
 use Rattle.chunk_wire.specs.declared.message.Message.{Message}
 use Rattle.ack_window.specs.declared.control.Control.{Control}
+use Rattle.ack_window.specs.declared.control.Control.TheVariants.{ChunkSize, Abort, Acknowledgement, User, Window, Bandwidth}
 use Rattle.ack_window.specs.declared.control.BadControl.{BadControl}
 use Rattle.ack_window.specs.Controls.{control_in, message_of, ping_answer_of}
+use Rattle.ack_window.specs.Outbound.{OutWindow, out_acked, out_set}
+use Rattle.av_unit.specs.declared.item.Item.{Item}
 use Rattle.stream_model.specs.declared.replies.Reply.{Reply}
+use Rattle.stream_model.specs.declared.replies.Reply.TheVariants as reply
 use Rattle.command_dialog.specs.declared.types.Ask.{Ask}
 use Rattle.command_dialog.specs.declared.types.Grant.{Grant}
+use Rattle.command_dialog.specs.declared.types.Act.{Act}
+use Rattle.command_dialog.specs.declared.types.Act.TheVariants as act
 use Rattle.command_dialog.specs.Dialog.{call_of, shows}
 use Rattle.command_dialog.specs.Dialog as dialog
 use Rattle.command_dialog.specs.Meaning.{meaning}
@@ -71,3 +77,57 @@ session who window desk = record { who = who; window = window; start = fresh win
 abbrev pub entry_by : ℕ → ℕ → Option Call → Option Entry
 entry_by who at None = None
 entry_by who at (Some call) = Some (record { who = who; at = at; call = call })
+
+-- ---- what a message does besides
+
+-- the outbound window after a control: an Acknowledgement is heard, and a Set Peer Bandwidth sets it (5.4.3, 5.4.5)
+abbrev pub outbound_after : OutWindow → Control → OutWindow
+outbound_after o (Acknowledgement count) = out_acked o count
+outbound_after o (Bandwidth size limit) = out_set o size limit
+outbound_after o (ChunkSize size) = o
+outbound_after o (Abort id) = o
+outbound_after o (User event value) = o
+outbound_after o (Window size) = o
+
+abbrev pub outbound_in : OutWindow → Result (Option Control) BadControl → OutWindow
+outbound_in o (Ok (Some control)) = outbound_after o control
+outbound_in o (Ok None) = o
+outbound_in o (Err e) = o
+
+-- THE OUTBOUND WINDOW after a message
+unfoldable pub outbound_by : OutWindow → Message → OutWindow
+outbound_by o m = outbound_in o (control_in m)
+
+-- the place that a Begin or Join names, or the one before
+abbrev pub place_of : Option ℕ → Option Act → Option ℕ
+place_of place None = place
+place_of place (Some (act.Begin p)) = Some p
+place_of place (Some (act.Join p)) = Some p
+place_of place (Some (act.Push unit)) = place
+place_of place (Some act.End) = place
+place_of place (Some (act.Leave player)) = place
+
+abbrev pub place_in : (Ask → Grant) → State → Message → Option ℕ → Result (Option Control) BadControl → Option ℕ
+place_in desk s m place (Ok None) = place_of place (dialog.does desk s m).makes
+place_in desk s m place (Ok (Some control)) = place
+place_in desk s m place (Err e) = place
+
+-- THE PLACE of the session's calls after a message
+unfoldable pub place_by : (Ask → Grant) → State → Option ℕ → Message → Option ℕ
+place_by desk s place m = place_in desk s m place (control_in m)
+
+-- the item that a reply brings
+abbrev pub item_in : Reply → Option Item
+item_in (reply.Sent from n item) = Some item
+item_in (reply.Began n) = None
+item_in (reply.InUse by) = None
+item_in (reply.Pushed n) = None
+item_in (reply.NotPublisher live) = None
+item_in (reply.Ended n) = None
+item_in (reply.Joined player from) = None
+item_in reply.Full = None
+item_in reply.NotPlayer = None
+item_in (reply.Skip from to) = None
+item_in (reply.NotYet end) = None
+item_in (reply.Left player) = None
+item_in (reply.Counts began pushed ended joined skips) = None

@@ -1,18 +1,20 @@
-ghost use Rattle.std.specs.Prelude.{◌≡◌, ◌≤◌, ◌⊎◌, length, option_map, None, Some, Err, OnOk, IfOk, IfErr};
+ghost use Rattle.std.specs.Prelude.{◌≡◌, ◌≤◌, ◌⊎◌, [], length, option_map, None, Some, Err, OnOk, IfOk, IfErr};
+ghost use Rattle.std.specs.Option.{option_map_or};
 ghost use Rattle.ack_window.specs.Controls.{ping_answer_of};
 ghost use Rattle.command_dialog.specs.Dialog as dialog;
-ghost use Rattle.command_dialog.specs.Dialog.{call_of};
+ghost use Rattle.command_dialog.specs.Dialog.{call_of, shown};
+ghost use Rattle.command_dialog.specs.Dialog.{does as dialog_does};
 ghost use Rattle.command_dialog.specs.Meaning.{meaning};
 ghost use Rattle.session_owed.specs.Acks.{window_by, windowed};
-ghost use Rattle.relay_session.specs.Owing.{Says};
-ghost use Rattle.relay_session.specs.Session.{commands, does, ended_by, entry_by, pongs, refused, told};
+ghost use Rattle.relay_session.specs.Owing.{Says, Shows, Takes, pending};
+ghost use Rattle.relay_session.specs.Session.{commands, does, ended_by, entry_by, item_in, outbound_after, outbound_by, place_by, place_of, pongs, refused, told};
 ghost use Rattle.relay_session.specs.declared.end.End.TheVariants as end;
 
 use crate::{Desk, End, Outgoing};
-use ack_window::{Control, Inbound, control_message, control_of, ping_answer};
-use av_unit::OutOfMemory;
+use ack_window::{Control, Inbound, Outbound, control_message, control_of, ping_answer};
+use av_unit::{Item, OutOfMemory};
 use chunk_wire::Message;
-use command_dialog::{Act, Dialog, DialogFail, Grant, Meant};
+use command_dialog::{Act, Dialog, DialogFail, Grant, Meant, begin_messages, end_messages};
 use std::alloc::Global;
 use stream_model::{Entry, Reply};
 
@@ -27,17 +29,18 @@ fn end_of(fail: DialogFail, at: u64) -> End
     }
 }
 
-// Sets the inbound window where a control says so.
-fn heed(inbound: &mut Inbound, control: Control)
-    ensures { inbound.new ≡ record { window = windowed inbound.old.window control; taken = inbound.old.taken } }
+// Sets the windows where a control says so, and heeds an acknowledgement.
+fn heed(inbound: &mut Inbound, outbound: &mut Outbound, control: Control)
+    ensures inbound { inbound.new ≡ record { window = windowed inbound.old.window control; taken = inbound.old.taken } }
+    ensures outbound { outbound.new ≡ outbound_after outbound.old control }
 {
     match control {
         Control::Window(size) => inbound.set(size),
+        Control::Acknowledgement(count) => outbound.acked(count),
+        Control::Bandwidth { size, limit } => outbound.set(size, limit),
         Control::ChunkSize(_) => {}
         Control::Abort(_) => {}
-        Control::Acknowledgement(_) => {}
         Control::User { event: _, value: _ } => {}
-        Control::Bandwidth { size: _, limit: _ } => {}
     }
 }
 
@@ -55,6 +58,27 @@ fn answer_control(
             let message = control_message(alloc, pong)?;
             outgoing.say(&message)
         }
+    }
+}
+
+/// The call that a message asks for, and the place of the session's calls after it.
+#[derive(Drop)]
+pub(crate) struct Asked {
+    pub kept: Option<Entry>,
+    pub place: Option<u32>,
+}
+
+// The place that an act names, or the one before.
+fn place_after(place: Option<u32>, act: &Option<Act>) -> Option<u32>
+    ensures { result ≡ place_of place act.now }
+{
+    match act {
+        None => place,
+        Some(Act::Begin(at)) => Some(*at),
+        Some(Act::Join(at)) => Some(*at),
+        Some(Act::Push(_)) => place,
+        Some(Act::End) => place,
+        Some(Act::Leave(_)) => place,
     }
 }
 
@@ -93,7 +117,7 @@ fn answer_command<D: Desk>(
     requires short { length message.body ≤ 4194304 }
     ensures state { OnOk result (dialog.new ≡ (commands (D.grants desk.now) dialog.old message).state) }
     ensures said { OnOk result (Says outgoing.old (commands (D.grants desk.now) dialog.old message).says outgoing.new) }
-    ensures makes { IfOk result (λ act. option_map call_of act ≡ (commands (D.grants desk.now) dialog.old message).makes) }
+    ensures makes { IfOk result (λ act. act ≡ (dialog_does (D.grants desk.now) dialog.old message).makes) }
     ensures ok { OnOk result (ended_by last (meaning dialog.old message) ≡ None) }
     ensures err { IfErr result (λ e. (e ≡ end.OutOfMemory) ⊎ (ended_by last (meaning dialog.old message) ≡ Some e)) }
 {
@@ -112,41 +136,46 @@ fn answer_command<D: Desk>(
     }
 }
 
-/// Does what a message says, where its last byte is at the place `last`. What it is answered is to be sent, the window
-/// that it sets holds from the next byte on, and the call that it asks for is given, made at the count `at`.
-#[tactic(auto, unfolding(crate::specs::Session::does, crate::specs::Session::refused, session_owed::specs::Acks::window_by))]
+/// Does what a message says, where its last byte is at the place `last`. What it is answered is to be sent, the windows
+/// that it sets hold from the next byte on, and the call that it asks for is given, made at the count `at`.
+#[tactic(auto, unfolding(crate::specs::Session::does, crate::specs::Session::refused, crate::specs::Session::outbound_by, crate::specs::Session::place_by, session_owed::specs::Acks::window_by))]
 pub(crate) fn answer<D: Desk>(
     alloc: Global,
     desk: &D,
     who: u64,
+    place: Option<u32>,
     at: u64,
     last: u64,
     message: Message,
     dialog: &mut Dialog,
     inbound: &mut Inbound,
+    outbound: &mut Outbound,
     outgoing: &mut Outgoing,
-) -> Result<Option<Entry>, End>
+) -> Result<Asked, End>
     requires short { length message.body ≤ 4194304 }
     ensures state { OnOk result (dialog.new ≡ (does (D.grants desk.now) dialog.old message).state) }
     ensures window { OnOk result (inbound.new ≡ record { window = window_by inbound.old.window message; taken = inbound.old.taken }) }
+    ensures outbound { OnOk result (outbound.new ≡ outbound_by outbound.old message) }
     ensures said { OnOk result (Says outgoing.old (does (D.grants desk.now) dialog.old message).says outgoing.new) }
-    ensures makes { IfOk result (λ kept. kept ≡ entry_by who at (does (D.grants desk.now) dialog.old message).makes) }
+    ensures makes { IfOk result (λ asked. asked.kept ≡ entry_by who at (does (D.grants desk.now) dialog.old message).makes) }
+    ensures place { IfOk result (λ asked. asked.place ≡ place_by (D.grants desk.now) dialog.old place message) }
     ensures ok { OnOk result (refused last dialog.old message ≡ None) }
     ensures err { IfErr result (λ e. (e ≡ end.OutOfMemory) ⊎ (refused last dialog.old message ≡ Some e)) }
 {
     match control_of(&message) {
         Err(_) => Err(End::BadControl { at: last }),
         Ok(Some(control)) => {
-            heed(inbound, control);
+            heed(inbound, outbound, control);
             match answer_control(alloc, control, outgoing) {
-                Ok(()) => Ok(None),
+                Ok(()) => Ok(Asked { kept: None, place }),
                 Err(_) => Err(End::OutOfMemory),
             }
         }
         Ok(None) => {
             let act = answer_command(alloc, desk, last, message, dialog, outgoing)?;
+            let place = place_after(place, &act);
             match entry(alloc, who, at, act) {
-                Ok(kept) => Ok(kept),
+                Ok(kept) => Ok(Asked { kept, place }),
                 Err(_) => Err(End::OutOfMemory),
             }
         }
@@ -167,5 +196,61 @@ pub(crate) fn hear(
     match dialog.answered(alloc, reply) {
         Err(_) => Err(OutOfMemory),
         Ok(list) => outgoing.say_all(list.as_slice()),
+    }
+}
+
+// The item that a reply brings.
+fn item_of(reply: Reply) -> Option<Item>
+    ensures { result ≡ item_in reply }
+{
+    match reply {
+        Reply::Sent { item, .. } => Some(item),
+        Reply::Began { .. } => None,
+        Reply::InUse { .. } => None,
+        Reply::Pushed { .. } => None,
+        Reply::NotPublisher { .. } => None,
+        Reply::Ended { .. } => None,
+        Reply::Joined { .. } => None,
+        Reply::Full => None,
+        Reply::NotPlayer => None,
+        Reply::Skip { .. } => None,
+        Reply::NotYet { .. } => None,
+        Reply::Left { .. } => None,
+        Reply::Counts { .. } => None,
+    }
+}
+
+// What a player on that message stream is shown of an item is to be sent.
+fn show(alloc: Global, id: u32, item: Item, outgoing: &mut Outgoing) -> Result<(), OutOfMemory>
+    requires { pending outgoing.old ≡ [] }
+    ensures { OnOk result (Shows outgoing.old (shown id item) outgoing.new) }
+{
+    match item {
+        Item::Unit(unit) => outgoing.show_unit(alloc, id, unit),
+        Item::Begin => {
+            let list = begin_messages(alloc, id)?;
+            outgoing.show_all(alloc, list.as_slice())
+        }
+        Item::End => {
+            let list = end_messages(alloc, id)?;
+            outgoing.show_all(alloc, list.as_slice())
+        }
+    }
+}
+
+/// Does what the reply to a Take makes, for a player on that message stream who has nothing to be sent: what the player is
+/// shown of the item is to be sent. A reply that brings no item owes nothing.
+pub(crate) fn take_in(
+    alloc: Global,
+    id: u32,
+    reply: Reply,
+    outgoing: &mut Outgoing,
+) -> Result<(), OutOfMemory>
+    requires { pending outgoing.old ≡ [] }
+    ensures { OnOk result (Takes outgoing.old (option_map_or (shown id) (item_in reply) []) outgoing.new) }
+{
+    match item_of(reply) {
+        None => Ok(()),
+        Some(item) => show(alloc, id, item, outgoing),
     }
 }

@@ -1,13 +1,14 @@
 use crate::Outgoing;
-use ack_window::Inbound;
+use ack_window::{Inbound, Outbound};
 use chunk_reader::Reader;
 use command_dialog::Dialog;
 use past::{Flow, Pair};
 use rtmp_handshake::Hand;
 use stream_model::{Entry, Reply};
 
-/// What a session keeps of its peer's bytes and of what it owes. `x`, the bytes fed, `calls`, its own calls with their
-/// replies, and `sent`, the bytes sent, are of no bytes.
+/// What a session keeps of its peer's bytes and of what it owes. `place` is the place of its calls, `greeting` how many
+/// bytes of the handshake's answer aren't sent yet. `x`, the bytes fed, `calls`, its own calls with their replies, and
+/// `sent`, the bytes sent, are of no bytes.
 #[derive(Drop)]
 pub struct Core {
     pub who: u64,
@@ -15,9 +16,12 @@ pub struct Core {
     pub hand: Hand,
     pub reader: Reader,
     pub inbound: Inbound,
+    pub outbound: Outbound,
+    pub greeting: u64,
     pub dialog: Dialog,
     pub outgoing: Outgoing,
     pub kept: Option<Entry>,
+    pub place: Option<u32>,
     pub fed: u64,
     pub x: Flow<u8>,
     pub calls: Flow<Pair<Entry, Reply>>,

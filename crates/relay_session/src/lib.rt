@@ -4,16 +4,24 @@
 #![tactic(auto)]
 
 mod answers;
+mod body;
+mod calls;
 mod core_fields;
 mod desk;
 mod end;
+mod input;
 mod outgoing;
+mod refill;
 mod seat;
 mod seat_answers;
 mod seat_law;
 #[cfg(test)]
 mod seat_tests;
+mod session;
+mod six_steps;
 mod steps;
+mod take_input;
+mod turn;
 mod unit_in_hand;
 
 pub use core_fields::Core;
@@ -23,4 +31,6 @@ pub use outgoing::Outgoing;
 pub use seat::Seat;
 pub use seat_answers::{Active, Leaving, Made};
 pub use seat_law::own_calls_law;
-pub use steps::{chunk_piece, hand_piece, hear_reply, note_sent};
+pub use session::Session;
+pub use steps::{Part, chunk_piece, hand_piece, hear_item, hear_reply, new_core, note_sent};
+pub use turn::Turn;

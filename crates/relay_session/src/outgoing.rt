@@ -1,8 +1,8 @@
-ghost use Rattle.std.specs.Prelude.{◌≡◌, ◌≤◌, ◌⊎◌, ◌∷◌, ◌++◌, [], List, length, take, drop, OnOk};
+ghost use Rattle.std.specs.Prelude.{◌≡◌, ◌≤◌, ◌+◌, ◌⊎◌, ◌∷◌, ◌++◌, [], length, min, drop, OnOk};
 ghost use Rattle.chunk_wire.specs.declared.message.Message.{Message};
-ghost use Rattle.chunk_writer.specs.Written.{IsWritable};
+ghost use Rattle.chunk_writer.specs.Written.{IsWritable, after_all, written};
 ghost use Rattle.command_dialog.specs.Dialog.{unit_message};
-ghost use Rattle.relay_session.specs.Owing.{AreWritable, Says, nothing, pending};
+ghost use Rattle.relay_session.specs.Owing.{AreWritable, Says, Shows, nothing, pending};
 
 use crate::unit_in_hand::UnitInHand;
 use av_unit::{Bytes, OutOfMemory, UnitArc};
@@ -17,12 +17,14 @@ pub(crate) const AT_ONCE: usize = 16_384;
 /// What a session is to send: bytes that are encoded, the rest of a unit that is encoded as it is sent, and the bytes
 /// that stand after it.
 ///
-/// Contracts see the bytes that are encoded, those that stand after them, and the writer after all.
+/// Contracts see the bytes that are encoded, those that stand after them, the writer after all, and how many of the last
+/// bytes are of no item that was taken.
 #[derive(Drop)]
 pub struct Outgoing {
     writer: Writer,
     first: Bytes,
     offset: usize,
+    item: usize,
     hand: Option<UnitInHand>,
     later: Bytes,
 }
@@ -32,9 +34,24 @@ impl Model for Outgoing {
 
     ghost Value = { Owing };
 
-    ghost view = { λ o. owing o.first o.offset o.hand o.later o.writer };
+    ghost view = { λ o. owing o.first o.offset o.item o.hand o.later o.writer };
 
-    ghost invariant = { λ o. IsOwing o.first o.offset o.hand o.later };
+    ghost invariant = { λ o. IsOwing o.first o.offset o.item o.hand o.later };
+}
+
+// Writes messages in turn.
+fn write_all(writer: &mut Writer, messages: &[Message], out: &mut Bytes) -> Result<(), OutOfMemory>
+    requires { AreWritable messages.now }
+    ensures writer { OnOk result (writer.new ≡ after_all writer.old messages.now) }
+    ensures bytes { OnOk result (out.new ≡ out.old ++ written writer.old messages.now) }
+    ensures grows { length out.old ≤ length out.new }
+{
+    let mut left = messages;
+    while let [message, rest @ ..] = left {
+        writer.put_message(message, out)?;
+        left = rest;
+    }
+    Ok(())
 }
 
 impl Outgoing {
@@ -46,6 +63,7 @@ impl Outgoing {
             writer: Writer::new(alloc),
             first: Bytes::new(alloc),
             offset: 0,
+            item: 0,
             hand: None,
             later: Bytes::new(alloc),
         }
@@ -55,6 +73,7 @@ impl Outgoing {
     pub fn append(&mut self, bytes: &[u8]) -> Result<(), OutOfMemory>
         ensures bytes { OnOk result (pending self.new ≡ pending self.old ++ bytes.now) }
         ensures writer { OnOk result (self.new.writer ≡ self.old.writer) }
+        ensures others { OnOk result (self.new.others ≡ self.old.others + length bytes.now) }
     {
         match self.hand {
             None => self.first.append(bytes),
@@ -78,25 +97,60 @@ impl Outgoing {
         requires { AreWritable messages.now }
         ensures { OnOk result (Says self.old messages.now self.new) }
     {
-        let mut left = messages;
-        while let [message, rest @ ..] = left {
-            self.say(message)?;
-            left = rest;
+        match self.hand {
+            None => write_all(&mut self.writer, messages, &mut self.first),
+            Some(_) => write_all(&mut self.writer, messages, &mut self.later),
         }
+    }
+
+    /// Appends the messages of an item, where nothing is pending.
+    pub fn show_all(&mut self, alloc: Global, messages: &[Message]) -> Result<(), OutOfMemory>
+        requires nothing { pending self.old ≡ [] }
+        requires writable { AreWritable messages.now }
+        ensures { OnOk result (Shows self.old messages.now self.new) }
+    {
+        let mut first = Bytes::new(alloc);
+        write_all(&mut self.writer, messages, &mut first)?;
+        self.offset = 0;
+        self.item = first.len();
+        self.first = first;
+        self.hand = None;
+        self.later = Bytes::new(alloc);
         Ok(())
     }
 
     /// Appends the message that a unit is on a message stream, where nothing is pending. The unit stays shared, and is
     /// encoded as it is sent.
-    pub fn say_unit(&mut self, alloc: Global, stream: u32, unit: UnitArc) -> Result<(), OutOfMemory>
+    pub fn show_unit(
+        &mut self,
+        alloc: Global,
+        stream: u32,
+        unit: UnitArc,
+    ) -> Result<(), OutOfMemory>
         requires { pending self.old ≡ [] }
-        ensures { OnOk result (Says self.old (unit_message stream unit ∷ []) self.new) }
+        ensures { OnOk result (Shows self.old (unit_message stream unit ∷ []) self.new) }
     {
         let hand = UnitInHand::begin(&mut self.writer, stream, unit)?;
         self.first = Bytes::new(alloc);
         self.offset = 0;
+        self.item = 0;
         self.hand = Some(hand);
         self.later = Bytes::new(alloc);
+        Ok(())
+    }
+
+    // Lets go of the bytes that were sent, where they are as many as are sent at once.
+    fn trim(&mut self, alloc: Global) -> Result<(), OutOfMemory>
+        ensures { self.new ≡ self.old }
+    {
+        if self.offset < AT_ONCE {
+            return Ok(());
+        }
+        let mut rest = Bytes::new(alloc);
+        rest.append(&self.first.as_slice()[self.offset..])?;
+        self.item = self.item.saturating_sub(self.offset);
+        self.first = rest;
+        self.offset = 0;
         Ok(())
     }
 
@@ -104,6 +158,18 @@ impl Outgoing {
     pub fn fill(&mut self, alloc: Global) -> Result<(), OutOfMemory>
         ensures bytes { OnOk result (pending self.new ≡ pending self.old) }
         ensures writer { OnOk result (self.new.writer ≡ self.old.writer) }
+        ensures others { OnOk result (self.new.others ≡ self.old.others) }
+        ensures filled { OnOk result ((16384 ≤ length self.new.ready) ⊎ (self.new.rest ≡ [])) }
+    {
+        self.trim(alloc)?;
+        self.encode(alloc)
+    }
+
+    // The same, without letting go of anything.
+    fn encode(&mut self, alloc: Global) -> Result<(), OutOfMemory>
+        ensures bytes { OnOk result (pending self.new ≡ pending self.old) }
+        ensures writer { OnOk result (self.new.writer ≡ self.old.writer) }
+        ensures others { OnOk result (self.new.others ≡ self.old.others) }
         ensures filled { OnOk result ((16384 ≤ length self.new.ready) ⊎ (self.new.rest ≡ [])) }
     {
         match &mut self.hand {
@@ -111,11 +177,22 @@ impl Outgoing {
             Some(hand) => hand.fill(&mut self.first, self.offset, AT_ONCE)?,
         }
         if self.first.len() - self.offset < AT_ONCE {
+            self.item = self.first.len();
             let later = std::mem::replace(&mut self.later, Bytes::new(alloc));
             self.first.append(later.as_slice())?;
             self.hand = None;
         }
         Ok(())
+    }
+
+    /// How many of the last bytes that are pending are of no item that was taken.
+    pub fn others(&self) -> usize
+        ensures { result ≡ self.now.others }
+    {
+        match self.hand {
+            None => self.first.len() - self.offset.max(self.item),
+            Some(_) => self.later.len(),
+        }
     }
 
     /// The bytes that are encoded.
@@ -131,12 +208,14 @@ impl Outgoing {
         ensures ready { self.new.ready ≡ drop count self.old.ready }
         ensures rest { self.new.rest ≡ self.old.rest }
         ensures writer { self.new.writer ≡ self.old.writer }
+        ensures others { self.new.others ≡ min self.old.others (length (pending self.new)) }
     {
         if count < self.first.len() - self.offset {
             self.offset += count;
         } else {
             self.first = Bytes::new(alloc);
             self.offset = 0;
+            self.item = 0;
         }
     }
 }

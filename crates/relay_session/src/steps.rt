@@ -1,25 +1,28 @@
-ghost use Rattle.std.specs.Prelude.{◌≡◌, ◌≤◌, ◌<◌, ◌+◌, ◌^◌, length, take, Some, None, IfOk, OnOk};
+ghost use Rattle.std.specs.Prelude.{◌≡◌, ◌≤◌, ◌<◌, ◌+◌, ◌-◌, ◌^◌, [], length, take, drop, true, Some, None, IfOk, IfErr, OnOk, OnErr};
 ghost use Rattle.ack_window.specs.Inbound.{ack_of, in_took, room_of};
 ghost use Rattle.session_owed.specs.Acks.{ack_messages};
-ghost use Rattle.session_owed.specs.Talk.{hand_bytes};
+ghost use Rattle.session_owed.specs.Talk.{hand_bytes, is_take};
+ghost use Rattle.session_owed.specs.Standing.{new_past};
+ghost use Rattle.command_dialog.specs.State.{playing_in};
 ghost use Rattle.command_dialog.specs.declared.types.Ask.{Ask};
 ghost use Rattle.command_dialog.specs.declared.types.Grant.{Grant};
-ghost use Rattle.relay_session.specs.Keeping.{IsFed, IsSound, StandsBefore, past_of};
-ghost use Rattle.session_owed.specs.Standing.{sent_more, with_call};
-ghost use Rattle.relay_session.specs.Owing.{Says};
+ghost use Rattle.relay_session.specs.Feeding.{Hears, IsCalled, IsFed, IsOthers, IsSent, IsStopped, heard_of, read_end};
+ghost use Rattle.relay_session.specs.Keeping.{IsOver, IsSound, StandsBefore, past_of, waiting};
+ghost use Rattle.relay_session.specs.Owing.{Says, pending};
 
-use crate::answers::{answer, hear};
+use crate::answers::{Asked, answer, hear, take_in};
 use crate::{Core, Desk, End, Outgoing};
-use ack_window::{Control, Inbound, control_message};
+use ack_window::{Control, Inbound, Outbound, control_message};
 use av_unit::OutOfMemory;
-use chunk_reader::{Fed, ReadCause, ReadFail};
-use past::Pair;
-use rtmp_handshake::{HandFail, HandFed};
+use chunk_reader::{Fed, ReadCause, Reader};
+use command_dialog::{Dialog, Playing};
+use past::{Flow, Pair};
+use rtmp_handshake::{Hand, HandFail, HandFed};
 use std::alloc::Global;
 use std::snapshot::Snapshot;
 use stream_model::{Entry, Reply};
 
-// The bytes of a handshake.
+// The bytes of a handshake, and of its answer.
 const HAND_BYTES: u64 = 3_073;
 
 // The first bytes of a piece, or all.
@@ -27,6 +30,36 @@ fn first(bytes: &[u8], count: usize) -> &[u8]
     ensures { result.now ≡ take count bytes.now }
 {
     &bytes[..count.min(bytes.len())]
+}
+
+/// A session of this name that has been fed nothing. It tells its peer `window`, and takes messages of at most
+/// `max_message` bytes.
+pub fn new_core(alloc: Global, who: u64, window: u32, max_message: u32) -> Core
+    requires { max_message ≤ 4194304 }
+    ensures sound { IsSound result }
+    ensures stands { (desk : Ask → Grant) → StandsBefore desk result }
+    ensures past { past_of result ≡ new_past }
+    ensures fixed { (result.who ≡ who) × (result.window ≡ window) × (result.reader.max ≡ max_message) }
+    ensures nothing { pending result.outgoing ≡ [] }
+    ensures place { result.place ≡ None }
+{
+    Core {
+        who,
+        window,
+        hand: Hand::new(alloc),
+        reader: Reader::new(alloc, max_message),
+        inbound: Inbound::new(window),
+        outbound: Outbound::new(window),
+        greeting: HAND_BYTES,
+        dialog: Dialog::new(alloc, window),
+        outgoing: Outgoing::new(alloc),
+        kept: None,
+        place: None,
+        fed: 0,
+        x: Flow::new(),
+        calls: Flow::new(),
+        sent: Flow::new(),
+    }
 }
 
 // Takes bytes up to the next place of an acknowledgement, and says it where they reach it.
@@ -57,7 +90,11 @@ pub fn hand_piece(core: &mut Core, alloc: Global, piece: &[u8]) -> Result<usize,
     requires some { 0 < length piece.now }
     ensures sound { OnOk result (IsSound core.new) }
     ensures stands { (desk : Ask → Grant) → StandsBefore desk core.old → OnOk result (StandsBefore desk core.new) }
-    ensures fed { IfOk result (λ used. IsFed core.old piece.now used core.new) }
+    ensures some { IfOk result (λ used. (0 < used) × (used ≤ length piece.now)) }
+    ensures fed { IfOk result (λ used. IsFed core.old piece.now core.new (drop used piece.now)) }
+    ensures heard { OnOk result (heard_of core.new ≡ heard_of core.old) }
+    ensures stopped { IfErr result (λ e. IsStopped core.old piece.now e core.new) }
+    ensures over { (desk : Ask → Grant) → StandsBefore desk core.old → OnErr result (IsOver desk core.new) }
 {
     let HandFed { used, out, done: _ } = match core.hand.feed(alloc, piece) {
         Ok(fed) => fed,
@@ -73,6 +110,13 @@ pub fn hand_piece(core: &mut Core, alloc: Global, piece: &[u8]) -> Result<usize,
     Ok(used)
 }
 
+/// How many bytes of a piece were fed, and whether the last of them ended a message.
+#[derive(Clone, Copy, Debug, PartialEq, Eq)]
+pub struct Part {
+    pub used: usize,
+    pub ended: bool,
+}
+
 /// Feeds bytes of chunks, at most up to the next place of an acknowledgement or to the end of a message. What the
 /// message says is done, and the call that it asks for is kept.
 pub fn chunk_piece<D: Desk>(
@@ -80,77 +124,132 @@ pub fn chunk_piece<D: Desk>(
     alloc: Global,
     desk: &D,
     piece: &[u8],
-) -> Result<usize, End>
+) -> Result<Part, End>
     requires sound { IsSound core.old }
     requires late { hand_bytes ≤ length core.old.x }
     requires open { core.old.kept ≡ None }
     requires some { 0 < length piece.now }
     ensures sound { OnOk result (IsSound core.new) }
     ensures stands { StandsBefore (D.grants desk.now) core.old → OnOk result (StandsBefore (D.grants desk.now) core.new) }
-    ensures fed { IfOk result (λ used. IsFed core.old piece.now used core.new) }
+    ensures some { IfOk result (λ p. (0 < p.used) × (p.used ≤ length piece.now)) }
+    ensures fed { IfOk result (λ p. IsFed core.old piece.now core.new (drop p.used piece.now)) }
+    ensures heard { IfOk result (λ p. Hears (D.grants desk.now) core.old core.new p.ended) }
+    ensures stopped { IfErr result (λ e. IsStopped core.old piece.now e core.new) }
+    ensures over { StandsBefore (D.grants desk.now) core.old → OnErr result (IsOver (D.grants desk.now) core.new) }
 {
     let room = core.inbound.room_to_next();
     let count = (piece.len() as u64).min(room) as usize;
     let part = first(piece, count);
     let Fed { used, message } = match core.reader.feed(alloc, part) {
         Ok(fed) => fed,
-        Err(fail) => return Err(chunk_end(fail)),
+        Err(fail) => {
+            let at = fail.at.saturating_add(HAND_BYTES);
+            let before = at.saturating_sub(core.fed) as usize;
+            core.x.add_all(first(part, before));
+            core.fed = at;
+            return Err(chunk_end(fail.cause, at));
+        }
     };
     match acknowledge(alloc, &mut core.inbound, &mut core.outgoing, used as u64) {
         Ok(()) => {}
         Err(_) => return Err(End::OutOfMemory),
     }
     let end = core.fed + used as u64;
-    core.fed = end;
-    core.x.add_all(first(part, used));
     match message {
-        None => Ok(used),
+        None => {
+            core.fed = end;
+            core.x.add_all(first(part, used));
+            Ok(Part { used, ended: false })
+        }
         Some(message) => {
-            core.kept = answer(
+            match answer(
                 alloc,
                 desk,
                 core.who,
+                core.place,
                 end,
                 end - 1,
                 message,
                 &mut core.dialog,
                 &mut core.inbound,
+                &mut core.outbound,
                 &mut core.outgoing,
-            )?;
-            Ok(used)
+            ) {
+                Ok(Asked { kept, place }) => {
+                    core.kept = kept;
+                    core.place = place;
+                    core.fed = end;
+                    core.x.add_all(first(part, used));
+                    Ok(Part { used, ended: true })
+                }
+                Err(why) => {
+                    core.fed = end - 1;
+                    core.x.add_all(first(part, used - 1));
+                    Err(why)
+                }
+            }
         }
     }
 }
 
-// Why the reader's refusal ends the session.
-fn chunk_end(fail: ReadFail) -> End {
-    let ReadFail { cause, at } = fail;
+// Why the reader's refusal ends the session, where so many bytes stand before the byte.
+fn chunk_end(cause: ReadCause, at: u64) -> End
+    ensures { result ≡ read_end cause at }
+{
     match cause {
         ReadCause::OutOfMemory => End::OutOfMemory,
-        _ => End::BadChunk {
-            cause,
-            at: at.saturating_add(HAND_BYTES),
-        },
+        ReadCause::NoHead { .. }
+        | ReadCause::TooManyIds
+        | ReadCause::TooLong { .. }
+        | ReadCause::TooMuch
+        | ReadCause::BadChunkSize { .. }
+        | ReadCause::TooFar => End::BadChunk { cause, at },
     }
 }
 
-/// Hears the reply to the call that waits. `entry` is that call.
+/// Hears the reply to the call that was asked, and that waited until then.
 pub fn hear_reply(
     core: &mut Core,
     alloc: Global,
-    entry: &Entry,
+    asked: Snapshot<Entry>,
     reply: &Reply,
 ) -> Result<(), OutOfMemory>
+    requires sound { IsSound (waiting core.old asked.value) }
+    ensures sound { OnOk result (IsSound core.new) }
+    ensures stands { (desk : Ask → Grant) → StandsBefore desk (waiting core.old asked.value) → OnOk result (StandsBefore desk core.new) }
+    ensures called { IsCalled (waiting core.old asked.value) asked.value reply.now core.new }
+    ensures others { OnOk result (IsOthers core.old core.new) }
+    ensures over { (desk : Ask → Grant) → StandsBefore desk (waiting core.old asked.value) → OnErr result (IsOver desk core.new) }
+{
+    core.kept = None;
+    core.calls.add(&Pair::of(asked, reply));
+    hear(alloc, reply, &mut core.dialog, &mut core.outgoing)?;
+    Ok(())
+}
+
+/// Hears the reply to a Take, which is made where it plays and nothing is to be sent. A reply that brings no item owes
+/// nothing.
+pub fn hear_item(
+    core: &mut Core,
+    alloc: Global,
+    playing: &Playing,
+    asked: Snapshot<Entry>,
+    reply: Reply,
+) -> Result<(), OutOfMemory>
     requires sound { IsSound core.old }
-    requires late { hand_bytes ≤ length core.old.x }
-    requires waits { core.old.kept ≡ Some entry.now }
+    requires open { core.old.kept ≡ None }
+    requires plays { playing_in core.old.dialog.phase ≡ Some playing.now }
+    requires take { is_take asked.value.call ≡ true }
+    requires at { asked.value.at ≡ length core.old.x }
+    requires nothing { pending core.old.outgoing ≡ [] }
     ensures sound { OnOk result (IsSound core.new) }
     ensures stands { (desk : Ask → Grant) → StandsBefore desk core.old → OnOk result (StandsBefore desk core.new) }
-    ensures called { OnOk result (past_of core.new ≡ with_call (past_of core.old) entry.now reply.now) }
+    ensures called { IsCalled core.old asked.value reply core.new }
+    ensures others { OnOk result (core.new.outgoing.others ≡ 0) }
+    ensures over { (desk : Ask → Grant) → StandsBefore desk core.old → OnErr result (IsOver desk core.new) }
 {
-    hear(alloc, reply, &mut core.dialog, &mut core.outgoing)?;
-    core.kept = None;
-    core.calls.add(&Pair::of(Snapshot::of(entry), reply));
+    core.calls.add(&Pair::of(asked, &reply));
+    take_in(alloc, playing.id, reply, &mut core.outgoing)?;
     Ok(())
 }
 
@@ -160,8 +259,11 @@ pub fn note_sent(core: &mut Core, alloc: Global, count: usize)
     requires within { count ≤ length core.old.outgoing.ready }
     ensures sound { IsSound core.new }
     ensures stands { (desk : Ask → Grant) → StandsBefore desk core.old → StandsBefore desk core.new }
-    ensures sent { past_of core.new ≡ sent_more (past_of core.old) (take count core.old.outgoing.ready) }
+    ensures sent { IsSent core.old count core.new }
 {
+    let greeting = core.greeting.min(count as u64);
+    core.greeting -= greeting;
+    core.outbound.sent(count as u64 - greeting);
     core.sent.add_all(first(core.outgoing.ready(), count));
     core.outgoing.sent(alloc, count);
 }

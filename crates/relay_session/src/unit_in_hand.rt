@@ -1,4 +1,4 @@
-ghost use Rattle.std.specs.Prelude.{◌≡◌, ◌≤◌, ◌<◌, ◌-◌, ◌⊎◌, ◌++◌, [], List, ℕ, length, IfOk, OnOk};
+ghost use Rattle.std.specs.Prelude.{◌≡◌, ◌≤◌, ◌<◌, ◌-◌, ◌⊎◌, [], length, IfOk, OnOk};
 ghost use Rattle.chunk_writer.specs.Written.{after};
 ghost use Rattle.command_dialog.specs.Dialog.{unit_message};
 ghost use Rattle.session_owed.specs.Chunks.{hand_of};

@@ -1,7 +1,5 @@
-use Rattle.std.proofs.Common.{◌≡◌, List, Option, sym, ap, ◌∙◌, subst, option_map}
+use Rattle.std.proofs.Common.{List, sym, ap, ◌∙◌, subst}
 use Rattle.chunk_wire.specs.declared.message.Message.{Message}
-use Rattle.command_dialog.specs.Dialog.{call_of, says}
-use Rattle.command_dialog.specs.declared.types.Act.{Act}
 use Rattle.command_dialog.specs.State.{Step}
 use Rattle.command_dialog.specs.Meaning.{meaning}
 use Rattle.command_dialog.proofs.Said.{says_said}
@@ -29,5 +27,5 @@ returns-in-Ok-say_all-clause-said g c =
 
 pub returns-in-Ok-say_all-clause-makes : goal.returns-in-Ok-say_all-clause-makes
 returns-in-Ok-say_all-clause-makes g c =
-    ap (option_map call_of) (c.in-Ok-step.ensures.makes
-    ∙ sym (ap (λ (t : Step). t.makes) (does_is (g.D.Desk.grants c.args.desk.now) c.args.dialog.now c.args.message c.in-Ok.meant c.granted-grant.result c.in-Ok.ensures c.granted-grant.ensures)))
+    c.in-Ok-step.ensures.makes
+    ∙ sym (ap (λ (t : Step). t.makes) (does_is (g.D.Desk.grants c.args.desk.now) c.args.dialog.now c.args.message c.in-Ok.meant c.granted-grant.result c.in-Ok.ensures c.granted-grant.ensures))

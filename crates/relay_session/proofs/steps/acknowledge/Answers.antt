@@ -1,4 +1,4 @@
-use Rattle.std.proofs.Common.{sym, ◌∙◌, subst, ℕ, Option}
+use Rattle.std.proofs.Common.{subst, ℕ, Option}
 use Rattle.session_owed.specs.Acks.{ack_messages}
 use Rattle.relay_session.specs.Owing.{Says}
 use Rattle.relay_session.proofs.Answering.{says_none}

@@ -1,8 +1,14 @@
-use Rattle.relay_session.proofs.Pending.{said_all, saying_more}
+use Rattle.relay_session.proofs.Pending.{say_none, say_some}
 use Rattle.relay_session.proofs.outgoing.Outgoing.say_all.Goals as goal
 
-pub loop-left-preserved : goal.loop-left-preserved
-loop-left-preserved c = saying_more c.args.self.now c.loop-left.self c.say.new.self c.args.messages.now c.loop-left.left.now c.message-item.result c.in-len1-up.len_at_least c.message-item.is c.loop-left.invariant c.in_ok-say.ensures
+pub returns-in-None : goal.returns-in-None
+returns-in-None c =
+    let i = c.self.inside in
+    say_none c.args.self.now i.first i.offset i.item i.hand i.later i.writer c.write_all.new.writer c.write_all.new.out c.args.messages.now c.write_all.result
+    c.self.view_is c.self.invariant c.in-None.is c.write_all.ensures.writer c.write_all.ensures.bytes
 
-pub returns : goal.returns
-returns c = said_all c.args.self.now c.loop-left.self c.args.messages.now c.loop-left.left.now c.in_default.len_below c.loop-left.invariant
+pub returns-in-Some : goal.returns-in-Some
+returns-in-Some c =
+    let i = c.self.inside in
+    say_some c.args.self.now i.first i.offset i.item i.hand c.in-Some.field-0 i.later i.writer c.write_all-in-Some.new.writer c.write_all-in-Some.new.out c.args.messages.now c.write_all-in-Some.result
+    c.self.view_is c.in-Some.is c.write_all-in-Some.ensures.writer c.write_all-in-Some.ensures.bytes

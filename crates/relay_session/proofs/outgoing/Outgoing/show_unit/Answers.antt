@@ -1,7 +1,7 @@
 use Rattle.std.proofs.Common.{ap, sym}
 use Rattle.relay_session.specs.Owing.{Owing}
 use Rattle.relay_session.proofs.Pending.{unit_says}
-use Rattle.relay_session.proofs.outgoing.Outgoing.say_unit.Goals as goal
+use Rattle.relay_session.proofs.outgoing.Outgoing.show_unit.Goals as goal
 
 pub returns : goal.returns
 returns c =

@@ -1,0 +1,58 @@
+use Rattle.std.proofs.Common.{◌∙◌, ap, refl, subst, sym, false, Ok, Err}
+use Rattle.relay_session.specs.Keeping.{IsOver, waiting}
+use Rattle.relay_session.specs.Places.{Asked}
+use Rattle.relay_session.specs.Turns.{life}
+use Rattle.relay_session.specs.declared.end.End.TheVariants as end
+use Rattle.relay_session.specs.declared.seat_answers.Made.TheVariants as made
+use Rattle.relay_session.specs.declared.core_fields.Core.{Core}
+use Rattle.relay_session.proofs.Stopping.{over_here}
+use Rattle.relay_session.proofs.Turning.{tried_busy, tried_memory, tried_worn}
+use Rattle.relay_session.proofs.calls.make.Goals as goal
+
+pub returns-in-Busy-clause-tried : goal.returns-in-Busy-clause-tried
+returns-in-Busy-clause-tried g c =
+    let P = g.P.StreamPort in
+    let b = c.args.body.now in
+    let e = c.in-Busy.ensures in
+    let f = c.in-Busy.entry in
+    let k = c.keep in
+    tried_busy (Asked P.fits P.rules P.root P.seen P.count P.wants P.busies) (life (waiting b.core c.args.entry) b.input c.args.port.now b.seat) (life k.new.core b.input c.make.new.port c.make.new.self) c.args.entry (made.Busy f) f (Ok false)
+    c.in-Some.place refl c.in-Some.is
+    (record { spot = e.spot; active = e.active; makes = e.makes; calls = e.calls; noted = e.noted; fails = e.fails; knows = e.knows; stands = e.stands; roots = e.roots; others = e.others; fixed = e.fixed; later = e.busies; passes = e.passes })
+    (k.ensures ∙ ap (waiting b.core) e.makes.0) refl refl
+
+pub returns-in-Worn-clause-tried : goal.returns-in-Worn-clause-tried
+returns-in-Worn-clause-tried g c =
+    let P = g.P.StreamPort in
+    let b = c.args.body.now in
+    let e = c.in-Worn.ensures in
+    let f = c.in-Worn.entry in
+    let k = c.keep-in-Worn in
+    tried_worn (Asked P.fits P.rules P.root P.seen P.count P.wants P.busies) (life (waiting b.core c.args.entry) b.input c.args.port.now b.seat) (life k.new.core b.input c.make.new.port c.make.new.self) c.args.entry (made.Worn f) f (Err end.Worn)
+    c.in-Some.place refl c.in-Some.is
+    (record { spot = e.spot; active = e.active; makes = e.makes; calls = e.calls; noted = e.noted; fails = e.fails; knows = e.knows; stands = e.stands; roots = e.roots; others = e.others; fixed = e.fixed; later = e.busies; passes = e.passes })
+    (k.ensures ∙ ap (waiting b.core) e.makes.0) refl refl
+
+pub returns-clause-tried : goal.returns-clause-tried
+returns-clause-tried g c =
+    let P = g.P.StreamPort in
+    let b = c.args.body.now in
+    let e = c.in-OutOfMemory.ensures in
+    let f = c.in-OutOfMemory.entry in
+    let k = c.keep-in-OutOfMemory in
+    tried_memory (Asked P.fits P.rules P.root P.seen P.count P.wants P.busies) (life (waiting b.core c.args.entry) b.input c.args.port.now b.seat) (life k.new.core b.input c.make.new.port c.make.new.self) c.args.entry (made.OutOfMemory f) f (Err end.OutOfMemory)
+    c.in-Some.place refl c.in-Some.is
+    (record { spot = e.spot; active = e.active; makes = e.makes; calls = e.calls; noted = e.noted; fails = e.fails; knows = e.knows; stands = e.stands; roots = e.roots; others = e.others; fixed = e.fixed; later = e.busies; passes = e.passes })
+    (k.ensures ∙ ap (waiting b.core) e.makes.0) refl refl
+
+pub returns-in-Worn-clause-stands : goal.returns-in-Worn-clause-stands
+returns-in-Worn-clause-stands g c = λ desk st. (
+    let b = c.args.body.now in
+    let w = waiting b.core c.args.entry in
+    subst (λ (d : Core). IsOver desk d) (sym (c.keep-in-Worn.ensures ∙ ap (waiting b.core) c.in-Worn.ensures.makes.0)) (over_here desk w w.hand w.outgoing c.requires.sound st))
+
+pub returns-clause-stands : goal.returns-clause-stands
+returns-clause-stands g c = λ desk st. (
+    let b = c.args.body.now in
+    let w = waiting b.core c.args.entry in
+    subst (λ (d : Core). IsOver desk d) (sym (c.keep-in-OutOfMemory.ensures ∙ ap (waiting b.core) c.in-OutOfMemory.ensures.makes.0)) (over_here desk w w.hand w.outgoing c.requires.sound st))

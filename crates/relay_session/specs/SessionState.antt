@@ -1,0 +1,55 @@
+-- What contracts see of a session
+use Rattle.std.specs.Prelude.{◌≡◌, ℕ, Bool, List, length, Option, Some, None}
+use Rattle.command_dialog.specs.declared.types.Ask.{Ask}
+use Rattle.command_dialog.specs.declared.types.Grant.{Grant}
+use Rattle.relay_session.specs.Keeping.{IsOver, IsSound, StandsBefore}
+use Rattle.relay_session.specs.SeatState.{SeatState}
+use Rattle.relay_session.specs.Turns.{Gone, Life, gone_of, life}
+use Rattle.relay_session.specs.declared.core_fields.Core.{Core}
+use Rattle.relay_session.specs.declared.end.End.{End}
+use Rattle.relay_session.specs.declared.end.End.TheVariants.{Quit}
+use Rattle.relay_session.specs.declared.turn.Turn.{Turn}
+use Rattle.relay_session.specs.declared.turn.Turn.TheVariants.{Moved, Idle, Ended}
+
+pub record SessionState (Q : Type 0) : Type 0 where
+  -- what it was fed, what it owes, its calls, and what it has sent
+  pub parts : Core
+  -- the bytes received and not fed
+  pub input : List ℕ
+  -- where it stands at the streams
+  pub seat : SeatState Q
+  -- it was told to end
+  pub quit : Bool
+  -- why it has ended, if it has
+  pub ended : Option End
+
+-- at a port
+abbrev pub life_at : {P Q : Type 0} → SessionState Q → P → Life P (SeatState Q)
+life_at s port = life s.parts s.input port s.seat
+
+-- one that lives is sound
+abbrev pub IsLiving : Option End → Core → Type 0
+IsLiving None c = IsSound c
+IsLiving (Some e) c = c.fed ≡ length c.x
+
+-- WHAT WAS SENT AND WHAT IS PENDING IS WHAT IT OWES before this desk; of one that has ended, what was sent begins that
+abbrev pub StandsBy : Option End → (Ask → Grant) → Core → Type 0
+StandsBy None desk c = StandsBefore desk c
+StandsBy (Some e) desk c = IsOver desk c
+
+abbrev pub StandsFor : {Q : Type 0} → (Ask → Grant) → SessionState Q → Type 0
+StandsFor desk s = StandsBy s.ended desk s.parts
+
+abbrev pub ended_by : Turn → Option End
+ended_by Moved = None
+ended_by Idle = None
+ended_by (Ended e) = Some e
+
+-- why a session that is closed has ended: that by which it ended, or that it was told to
+abbrev pub end_or_quit : Option End → End
+end_or_quit None = Quit
+end_or_quit (Some e) = e
+
+-- all but the call that waits
+abbrev pub gone_but_kept : Core → Gone
+gone_but_kept c = gone_of (record c { kept = None })

@@ -1,0 +1,23 @@
+ghost use Rattle.std.specs.Prelude.{◌≡◌, ◌≤◌, ◌⊎◌, [], length, OnOk, OnErr};
+ghost use Rattle.command_dialog.specs.declared.types.Ask.{Ask};
+ghost use Rattle.command_dialog.specs.declared.types.Grant.{Grant};
+ghost use Rattle.relay_session.specs.Keeping.{IsOver, IsSound, StandsBefore};
+ghost use Rattle.relay_session.specs.Turns.{IsFilled, gone_of};
+
+use crate::Core;
+use av_unit::OutOfMemory;
+use std::alloc::Global;
+
+/// Encodes more of what is pending, so that as many bytes as are sent at once are encoded, or all.
+pub(crate) fn fill(core: &mut Core, alloc: Global) -> Result<(), OutOfMemory>
+    requires { IsSound core.old }
+    ensures sound { OnOk result (IsSound core.new) }
+    ensures stands { (desk : Ask → Grant) → StandsBefore desk core.old → OnOk result (StandsBefore desk core.new) }
+    ensures filled { OnOk result (IsFilled core.old core.new) }
+    ensures ready { OnOk result ((16384 ≤ length core.new.outgoing.ready) ⊎ (core.new.outgoing.rest ≡ [])) }
+    ensures gone { gone_of core.new ≡ gone_of core.old }
+    ensures over { (desk : Ask → Grant) → StandsBefore desk core.old → OnErr result (IsOver desk core.new) }
+{
+    core.outgoing.fill(alloc)?;
+    Ok(())
+}

@@ -1,0 +1,152 @@
+ghost use Rattle.std.specs.Prelude.{◌≡◌, ◌≤◌, ℕ, [], length, true, false, Some, None};
+ghost use Rattle.command_dialog.specs.declared.types.Ask.{Ask};
+ghost use Rattle.command_dialog.specs.declared.types.Grant.{Grant};
+ghost use Rattle.session_owed.specs.Standing.{new_past};
+ghost use Rattle.relay_session.specs.Keeping.{past_of};
+ghost use Rattle.relay_session.specs.Owing.{pending};
+ghost use Rattle.relay_session.specs.Places.{Asked, IsAt, IsOffered};
+ghost use Rattle.relay_session.specs.SeatState.{GoOn, HasFit, LeaveFails, LeavesFrom, StandsAt, left_at, place_of};
+ghost use Rattle.relay_session.specs.SessionState.{StandsFor, end_or_quit, ended_by, gone_but_kept, life_at};
+ghost use Rattle.relay_session.specs.Turns.{EndedBy};
+
+use crate::body::Body;
+use crate::input::Input;
+use crate::six_steps::kept_on;
+use crate::steps::new_core;
+use crate::{Desk, End, Leaving, Seat, Turn};
+use relay_base::Limits;
+use relay_outside::Link;
+use std::alloc::Global;
+use std::marker::Model;
+use stream_registry::StreamPort;
+
+/// One connection of the relay.
+#[derive(Drop)]
+pub struct Session<P: StreamPort> {
+    body: Body<P>,
+    quit: bool,
+    ended: Option<End>,
+}
+
+impl<P: StreamPort> Model for Session<P> {
+    ghost use Rattle.relay_session.specs.SessionState.{IsLiving, SessionState};
+
+    ghost Value = { SessionState P.Pass };
+
+    ghost view = { λ s. record { parts = s.body.core; input = s.body.input; seat = s.body.seat; quit = s.quit; ended = s.ended } };
+
+    ghost invariant = { λ s. IsLiving s.ended s.body.core };
+}
+
+// Why a turn ended the session, if it did.
+fn end_in(answer: Turn) -> Option<End>
+    ensures { result ≡ ended_by answer }
+{
+    match answer {
+        Turn::Moved => None,
+        Turn::Idle => None,
+        Turn::Ended(end) => Some(end),
+    }
+}
+
+// Why a session that is closed has ended.
+fn end_or_quit(ended: Option<End>) -> End
+    ensures { result ≡ end_or_quit ended }
+{
+    match ended {
+        None => End::Quit,
+        Some(end) => end,
+    }
+}
+
+impl<P: StreamPort> Session<P> {
+    /// A session of this name that was fed nothing and is at no stream. It tells its peer the window of the limits, in bytes,
+    /// and takes messages of at most `max_message` bytes. It takes no memory.
+    pub fn new(alloc: Global, who: u64, limits: Limits) -> Session<P>
+        requires { limits.max_message ≤ 4194304 }
+        ensures stands { (desk : Ask → Grant) → StandsFor desk result }
+        ensures past { past_of result.parts ≡ new_past }
+        ensures fixed { (result.parts.who ≡ who) × (result.parts.window ≡ limits.window) × (result.parts.reader.max ≡ limits.max_message) }
+        ensures nothing { (pending result.parts.outgoing ≡ []) × (result.input ≡ []) }
+        ensures lives { (result.quit ≡ false) × (result.ended ≡ None) }
+        ensures at { (result.parts.place ≡ None) × (result.seat.spot ≡ None) × (result.seat.visits ≡ []) }
+    {
+        Session {
+            body: Body {
+                core: new_core(alloc, who, limits.window, limits.max_message),
+                input: Input::new(alloc),
+                seat: Seat::new(),
+            },
+            quit: false,
+            ended: None,
+        }
+    }
+
+    /// One turn, by its six steps. Each desk that is handed in is to be the same.
+    pub fn turn<D: Desk, L: Link>(
+        &mut self,
+        alloc: Global,
+        port: &mut P,
+        link: &mut L,
+        desk: &D,
+    ) -> Turn
+        requires at { IsAt (P.fits port.old) (length (P.rules port.old).names) self.old.parts self.old.seat }
+        requires offered { IsOffered (D.grants desk.now) (length (P.rules port.old).names) }
+        ensures at { IsAt (P.fits port.new) (length (P.rules port.new).names) self.new.parts self.new.seat }
+        ensures turn { EndedBy (Asked P.fits P.rules P.root P.seen P.count P.wants P.busies) (D.grants desk.now) L.hears L.says self.old.ended self.old.quit
+            (life_at self.old port.old) link.old result (life_at self.new port.new) link.new }
+        ensures ended { self.new.ended ≡ ended_by result }
+        ensures quit { self.new.quit ≡ self.old.quit }
+        ensures stands { StandsFor (D.grants desk.now) self.old → StandsFor (D.grants desk.now) self.new }
+    {
+        match self.ended {
+            Some(end) => Turn::Ended(end),
+            None => {
+                let answer = kept_on(&mut self.body, port, link, desk, alloc, self.quit);
+                self.ended = end_in(answer);
+                answer
+            }
+        }
+    }
+
+    /// Tells the session to end.
+    pub fn quit(&mut self)
+        ensures { self.new ≡ record self.old { quit = true } }
+    {
+        self.quit = true;
+    }
+
+    /// Makes the call that waits, if there is one, and the End or Leave of what it was granted, and leaves the stream where it is.
+    /// It has then ended, with `Quit` if it lived. Where the port was busy or had no memory it is still there, and is to be
+    /// closed again; the call that waits is kept unless it was made.
+    pub fn close(&mut self, port: &mut P) -> Leaving
+        requires { HasFit (P.fits port.old) self.old.seat.spot }
+        ensures fit { HasFit (P.fits port.new) self.new.seat.spot }
+        ensures spot { place_of self.new.seat.spot ≡ left_at result (place_of self.old.seat.spot) }
+        ensures leaves { LeavesFrom (place_of self.old.seat.spot) self.old.parts.who self.old.parts.fed self.old.parts.kept
+            self.old.seat.active self.old.seat.visits result self.new.parts.kept self.new.seat.active self.new.seat.visits }
+        ensures fails { LeaveFails (P.fits port.new) P.count P.wants (place_of self.old.seat.spot) self.old.parts.who self.old.parts.fed
+            self.old.parts.kept (P.busies port.old) (P.busies port.new) result }
+        ensures stands { StandsAt P.rules P.root P.seen port.old self.old.seat → StandsAt P.rules P.root P.seen port.new self.new.seat }
+        ensures roots { GoOn (P.root port.old) (P.root port.new) }
+        ensures fixed { P.rules port.new ≡ P.rules port.old }
+        ensures busies { P.busies port.old ≤ P.busies port.new }
+        ensures passes { (q : ℕ) (p : P.Pass) → P.fits port.old q p → P.fits port.new q p }
+        ensures ended { self.new.ended ≡ Some (end_or_quit self.old.ended) }
+        ensures gone { gone_but_kept self.new.parts ≡ gone_but_kept self.old.parts }
+    {
+        let who = self.body.core.who;
+        let fed = self.body.core.fed;
+        self.ended = Some(end_or_quit(self.ended));
+        self.body
+            .seat
+            .leave(port, who, fed, &mut self.body.core.kept)
+    }
+
+    /// How many bytes of its peer's it was fed; of one that a byte ended, those before it.
+    pub fn fed(&self) -> u64
+        ensures { result ≡ length self.now.parts.x }
+    {
+        self.body.core.fed
+    }
+}
