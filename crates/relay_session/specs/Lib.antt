@@ -8,3 +8,4 @@ pub mod SeatOwn
 pub mod Places
 pub mod Turns
 pub mod SessionState
+pub mod Grants
