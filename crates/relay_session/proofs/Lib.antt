@@ -8,5 +8,6 @@ pub mod Going
 pub mod Turning
 pub mod Rounds
 pub mod Whole
+pub mod Onwards
 pub mod SeatStanding
 pub mod SeatOwn

@@ -9,3 +9,4 @@ pub mod Places
 pub mod Turns
 pub mod SessionState
 pub mod Grants
+pub mod Onward

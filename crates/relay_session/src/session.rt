@@ -4,6 +4,7 @@ ghost use Rattle.command_dialog.specs.declared.types.Grant.{Grant};
 ghost use Rattle.session_owed.specs.Standing.{new_past};
 ghost use Rattle.relay_session.specs.Keeping.{past_of};
 ghost use Rattle.relay_session.specs.Owing.{pending};
+ghost use Rattle.relay_session.specs.Onward.{GoesOn};
 ghost use Rattle.relay_session.specs.Places.{Asked, IsAt, IsOffered};
 ghost use Rattle.relay_session.specs.SeatState.{GoOn, HasFit, LeaveFails, LeavesFrom, StandsAt, left_at, place_of};
 ghost use Rattle.relay_session.specs.SessionState.{StandsFor, end_or_quit, ended_by, gone_but_kept, life_at};
@@ -95,6 +96,7 @@ impl<P: StreamPort> Session<P> {
         ensures at { IsAt (P.fits port.new) (length (P.rules port.new).names) self.new.parts self.new.seat }
         ensures turn { EndedBy (Asked P.fits P.rules P.root P.seen P.count P.wants P.busies) (D.grants desk.now) L.hears L.says self.old.ended self.old.quit
             (life_at self.old port.old) link.old result (life_at self.new port.new) link.new }
+        ensures goes_on { GoesOn P.fits P.rules P.root P.seen P.busies port.old self.old.seat port.new self.new.seat }
         ensures ended { self.new.ended ≡ ended_by result }
         ensures quit { self.new.quit ≡ self.old.quit }
         ensures stands { StandsFor (D.grants desk.now) self.old → StandsFor (D.grants desk.now) self.new }
