@@ -1,7 +1,4 @@
 //! Bytes a second of the writer of transport streams, beside a plain copy of the same units.
-ghost use Rattle.std.specs.Prelude.{◌≤◌, length};
-ghost use Rattle.av_unit.specs.Fits.{most_bytes};
-
 use crate::rates::megabytes;
 use av_unit::{Bytes, Item, Kind, Unit, UnitArc};
 use std::alloc::{AllocError, Global};
@@ -21,9 +18,10 @@ const HEAD: &[u8; 9] = b"\x27\x01\x00\x00\x00\x00\x00\x40\x00";
 const AVCC: &[u8; 20] =
     b"\x17\x00\x00\x00\x00\x01\x64\x00\x1f\xff\xe1\x00\x02\x67\x64\x01\x00\x01\x68\x00";
 
-fn item(alloc: Global, kind: Kind, body: Bytes) -> Result<Item, AllocError>
-    requires { length body ≤ most_bytes kind }
-{
+fn item(alloc: Global, kind: Kind, body: Bytes) -> Result<Item, AllocError> {
+    if body.len() > kind.most_bytes() {
+        return Err(AllocError);
+    }
     let unit = Unit {
         kind,
         time: 40,
