@@ -4,6 +4,7 @@
 mod chunks;
 mod flv;
 mod gate;
+mod ports;
 mod rates;
 mod stream;
 mod ts;
@@ -24,6 +25,9 @@ fn main(rt: HostRuntime) -> io::Result<()> {
         }
         if word.as_str() == "flv" {
             flv::measure(&rt, rt.alloc())?;
+        }
+        if word.as_str() == "ports" {
+            ports::measure(&rt, rt.alloc())?;
         }
         if word.as_str() == "stream" {
             stream::measure(&rt, rt.alloc())?;

@@ -25,7 +25,7 @@ const BOTH: Want = Want {
 
 /// A stream that has had so many calls.
 #[derive(Drop)]
-struct Busy {
+pub(crate) struct Busy {
     stream: Stream,
     calls: u64,
     ghost few: { length (items_of stream.past) ≤ calls },
@@ -33,7 +33,7 @@ struct Busy {
 
 impl Busy {
     /// A live stream with all its places taken, by the callers 0, 1 and so on.
-    fn new(alloc: Global, limits: StreamLimits) -> Result<Busy, OutOfMemory> {
+    pub(crate) fn new(alloc: Global, limits: StreamLimits) -> Result<Busy, OutOfMemory> {
         let mut busy = Busy {
             stream: Stream::new(alloc, limits)?,
             calls: 0,
@@ -46,7 +46,7 @@ impl Busy {
     }
 
     #[tactic(auto, using(stream_model::proofs::Growth::one_item_more))]
-    fn call(&mut self, who: u64, call: Call) -> Result<Reply, OutOfMemory> {
+    pub(crate) fn call(&mut self, who: u64, call: Call) -> Result<Reply, OutOfMemory> {
         if self.calls >= MOST_CALLS {
             return Err(OutOfMemory);
         }

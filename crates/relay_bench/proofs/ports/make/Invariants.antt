@@ -1,0 +1,4 @@
+use Rattle.relay_bench.proofs.ports.make.Given as goal
+
+abbrev pub invariant-loop : goal.invariant-loop
+invariant-loop g l = g.P.StreamPort.fits l.port l.place l.pass
