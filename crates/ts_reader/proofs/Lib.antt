@@ -5,3 +5,4 @@ pub mod Feeding
 pub mod Once
 pub mod Streams
 pub mod Ends
+pub mod ReadTables

@@ -1,10 +1,11 @@
 -- Laws of reading
-use Rattle.std.specs.Prelude.{◌≡◌, ℕ, List, ◌++◌, take, Option}
+use Rattle.std.specs.Prelude.{◌≡◌, ℕ, List, ◌++◌, take, Option, Bool}
 use Rattle.ts_reader.specs.declared.unit.TsUnit.{TsUnit}
 use Rattle.ts_reader.specs.declared.fail.TsFail.{TsFail}
 use Rattle.ts_reader.specs.Mux.{Mux}
 use Rattle.avc_annexb.specs.Nal.{AreNals}
 use Rattle.avc_annexb.specs.AnnexB.{annexb}
+use Rattle.ts_reader.specs.Sections.{Listed}
 use Rattle.ts_reader.specs.Reads.{Reads}
 
 -- two readings give the same units, and leave the same
@@ -38,3 +39,7 @@ pub record StreamOf (b : List ℕ) : Type 0 where
 pub record SameEnd (us vs : List TsUnit) (u v : Option TsUnit) : Type 0 where
   pub units_same : us ≡ vs
   pub last_same : u ≡ v
+
+-- the streams of a map, by what it lists
+abbrev pub these : Bool → Bool → Listed
+these video audio = record { video = video; audio = audio }

@@ -1,13 +1,16 @@
-ghost use Rattle.std.specs.Prelude.{◌≡◌, ℕ, ◌+◌, true, List, ◌++◌, take, Option, Ok};
+ghost use Rattle.std.specs.Prelude.{◌≡◌, ◌<◌, ℕ, ◌+◌, Bool, true, List, ◌++◌, take, Option, Some, Ok};
 ghost use Rattle.avc_annexb.specs.Nal.{AreNals};
 ghost use Rattle.avc_annexb.specs.AnnexB.{annexb};
 ghost use Rattle.avc_annexb.specs.Split.{split_of};
+ghost use Rattle.pes_packets.specs.Packet.{section_text};
+ghost use Rattle.pes_packets.specs.Tables.{pat, pat_pid, pmt, pmt_pid};
 ghost use Rattle.ts_reader.specs.declared.unit.TsUnit.{TsUnit};
 ghost use Rattle.ts_reader.specs.declared.fail.TsFail.{TsFail};
 ghost use Rattle.ts_reader.specs.Mux.{Mux};
 ghost use Rattle.ts_reader.specs.Payloads.{is_stream};
+ghost use Rattle.ts_reader.specs.Sections.{is_pat, listed_in};
 ghost use Rattle.ts_reader.specs.Reads.{EndFails, Ends, Reads, Stops};
-ghost use Rattle.ts_reader.specs.Laws.{ReadsPart, SameEnd, SameReading, SameStop, StreamOf};
+ghost use Rattle.ts_reader.specs.Laws.{ReadsPart, SameEnd, SameReading, SameStop, StreamOf, these};
 
 /// Two readings of the same bytes are one, so the cutting into pieces can't matter.
 pub fn one_reading()
@@ -47,4 +50,10 @@ pub fn a_byte_stream_is_nal_units()
     ensures written { (units : List (List ℕ)) → AreNals units → is_stream (annexb units) ≡ true }
     ensures split { (b : List ℕ) → is_stream b ≡ true → (units : List (List ℕ)) × (split_of b ≡ Ok units) }
     ensures only { (b : List ℕ) (units : List (List ℕ)) → AreNals units → split_of b ≡ Ok units → is_stream b ≡ true }
+{}
+
+/// The packets of tables that are written are read, with any counter, and with any version and streams of a map.
+pub fn written_tables_are_read()
+    ensures association { (c : ℕ) → c < 16 → is_pat (section_text pat_pid c pat) ≡ true }
+    ensures map { (video audio : Bool) (version c : ℕ) → version < 32 → c < 16 → listed_in (section_text pmt_pid c (pmt video audio version)) ≡ Some (these video audio) }
 {}

@@ -15,7 +15,7 @@ mod unit;
 pub use fail::TsFail;
 pub use laws::{
     a_byte_stream_is_nal_units, beginnings_are_read, one_end, one_reading, one_refusal,
-    refused_bytes_are_not_read, refused_bytes_stay_refused,
+    refused_bytes_are_not_read, refused_bytes_stay_refused, written_tables_are_read,
 };
 pub use reader::{TsFed, TsReader};
 pub use unit::TsUnit;
