@@ -1,4 +1,4 @@
-ghost use Rattle.std.specs.Prelude.{◌≡◌, ◌⊎◌, ◌<◌, ◌≤◌, ◌+◌, ◌^◌, ◌++◌, ◌∷◌, [], List, ℕ, length, map, position, ◌==◌};
+ghost use Rattle.std.specs.Prelude.{◌≡◌, ◌<◌, ◌≤◌, ◌+◌, ◌^◌, ◌++◌, ◌∷◌, [], List, ℕ, length, map, position, ◌==◌};
 ghost use Rattle.std.specs.Prelude.{Some, None, MatchResult, IfOk, OnOk};
 ghost use Rattle.std.specs.Io.KnownBytes.{append_known, IsAtEnd};
 ghost use Rattle.stream_model.specs.Answer.{reply};

@@ -11,3 +11,4 @@ pub mod Whole
 pub mod Onwards
 pub mod SeatStanding
 pub mod SeatOwn
+pub mod Granting

@@ -29,7 +29,7 @@ pub use core_fields::Core;
 pub use desk::Desk;
 pub use end::End;
 pub use outgoing::Outgoing;
-pub use place_desk::PlaceDesk;
+pub use place_desk::{PlaceDesk, grants_law};
 pub use seat::Seat;
 pub use seat_answers::{Active, Leaving, Made};
 pub use seat_law::own_calls_law;

@@ -1,9 +1,10 @@
 //! The desk of a relay: its places, each with its grants, and the guards that judge keys.
-ghost use Rattle.std.specs.Prelude.{◌≡◌, ◌≤◌, ◌^◌, length};
+ghost use Rattle.std.specs.Prelude.{◌≡◌, ◌≤◌, ◌^◌, List, length};
 ghost use Rattle.key_guard.specs.Allowed.{is_allowed};
 ghost use Rattle.command_dialog.specs.declared.types.Ask.{Ask as AnAsk};
 ghost use Rattle.command_dialog.specs.declared.types.Grant.{Grant as AGrant};
-ghost use Rattle.relay_session.specs.Grants.{granted_from, grants_for, is_named, judged};
+ghost use Rattle.relay_config.specs.declared.config.PlaceRule.{PlaceRule as APlaceRule};
+ghost use Rattle.relay_session.specs.Grants.{IsGranted, granted_from, grants_for, is_named, judged};
 
 use crate::Desk;
 use command_dialog::{Ask, Grant, Role};
@@ -88,3 +89,10 @@ fn judge(guards: &Guards, rule: &PlaceRule, ask: &Ask, place: u32) -> Grant
         Grant::Refused
     }
 }
+
+/// What a desk grants: `NoName` where no place has the names, else what the first that has them says: `Refused` where its grants
+/// for that role don't allow the key, and itself where they do. Nothing else is granted.
+pub fn grants_law()
+    ensures granted { (places : List APlaceRule) (ask : AnAsk) → IsGranted 0 places ask (granted_from 0 places ask) }
+    ensures only { (places : List APlaceRule) (ask : AnAsk) (grant : AGrant) → IsGranted 0 places ask grant → granted_from 0 places ask ≡ grant }
+{}
