@@ -2,6 +2,7 @@ pub mod Owing
 pub mod Session
 pub mod Keeping
 pub mod Feeding
+pub mod Holding
 pub mod SeatVisits
 pub mod SeatState
 pub mod SeatOwn

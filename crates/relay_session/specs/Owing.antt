@@ -23,20 +23,22 @@ pub record Goes (old : Hand) (before : List ℕ) (new : Hand) (now : List ℕ) :
   pub more : List ℕ
   pub after : now ≡ before ++ more
 
--- what contracts see of it: the bytes that are encoded, those that stand after them, the writer after all, and how many of
--- the last bytes are of no item that was taken
+-- what contracts see of it: the bytes that are encoded, those that stand after them, the writer after all, how many of the
+-- last bytes are of no item that was taken, the unit in hand, and the bytes that were encoded since that was begun
 pub record Owing : Type 0 where
   pub ready : List ℕ
   pub rest : List ℕ
   pub writer : WriterKnown
   pub others : ℕ
+  pub hand : Option Hand
+  pub later : List ℕ
 
 -- THE BYTES PENDING
 abbrev pub pending : Owing → List ℕ
 pending o = o.ready ++ o.rest
 
 abbrev pub nothing : Owing
-nothing = record { ready = []; rest = []; writer = fresh; others = 0 }
+nothing = record { ready = []; rest = []; writer = fresh; others = 0; hand = None; later = [] }
 
 -- of the first bytes those up to a place are of an item, and all where a unit is in hand
 abbrev pub others_by : List ℕ → ℕ → ℕ → Option Hand → List ℕ → ℕ
@@ -50,6 +52,8 @@ owing first offset item hand later writer = record {
   rest = rest_by hand ++ later;
   writer = writer;
   others = others_by first offset item hand later;
+  hand = hand;
+  later = later;
 }
 
 abbrev pub AreWritable : List Message → Type 0

@@ -9,6 +9,7 @@ mod calls;
 mod core_fields;
 mod desk;
 mod end;
+mod held;
 mod input;
 mod outgoing;
 mod place_desk;

@@ -2,6 +2,7 @@ ghost use Rattle.std.specs.Prelude.{◌≡◌, ◌≤◌, ◌+◌, ◌⊎◌, �
 ghost use Rattle.chunk_wire.specs.declared.message.Message.{Message};
 ghost use Rattle.chunk_writer.specs.Written.{IsWritable, after_all, written};
 ghost use Rattle.command_dialog.specs.Dialog.{unit_message};
+ghost use Rattle.relay_session.specs.Holding.{unit_bytes};
 ghost use Rattle.relay_session.specs.Owing.{AreWritable, Says, Shows, nothing, pending};
 
 use crate::unit_in_hand::UnitInHand;
@@ -17,8 +18,8 @@ pub(crate) const AT_ONCE: usize = 16_384;
 /// What a session is to send: bytes that are encoded, the rest of a unit that is encoded as it is sent, and the bytes
 /// that stand after it.
 ///
-/// Contracts see the bytes that are encoded, those that stand after them, the writer after all, and how many of the last
-/// bytes are of no item that was taken.
+/// Contracts see the bytes that are encoded, those that stand after them, the writer after all, how many of the last bytes
+/// are of no item that was taken, the unit in hand, and the bytes that were encoded since that was begun.
 #[derive(Drop)]
 pub struct Outgoing {
     writer: Writer,
@@ -193,6 +194,23 @@ impl Outgoing {
             None => self.first.len() - self.offset.max(self.item),
             Some(_) => self.later.len(),
         }
+    }
+
+    /// How many bytes the unit has that is being sent; none where there is none.
+    pub fn unit_len(&self) -> usize
+        ensures { result ≡ unit_bytes self.now.hand }
+    {
+        match &self.hand {
+            None => 0,
+            Some(hand) => hand.body_len(),
+        }
+    }
+
+    /// The bytes that were encoded since the unit that is being sent was begun.
+    pub fn later(&self) -> &[u8]
+        ensures { result.now ≡ self.now.later }
+    {
+        self.later.as_slice()
     }
 
     /// The bytes that are encoded.

@@ -2,6 +2,7 @@ ghost use Rattle.std.specs.Prelude.{◌≡◌, ◌≤◌, ℕ, [], length, true,
 ghost use Rattle.command_dialog.specs.declared.types.Ask.{Ask};
 ghost use Rattle.command_dialog.specs.declared.types.Grant.{Grant};
 ghost use Rattle.session_owed.specs.Standing.{new_past};
+ghost use Rattle.relay_session.specs.Holding.{IsHolding};
 ghost use Rattle.relay_session.specs.Keeping.{past_of};
 ghost use Rattle.relay_session.specs.Owing.{pending};
 ghost use Rattle.relay_session.specs.Onward.{GoesOn};
@@ -11,6 +12,7 @@ ghost use Rattle.relay_session.specs.SessionState.{StandsFor, end_or_quit, ended
 ghost use Rattle.relay_session.specs.Turns.{EndedBy};
 
 use crate::body::Body;
+use crate::held::held_in;
 use crate::input::Input;
 use crate::six_steps::kept_on;
 use crate::steps::new_core;
@@ -143,6 +145,14 @@ impl<P: StreamPort> Session<P> {
         self.body
             .seat
             .leave(port, who, fed, &mut self.body.core.kept)
+    }
+
+    /// How many bytes it holds: of the input that it wasn't fed, of messages in progress, of what is encoded and not sent, of the
+    /// unit that is being sent, which counts whole, of the unit that the call that waits publishes, and of its dialogue's app.
+    pub fn held(&self) -> u64
+        ensures { IsHolding self.now.parts self.now.input result }
+    {
+        held_in(&self.body.core, &self.body.input)
     }
 
     /// How many bytes of its peer's it was fed; of one that a byte ended, those before it.

@@ -42,6 +42,13 @@ impl UnitInHand {
         Ok(UnitInHand { sending, unit })
     }
 
+    /// How many bytes the unit has.
+    pub(crate) fn body_len(&self) -> usize
+        ensures { result ≡ length self.now.body }
+    {
+        self.unit.unit().body.len()
+    }
+
     /// Appends chunks, as long as there are more and `out` has fewer bytes from a place on than `most`.
     pub(crate) fn fill(
         &mut self,

@@ -1,0 +1,69 @@
+-- What a session holds: the lengths of its lists of bytes, each counted once
+use Rattle.std.specs.Prelude.{◌≡◌, ℕ, ◌+◌, ◌-◌, ◌^◌, min, List, length, Option, Some, None, is_some, true, false}
+use Rattle.av_unit.specs.Media.{Media}
+use Rattle.chunk_reader.specs.Feeds.{IsHeld}
+use Rattle.chunk_reader.specs.ReaderKnown.{ReaderKnown}
+use Rattle.command_dialog.specs.State.{app_length}
+use Rattle.session_owed.specs.Chunks.{Hand}
+use Rattle.stream_model.specs.declared.calls.Call.{Call}
+use Rattle.stream_model.specs.declared.calls.Call.TheVariants as call
+use Rattle.stream_model.specs.declared.calls.Entry.{Entry}
+use Rattle.relay_session.specs.declared.core_fields.Core.{Core}
+
+-- of messages in progress: a reader that has failed holds nothing
+pub record IsParts (k : ReaderKnown) (n : ℕ) : Type 0 where
+  pub lives : is_some k.failed ≡ false → IsHeld k n
+  pub failed : is_some k.failed ≡ true → n ≡ 0
+
+-- of the unit in hand, whole
+abbrev pub unit_bytes : Option Hand → ℕ
+unit_bytes None = 0
+unit_bytes (Some h) = length h.body
+
+-- of the unit that a call publishes
+abbrev pub call_bytes : Call → ℕ
+call_bytes (call.Push unit) = length unit.body
+call_bytes call.Begin = 0
+call_bytes call.End = 0
+call_bytes call.Join = 0
+call_bytes (call.Take player want) = 0
+call_bytes (call.Leave player) = 0
+call_bytes call.Count = 0
+
+abbrev pub kept_bytes : Option Entry → ℕ
+kept_bytes None = 0
+kept_bytes (Some e) = call_bytes e.call
+
+pub record Held : Type 0 where
+  -- received and not fed
+  pub input : ℕ
+  -- of messages in progress
+  pub parts : ℕ
+  -- encoded and not sent: items and answers, those that stand after the unit in hand too
+  pub encoded : ℕ
+  -- of the unit in hand, whole
+  pub unit : ℕ
+  -- of the unit that the call that waits publishes
+  pub kept : ℕ
+  -- of the app that the dialogue keeps
+  pub app : ℕ
+
+-- with so many bytes of messages in progress
+abbrev pub held_with : Core → List ℕ → ℕ → Held
+held_with c input parts = record {
+  input = length input;
+  parts = parts;
+  encoded = length c.outgoing.ready + length c.outgoing.later;
+  unit = unit_bytes c.outgoing.hand;
+  kept = kept_bytes c.kept;
+  app = app_length c.dialog.app;
+}
+
+abbrev pub sum_of : Held → ℕ
+sum_of h = h.input + (h.parts + (h.encoded + (h.unit + (h.kept + h.app))))
+
+-- A SESSION WITH THIS INPUT HOLDS SO MANY BYTES
+pub record IsHolding (c : Core) (input : List ℕ) (n : ℕ) : Type 0 where
+  pub parts : ℕ
+  pub read : IsParts c.reader parts
+  pub sum : n ≡ min (sum_of (held_with c input parts)) (2 ^ 64 - 1)

@@ -1,0 +1,45 @@
+ghost use Rattle.std.specs.Prelude.{◌≡◌};
+ghost use Rattle.relay_session.specs.Holding.{IsHolding, call_bytes, kept_bytes};
+
+use crate::Core;
+use crate::input::Input;
+use stream_model::{Call, Entry};
+
+// How many bytes the unit has that a call publishes.
+fn call_bytes(call: &Call) -> usize
+    ensures { result ≡ call_bytes call.now }
+{
+    match call {
+        Call::Push(unit) => unit.unit().body.len(),
+        Call::Begin => 0,
+        Call::End => 0,
+        Call::Join => 0,
+        Call::Take { .. } => 0,
+        Call::Leave { .. } => 0,
+        Call::Count => 0,
+    }
+}
+
+// The same of the call that waits, if there is one.
+fn kept_bytes(kept: &Option<Entry>) -> usize
+    ensures { result ≡ kept_bytes kept.now }
+{
+    match kept {
+        None => 0,
+        Some(entry) => call_bytes(&entry.call),
+    }
+}
+
+/// How many bytes a session with this input holds.
+pub(crate) fn held_in(core: &Core, input: &Input) -> u64
+    ensures { IsHolding core.now input.now result }
+{
+    core.dialog
+        .held()
+        .saturating_add(kept_bytes(&core.kept) as u64)
+        .saturating_add(core.outgoing.unit_len() as u64)
+        .saturating_add(core.outgoing.later().len() as u64)
+        .saturating_add(core.outgoing.ready().len() as u64)
+        .saturating_add(core.reader.held())
+        .saturating_add(input.left().len() as u64)
+}
