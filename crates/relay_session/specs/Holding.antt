@@ -1,6 +1,5 @@
 -- What a session holds: the lengths of its lists of bytes, each counted once
 use Rattle.std.specs.Prelude.{◌≡◌, ℕ, ◌+◌, ◌-◌, ◌^◌, min, List, length, Option, Some, None, is_some, true, false}
-use Rattle.av_unit.specs.Media.{Media}
 use Rattle.chunk_reader.specs.Feeds.{IsHeld}
 use Rattle.chunk_reader.specs.ReaderKnown.{ReaderKnown}
 use Rattle.command_dialog.specs.State.{app_length}
