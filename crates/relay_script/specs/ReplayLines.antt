@@ -5,7 +5,14 @@ use Rattle.std.specs.declared.option.Option.{Option}
 use Rattle.std.specs.Option.{option_map}
 use Rattle.relay_script.specs.Lines.{first_word, next, last, is_text, number, decimal_of, count_of}
 use Rattle.relay_script.specs.declared.replay.ReplayLine.{ReplayLine}
-use Rattle.relay_script.specs.declared.replay.ReplayLine.TheVariants.{Nothing, Limits, Stream, Session, Piece, Eof, Room, FailRecv, FailSend, Turn, All, Quit}
+use Rattle.key_guard.specs.declared.check.Mode.{Mode}
+use Rattle.key_guard.specs.declared.check.Mode.TheVariants.{Plain, Digest}
+use Rattle.relay_script.specs.declared.replay.Form.{Form}
+use Rattle.relay_script.specs.declared.replay.Form.TheVariants.{Flv}
+use Rattle.relay_script.specs.declared.replay.Side.{Side}
+use Rattle.relay_script.specs.declared.replay.Side.TheVariants.{Publish, Play}
+use Rattle.relay_script.specs.declared.replay.ReplayLine.TheVariants.{Nothing, Limits, Stream, Guard, Recorder, Session, Piece, Eof, Room, FailRecv, FailSend}
+use Rattle.relay_script.specs.declared.replay.ReplayLine.TheVariants.{FailPut, Turn, Rec, All, Quit}
 
 -- ---- what a word says
 
@@ -24,7 +31,7 @@ message_of word = in_range 4096 4194304 (decimal_of word)
 abbrev pub window_of : List ℕ → Option ℕ
 window_of word = in_range 1000 (2 ^ 31 - 1) (decimal_of word)
 
--- the number of a session
+-- the number of a session, a stream or a recorder
 abbrev pub session_of : List ℕ → Option ℕ
 session_of word = number (2 ^ 32) word
 
@@ -41,8 +48,11 @@ abbrev pub is_name_byte : ℕ → Bool
 is_name_byte c = (within 65 90 c || within 97 122 c) || (within 48 57 c || (c == 46 || (c == 95 || c == 45)))
 
 -- APP and NAME
+abbrev pub is_name : List ℕ → Bool
+is_name word = within 1 64 (length word) && list_all is_name_byte word
+
 abbrev pub name_of : List ℕ → Option (List ℕ)
-name_of word = if within 1 64 (length word) && list_all is_name_byte word then Some word else None
+name_of word = if is_name word then Some word else None
 
 abbrev pub is_hex_byte : ℕ → Bool
 is_hex_byte c = within 48 57 c || within 97 102 c
@@ -64,6 +74,32 @@ pairs (high ∷ low ∷ rest) = (16 * digit high + digit low) ∷ pairs rest
 abbrev pub hex_of : List ℕ → Option (List ℕ)
 hex_of word = if is_hex word then Some (pairs word) else None
 
+-- ROLE, MODE and the form of a recording
+abbrev pub side_of : List ℕ → Option Side
+side_of word = if is_text word (codes "publish") then Some Publish else (if is_text word (codes "play") then Some Play else None)
+
+abbrev pub mode_of : List ℕ → Option Mode
+mode_of word = if is_text word (codes "plain") then Some Plain else (if is_text word (codes "digest") then Some Digest else None)
+
+abbrev pub form_of : List ℕ → Option Form
+form_of word = if is_text word (codes "flv") then Some Flv else None
+
+-- 64 lower-case hexadecimal digits
+abbrev pub is_digest : List ℕ → Bool
+is_digest word = length word == 64 && list_all is_hex_byte word
+
+-- KEY in each mode, and what it stands for: itself, or the 32 bytes of its digest
+abbrev pub is_key : Mode → List ℕ → Bool
+is_key Plain word = is_name word
+is_key Digest word = is_digest word
+
+abbrev pub key_bytes : Mode → List ℕ → List ℕ
+key_bytes Plain word = word
+key_bytes Digest word = pairs word
+
+abbrev pub key_of : Mode → List ℕ → Option (List ℕ)
+key_of mode word = if is_key mode word then Some (key_bytes mode word) else None
+
 -- ---- lines
 
 -- M R N P W
@@ -82,6 +118,22 @@ stream_line words =
     next words name_of (λ app rest.
     next rest name_of (λ name rest.
     last rest (Stream app name)))
+
+-- S ROLE MODE KEY
+abbrev pub guard_line : Option (List ℕ) → Option ReplayLine
+guard_line words =
+    next words session_of (λ stream rest.
+    next rest side_of (λ side rest.
+    next rest mode_of (λ mode rest.
+    next rest (key_of mode) (λ key rest.
+    last rest (Guard stream side mode key)))))
+
+-- S FORM
+abbrev pub record_line : Option (List ℕ) → Option ReplayLine
+record_line words =
+    next words session_of (λ stream rest.
+    next rest form_of (λ form rest.
+    last rest (Recorder stream form)))
 
 -- S HEX
 abbrev pub piece_line : Option (List ℕ) → Option ReplayLine
@@ -104,6 +156,13 @@ turn_line words =
     next rest turns_of (λ count rest.
     last rest (Turn session count)))
 
+-- R K
+abbrev pub rec_line : Option (List ℕ) → Option ReplayLine
+rec_line words =
+    next words session_of (λ recorder rest.
+    next rest turns_of (λ count rest.
+    last rest (Rec recorder count)))
+
 -- K
 abbrev pub all_line : Option (List ℕ) → Option ReplayLine
 all_line words = next words turns_of (λ count rest. last rest (All count))
@@ -116,20 +175,24 @@ session_line says words = next words session_of (λ session rest. last rest (say
 abbrev pub plain_line : List ℕ → Option (List ℕ) → Option ReplayLine
 plain_line word rest =
     if is_text word (codes "limits") then limits_line rest
+    else (if is_text word (codes "record") then record_line rest
     else (if is_text word (codes "open") then last rest Session
     else (if is_text word (codes "eof") then session_line Eof rest
     else (if is_text word (codes "room") then room_line rest
     else (if is_text word (codes "failrecv") then session_line FailRecv rest
     else (if is_text word (codes "failsend") then session_line FailSend rest
+    else (if is_text word (codes "failput") then session_line FailPut rest
     else (if is_text word (codes "turn") then turn_line rest
+    else (if is_text word (codes "rec") then rec_line rest
     else (if is_text word (codes "all") then all_line rest
-    else (if is_text word (codes "quit") then session_line Quit rest else None))))))))
+    else (if is_text word (codes "quit") then session_line Quit rest else None)))))))))))
 
 -- a line by its first word
 abbrev pub worded_line : List ℕ → Option (List ℕ) → Option ReplayLine
 worded_line word rest =
     if is_text word (codes "stream") then stream_line rest
-    else (if is_text word (codes "in") then piece_line rest else plain_line word rest)
+    else (if is_text word (codes "guard") then guard_line rest
+    else (if is_text word (codes "in") then piece_line rest else plain_line word rest))
 
 -- an empty line, a line that begins with `#`, or one of the lines above
 abbrev pub form : List ℕ → Option ReplayLine
@@ -142,4 +205,4 @@ meaning line = if nat_le (length line) 65536 then form line else None
 
 -- the lines that take memory
 abbrev pub takes_memory : List ℕ → Bool
-takes_memory word = is_text word (codes "stream") || is_text word (codes "in")
+takes_memory word = is_text word (codes "stream") || (is_text word (codes "guard") || is_text word (codes "in"))

@@ -4,17 +4,35 @@ ghost use Rattle.std.specs.Option.{option_copied};
 ghost use Rattle.relay_script.specs.Lines.{digits_from, below, first_word, last};
 ghost use Rattle.relay_script.specs.Lines.{number as number_in};
 ghost use Rattle.relay_script.specs.declared.replay.ReplayLine.{ReplayLine as Line};
-ghost use Rattle.relay_script.specs.declared.replay.ReplayLine.TheVariants.{Stream, Piece, Session};
+ghost use Rattle.relay_script.specs.declared.replay.ReplayLine.TheVariants.{Stream, Guard, Piece, Session};
 ghost use Rattle.relay_script.specs.ReplayLines.{within, message_of, window_of, session_of, turns_of, room_of, is_name_byte, name_of, is_hex_byte};
 ghost use Rattle.relay_script.specs.ReplayLines.{is_hex, digit, pairs, limits_line, stream_line, piece_line, room_line, turn_line, all_line};
 ghost use Rattle.relay_script.specs.ReplayLines.{session_line, plain_line, worded_line, meaning, takes_memory};
+ghost use Rattle.relay_script.specs.ReplayLines.{side_of, mode_of, form_of, is_digest, is_key, key_bytes, guard_line, record_line, rec_line};
 
 use crate::LineFail;
 use crate::line::{count_of, first_word, number, who_of};
 use av_unit::{Bytes, OutOfMemory};
+use key_guard::Mode;
 use std::alloc::Global;
 
-/// What a line of a replay's script says. Sessions and streams are numbered from 0.
+/// Whom a key lets in.
+#[derive(Clone, Copy, Debug, PartialEq, Eq)]
+pub enum Side {
+    /// Publishers.
+    Publish,
+    /// Players.
+    Play,
+}
+
+/// How a recording is written.
+#[derive(Clone, Copy, Debug, PartialEq, Eq)]
+pub enum Form {
+    /// As an FLV file.
+    Flv,
+}
+
+/// What a line of a replay's script says. Sessions, recorders and streams are numbered from 0.
 #[derive(Drop)]
 pub enum ReplayLine {
     /// An empty line or a comment.
@@ -37,6 +55,18 @@ pub enum ReplayLine {
         app: Bytes,
         name: Bytes,
     },
+    /// A further key of a stream for that side. In mode `Digest` it is the 32 bytes that its digits name.
+    Guard {
+        stream: u32,
+        side: Side,
+        mode: Mode,
+        key: Bytes,
+    },
+    /// A recorder of a stream.
+    Recorder {
+        stream: u32,
+        form: Form,
+    },
     /// A session, with room for all that is sent.
     Session,
     /// A further piece of a session's input.
@@ -55,12 +85,19 @@ pub enum ReplayLine {
     FailRecv(u32),
     /// The session's next send fails.
     FailSend(u32),
+    /// The recorder's next put fails.
+    FailPut(u32),
     /// So many turns of the session.
     Turn {
         session: u32,
         count: u32,
     },
-    /// So many rounds of a turn of each session.
+    /// So many turns of the recorder.
+    Rec {
+        recorder: u32,
+        count: u32,
+    },
+    /// So many rounds: a turn of each session that hasn't ended, then one of each recorder.
     All(u32),
     /// The session quits.
     Quit(u32),
@@ -185,6 +222,66 @@ fn digit(b: u8) -> u8
     }
 }
 
+fn is_digest(word: &[u8]) -> bool
+    ensures { result ≡ is_digest word.now }
+{
+    word.len() == 64 && are_hex_bytes(word)
+}
+
+fn side_of(word: &[u8]) -> Option<Side>
+    ensures { result ≡ side_of word.now }
+{
+    if word == b"publish".as_slice() {
+        Some(Side::Publish)
+    } else if word == b"play".as_slice() {
+        Some(Side::Play)
+    } else {
+        None
+    }
+}
+
+fn mode_of(word: &[u8]) -> Option<Mode>
+    ensures { result ≡ mode_of word.now }
+{
+    if word == b"plain".as_slice() {
+        Some(Mode::Plain)
+    } else if word == b"digest".as_slice() {
+        Some(Mode::Digest)
+    } else {
+        None
+    }
+}
+
+fn form_of(word: &[u8]) -> Option<Form>
+    ensures { result ≡ form_of word.now }
+{
+    if word == b"flv".as_slice() {
+        Some(Form::Flv)
+    } else {
+        None
+    }
+}
+
+// Whether the word spells a key in that mode.
+fn is_key(mode: Mode, word: &[u8]) -> bool
+    ensures { result ≡ is_key mode word.now }
+{
+    match mode {
+        Mode::Plain => is_name_length(word.len()) && are_name_bytes(word),
+        Mode::Digest => is_digest(word),
+    }
+}
+
+// The key that the word spells in that mode.
+fn key_bytes(alloc: Global, mode: Mode, word: &[u8]) -> Result<Vec<u8>, OutOfMemory>
+    ensures { IfOk result (λ bytes. bytes.items ≡ key_bytes mode word.now) }
+{
+    match mode {
+        Mode::Plain => Ok(Vec::from_slice(alloc, word)?),
+        Mode::Digest => pairs(alloc, word),
+    }
+}
+
 // The byte of each two digits.
 fn pairs(alloc: Global, word: &[u8]) -> Result<Vec<u8>, OutOfMemory>
     ensures { IfOk result (λ bytes. bytes.items ≡ pairs word.now) }
@@ -283,6 +380,84 @@ fn stream(alloc: Global, app: &[u8], name: &[u8]) -> Result<ReplayLine, OutOfMem
     })
 }
 
+// S ROLE MODE KEY
+fn guard_line(alloc: Global, words: Option<&[u8]>) -> Result<ReplayLine, LineFail>
+    ensures says { IfOk result (λ l. guard_line (option_copied words.entry) ≡ Some l) }
+    ensures outside { (result ≡ Err LineFail.Outside) ↔ (guard_line (option_copied words.entry) ≡ None) }
+{
+    let Some(keyed) = read_guard(words) else {
+        return Err(LineFail::Outside);
+    };
+    match guard(alloc, keyed.stream, keyed.side, keyed.mode, keyed.word) {
+        Ok(line) => Ok(line),
+        Err(_) => Err(LineFail::OutOfMemory),
+    }
+}
+
+// A key of a stream, before it is copied.
+#[derive(Clone, Copy)]
+struct Keyed<'a> {
+    stream: u32,
+    side: Side,
+    mode: Mode,
+    word: &'a [u8],
+}
+
+fn read_guard(words: Option<&[u8]>) -> Option<Keyed<'_>>
+    ensures { guard_line (option_copied words.entry) ≡ option_map (λ k. Guard k.stream k.side k.mode (key_bytes k.mode k.word.now)) result }
+{
+    let (stream, rest) = first_word(words?);
+    let stream = session_of(stream)?;
+    let (side, rest) = first_word(rest?);
+    let side = side_of(side)?;
+    let (mode, rest) = first_word(rest?);
+    let mode = mode_of(mode)?;
+    let (word, rest) = first_word(rest?);
+    if !is_key(mode, word) {
+        return None;
+    }
+    match rest {
+        Some(_) => None,
+        None => Some(Keyed {
+            stream,
+            side,
+            mode,
+            word,
+        }),
+    }
+}
+
+fn guard(
+    alloc: Global,
+    stream: u32,
+    side: Side,
+    mode: Mode,
+    word: &[u8],
+) -> Result<ReplayLine, OutOfMemory>
+    ensures { IfOk result (λ line. line ≡ Guard stream side mode (key_bytes mode word.now)) }
+{
+    Ok(ReplayLine::Guard {
+        stream,
+        side,
+        mode,
+        key: Bytes::from_vec(key_bytes(alloc, mode, word)?),
+    })
+}
+
+// S FORM
+fn record_line(words: Option<&[u8]>) -> Option<ReplayLine>
+    ensures { result ≡ record_line (option_copied words.entry) }
+{
+    let (stream, rest) = first_word(words?);
+    let stream = session_of(stream)?;
+    let (form, rest) = first_word(rest?);
+    let form = form_of(form)?;
+    match rest {
+        Some(_) => None,
+        None => Some(ReplayLine::Recorder { stream, form }),
+    }
+}
+
 // S HEX
 fn piece_line(alloc: Global, words: Option<&[u8]>) -> Result<ReplayLine, LineFail>
     ensures says { IfOk result (λ l. piece_line (option_copied words.entry) ≡ Some l) }
@@ -356,6 +531,20 @@ fn turn_line(words: Option<&[u8]>) -> Option<ReplayLine>
     }
 }
 
+// R K
+fn rec_line(words: Option<&[u8]>) -> Option<ReplayLine>
+    ensures { result ≡ rec_line (option_copied words.entry) }
+{
+    let (recorder, rest) = first_word(words?);
+    let recorder = session_of(recorder)?;
+    let (count, rest) = first_word(rest?);
+    let count = turns_of(count)?;
+    match rest {
+        Some(_) => None,
+        None => Some(ReplayLine::Rec { recorder, count }),
+    }
+}
+
 // K
 fn all_line(words: Option<&[u8]>) -> Option<ReplayLine>
     ensures { result ≡ all_line (option_copied words.entry) }
@@ -395,6 +584,8 @@ fn plain_line(word: &[u8], rest: Option<&[u8]>) -> Option<ReplayLine>
 {
     if word == b"limits".as_slice() {
         limits_line(rest)
+    } else if word == b"record".as_slice() {
+        record_line(rest)
     } else if word == b"open".as_slice() {
         open_line(rest)
     } else if word == b"eof".as_slice() {
@@ -405,8 +596,12 @@ fn plain_line(word: &[u8], rest: Option<&[u8]>) -> Option<ReplayLine>
         Some(ReplayLine::FailRecv(one_session(rest)?))
     } else if word == b"failsend".as_slice() {
         Some(ReplayLine::FailSend(one_session(rest)?))
+    } else if word == b"failput".as_slice() {
+        Some(ReplayLine::FailPut(one_session(rest)?))
     } else if word == b"turn".as_slice() {
         turn_line(rest)
+    } else if word == b"rec".as_slice() {
+        rec_line(rest)
     } else if word == b"all".as_slice() {
         all_line(rest)
     } else if word == b"quit".as_slice() {
@@ -425,6 +620,9 @@ fn worded_line(alloc: Global, word: &[u8], rest: Option<&[u8]>) -> Result<Replay
     if word == b"stream".as_slice() {
         return stream_line(alloc, rest);
     }
+    if word == b"guard".as_slice() {
+        return guard_line(alloc, rest);
+    }
     if word == b"in".as_slice() {
         return piece_line(alloc, rest);
     }
@@ -435,15 +633,17 @@ fn worded_line(alloc: Global, word: &[u8], rest: Option<&[u8]>) -> Result<Replay
 ///
 /// The answer is `Outside` exactly where the line has none of the forms of a line, or has more than
 /// 65,536 bytes. A line that begins with `#` is a comment. The other forms, with one space between two words, are
-/// `limits M R N P W`, `stream APP NAME`, `open`, `in S HEX`, `eof S`, `room S N`, `room S all`, `failrecv S`,
-/// `failsend S`, `turn S K`, `all K` and `quit S`.
+/// `limits M R N P W`, `stream APP NAME`, `guard S ROLE MODE KEY`, `record S flv`, `open`, `in S HEX`, `eof S`,
+/// `room S N`, `room S all`, `failrecv S`, `failsend S`, `failput R`, `turn S K`, `rec R K`, `all K` and `quit S`.
 ///
-/// M is 4,096 to 4,194,304, R at most 268,435,456, N in `limits` 1 to 65,536, P 1 to 256, and W 1,000 to 2^31 - 1.
-/// APP and NAME are 1 to 64 letters, digits, `.`, `_` or `-`. S is below 2^32, N in `room` below 2^64, and K is 1 to
-/// 1,000,000. HEX is an even number of lower-case hexadecimal digits, at least two. Numbers are decimal, without a sign
-/// or a leading zero. Where in a script a line may stand, and whether what it names is there, is no matter here.
+/// M is 4,096 to 4,194,304, R in `limits` at most 268,435,456, N there 1 to 65,536, P 1 to 256, and W 1,000 to 2^31 - 1.
+/// APP and NAME are 1 to 64 letters, digits, `.`, `_` or `-`. ROLE is `publish` or `play`. MODE is `plain`, and KEY has the
+/// form of NAME, or `digest`, and KEY is 64 lower-case hexadecimal digits. S and the R of a recorder are below 2^32, N in
+/// `room` below 2^64, and K is 1 to 1,000,000. HEX is an even number of lower-case hexadecimal digits, at least two. Numbers
+/// are decimal, without a sign or a leading zero. Where in a script a line may stand, and whether what it names is there, is
+/// no matter here.
 ///
-/// `OutOfMemory` comes only at `stream` and `in`.
+/// `OutOfMemory` comes only at `stream`, `guard` and `in`.
 pub fn replay_line(alloc: Global, line: &[u8]) -> Result<ReplayLine, LineFail>
     ensures says { IfOk result (λ l. meaning line.now ≡ Some l) }
     ensures outside { (result ≡ Err LineFail.Outside) ↔ (meaning line.now ≡ None) }

@@ -149,12 +149,26 @@ fn told(alloc: Global, line: &[u8]) -> Result<String, AllocError> {
             },
         ) => format!(in alloc; "{message} {bytes} {items} {players} {window}"),
         Ok(ReplayLine::Stream { app, name }) => named(alloc, &app, &name),
+        Ok(
+            ReplayLine::Guard {
+                stream,
+                side,
+                mode,
+                key,
+            },
+        ) => {
+            let key = key.as_slice();
+            format!(in alloc; "{stream} {side:?} {mode:?} {key:?}")
+        }
+        Ok(ReplayLine::Recorder { stream, form }) => format!(in alloc; "{stream} {form:?}"),
         Ok(ReplayLine::Session) => format!(in alloc; "session"),
         Ok(ReplayLine::Piece { session, bytes }) => given(alloc, session, &bytes),
         Ok(ReplayLine::Eof(session)) => format!(in alloc; "{session} ends"),
         Ok(ReplayLine::Room { session, left }) => format!(in alloc; "{session} room {left:?}"),
         Ok(ReplayLine::FailRecv(session)) => format!(in alloc; "{session} fails to read"),
         Ok(ReplayLine::FailSend(session)) => format!(in alloc; "{session} fails to write"),
+        Ok(ReplayLine::FailPut(recorder)) => format!(in alloc; "{recorder} fails to put"),
+        Ok(ReplayLine::Rec { recorder, count }) => format!(in alloc; "{recorder} records {count}"),
         Ok(ReplayLine::Turn { session, count }) => format!(in alloc; "{session} turns {count}"),
         Ok(ReplayLine::All(count)) => format!(in alloc; "all turn {count}"),
         Ok(ReplayLine::Quit(session)) => format!(in alloc; "{session} quits"),
@@ -194,6 +208,9 @@ limits 4096 0 1 1 1000
 limits 4194304 268435456 65536 256 2147483647
 stream a -
 stream Li.ve_1 z
+guard 0 publish plain a.b
+guard 1 play digest 000102030405060708090a0b0c0d0e0f101112131415161718191a1b1c1d1eff
+record 2 flv
 open
 in 0 00ff1a
 in 4294967295 c0
@@ -203,8 +220,10 @@ room 2 18446744073709551615
 room 2 all
 failrecv 3
 failsend 4
+failput 5
 turn 5 1
 turn 5 1000000
+rec 6 2
 all 1000000
 quit 6",
     )?;
@@ -216,6 +235,9 @@ nothing
 4194304 268435456 65536 256 2147483647
 [97] [45]
 [76, 105, 46, 118, 101, 95, 49] [122]
+0 Publish Plain [97, 46, 98]
+1 Play Digest [0, 1, 2, 3, 4, 5, 6, 7, 8, 9, 10, 11, 12, 13, 14, 15, 16, 17, 18, 19, 20, 21, 22, 23, 24, 25, 26, 27, 28, 29, 30, 255]
+2 Flv
 session
 0 given [0, 255, 26]
 4294967295 given [192]
@@ -225,8 +247,10 @@ session
 2 room None
 3 fails to read
 4 fails to write
+5 fails to put
 5 turns 1
 5 turns 1000000
+6 records 2
 all turn 1000000
 6 quits
 "
@@ -255,6 +279,16 @@ stream live cam x
 stream live c+m
 stream  cam
 stream live 12345678901234567890123456789012345678901234567890123456789012345
+guard 0 publish plain
+guard 0 publish plain a+b
+guard 0 publish digest abc
+guard 0 publish digest 000102030405060708090A0b0c0d0e0f101112131415161718191a1b1c1d1eff
+guard 0 publisher plain a
+guard 0 play named a
+guard 0 play plain a b
+record 0
+record 0 ts
+record flv
 open 1
 open \nin 0
 in 0 0
