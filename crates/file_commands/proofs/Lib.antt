@@ -1,0 +1,6 @@
+mod Writing
+mod Pieces
+mod Files
+mod Outcomes
+mod UnitLines
+mod Unread

@@ -1,0 +1,7 @@
+pub mod Written
+pub mod Outcome
+pub mod Words
+pub mod Remux
+pub mod Check
+pub mod Parts
+pub mod Fits

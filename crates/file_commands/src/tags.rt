@@ -1,0 +1,135 @@
+//! A file of FLV that becomes a transport stream.
+ghost use Rattle.std.specs.Prelude.{◌≡◌, ◌≤◌, ◌++◌, ◌∷◌, [], ℕ, List, length, OnOk, IfOk, refl};
+ghost use Rattle.av_unit.specs.declared.item.Item.TheVariants.{Unit as AUnit};
+ghost use Rattle.file_commands.specs.Remux.{RemuxGives, RemuxStops, RemuxCut, RemuxWhole, items_of, remux_text};
+ghost use Rattle.file_commands.specs.Fits.{TagsFit, Writes, tags_refusal};
+
+use crate::convert::Convert;
+use crate::fail::Fail;
+use av_unit::{Bytes, Item, OutOfMemory, Unit, UnitArc, unit_of};
+use flv_tags::{FlvFail, Tag, TagFed, TagReader};
+use std::alloc::Global;
+use ts_writer::{TsWriter, Wrote};
+
+/// The tags of a file, and the transport stream of their units.
+#[derive(Drop)]
+pub(crate) struct Tags {
+    reader: TagReader,
+    writer: TsWriter,
+    left_out: bool,
+}
+
+fn refusal(fail: FlvFail) -> Fail
+    ensures { result ≡ tags_refusal fail }
+{
+    match fail {
+        FlvFail::BadHeader { at } => Fail::Refused { at },
+        FlvFail::BadTag { at } => Fail::Refused { at },
+        FlvFail::BadBack {
+            at,
+            stored: _,
+            real: _,
+        } => Fail::Refused { at },
+        FlvFail::OutOfMemory => Fail::OutOfMemory,
+    }
+}
+
+// Writes a unit.
+fn write_unit(
+    alloc: Global,
+    writer: &mut TsWriter,
+    left_out: &mut bool,
+    unit: Unit,
+    out: &mut Bytes,
+) -> Result<(), OutOfMemory>
+    ensures { OnOk result (Writes (AUnit unit ∷ []) writer.old.past writer.new.past left_out.old left_out.new out.old out.new) }
+{
+    let item = Item::Unit(UnitArc::new(alloc, unit)?);
+    match writer.item(&item, out)? {
+        Wrote::LeftOut(_) => *left_out = true,
+        Wrote::Unit => {}
+        Wrote::Nothing => {}
+    }
+    Ok(())
+}
+
+// Writes the unit of a tag, if it has a class.
+fn write_tag(
+    alloc: Global,
+    writer: &mut TsWriter,
+    left_out: &mut bool,
+    tag: Tag,
+    out: &mut Bytes,
+) -> Result<(), OutOfMemory>
+    requires { length tag.body ≤ 4194304 }
+    ensures { OnOk result (Writes (items_of tag) writer.old.past writer.new.past left_out.old left_out.new out.old out.new) }
+{
+    let Tag { kind, time, body } = tag;
+    match unit_of(kind, time, body) {
+        Some(unit) => write_unit(alloc, writer, left_out, unit, out),
+        None => Ok(()),
+    }
+}
+
+impl Tags {
+    /// A file of which nothing was read. A broadcast begins.
+    pub(crate) fn new(alloc: Global, out: &mut Bytes) -> Result<Tags, OutOfMemory>
+        ensures fits { IfOk result (λ t. TagsFit t.reader t.writer t.left_out) }
+        ensures fresh { IfOk result (λ t. t.reader.fed ≡ []) }
+        ensures text { IfOk result (λ t. out.new ≡ out.old ++ remux_text t.reader.given) }
+    {
+        let mut writer = TsWriter::new(alloc);
+        writer.item(&Item::Begin, out)?;
+        Ok(Tags {
+            reader: TagReader::new(alloc),
+            writer,
+            left_out: false,
+        })
+    }
+}
+
+impl Convert for Tags {
+    ghost use Rattle.std.specs.Prelude.{refl};
+    ghost use Rattle.file_commands.specs.Remux.{RemuxGives, RemuxStops, RemuxCut, RemuxWhole, remux_text};
+    ghost use Rattle.file_commands.specs.Fits.{TagsFit};
+
+    ghost fed = { λ t. t.reader.fed };
+
+    ghost given = { λ t. remux_text t.reader.given };
+
+    ghost fits = { λ t. TagsFit t.reader t.writer t.left_out };
+
+    ghost gives = { RemuxGives };
+
+    ghost stops = { RemuxStops };
+
+    ghost cut = { RemuxCut };
+
+    ghost whole = { RemuxWhole };
+
+    fn step(&mut self, alloc: Global, piece: &[u8], out: &mut Bytes) -> Result<usize, Fail> {
+        match self.reader.feed(alloc, piece) {
+            Ok(TagFed { used, tag: None }) => Ok(used),
+            Ok(
+                TagFed {
+                    used,
+                    tag: Some(tag),
+                },
+            ) => {
+                write_tag(alloc, &mut self.writer, &mut self.left_out, tag, out)?;
+                Ok(used)
+            }
+            Err(fail) => Err(refusal(fail)),
+        }
+    }
+
+    fn finish(&mut self, _alloc: Global, out: &mut Bytes) -> Result<bool, Fail> {
+        let _ = &out;
+        match self.reader.finish() {
+            Ok(()) => Ok(self.left_out),
+            Err(fail) => Err(refusal(fail)),
+        }
+    }
+
+    ghost reads = { λ t fit. record { tags = t.reader.given; rest = fit.stands.0; reads = fit.stands.1; text_is = refl } };
+}
