@@ -6,7 +6,7 @@ mod texts;
 
 use adapters::{Reading, Writing};
 use relay_base::Status;
-use relay_program::run;
+use relay_program::{Command, command_of, run};
 use std::process::ExitCode;
 use std::{env, io};
 use texts::{HELP, USAGE, VERSION};
@@ -17,14 +17,17 @@ const BAD_WORDS: u8 = 2;
 /// The exit code of a read of standard input that failed.
 const READ_FAULT: u8 = 3;
 
-/// The exit code of a line that is none of a script.
-const BAD_LINE: u8 = 4;
+/// The exit code of a line that is none of a script, and of a file that is refused.
+const BAD_INPUT: u8 = 4;
 
 /// The exit code of a write to standard output that failed.
 const WRITE_FAULT: u8 = 5;
 
 /// The exit code of want of memory.
 const NO_MEMORY: u8 = 6;
+
+/// The exit code of a file of which a unit was left out.
+const LEFT_OUT: u8 = 8;
 
 // The words after the program's name. One that isn't UTF-8 is invalid data.
 fn words(rt: &HostRuntime) -> io::Result<Vec<Vec<u8>>> {
@@ -59,7 +62,20 @@ fn tell(rt: &HostRuntime, text: &str) -> Status {
     }
 }
 
-// Runs the command that the words name, and says why it didn't read its input to the end.
+// Says on standard error where the input of a command is refused.
+fn tell_refusal(rt: &HostRuntime, words: &[Vec<u8>], place: u64) {
+    let _ = match command_of(words) {
+        Some(Command::Remux) => eprintln!(rt;
+            "relay: standard input is no FLV file at byte {place}"
+        ),
+        Some(Command::Check) => eprintln!(rt;
+            "relay: standard input is no transport stream at byte {place}"
+        ),
+        _ => eprintln!(rt; "relay: line {place} is no line of a script (see relay --help)"),
+    };
+}
+
+// Runs the command that the words name, and says why it didn't do all of it.
 fn command(rt: &HostRuntime, words: &[Vec<u8>]) -> Status {
     let mut input = Reading::new(rt.reader());
     let mut out = Writing::new(io::writer(rt));
@@ -67,12 +83,13 @@ fn command(rt: &HostRuntime, words: &[Vec<u8>]) -> Status {
     let place = ended.place;
     match ended.code {
         READ_FAULT => tell_fault(rt, "standard input", input.error()),
-        BAD_LINE => {
-            let _ = eprintln!(rt; "relay: line {place} is no line of a script (see relay --help)");
-        }
+        BAD_INPUT => tell_refusal(rt, words, place),
         WRITE_FAULT => tell_fault(rt, "standard output", out.error()),
         NO_MEMORY => {
             let _ = eprintln!(rt; "relay: there was too little memory");
+        }
+        LEFT_OUT => {
+            let _ = eprintln!(rt; "relay: units of sound or pictures were left out");
         }
         _ => {}
     }

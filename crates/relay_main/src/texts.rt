@@ -3,6 +3,8 @@
 pub const VERSION: &str = "relay 0.1.0\n";
 
 pub const USAGE: &str = "usage: relay drill < SCRIPT
+       relay remux < FLV > TS
+       relay check < TS
        relay --help
        relay --version
 ";
@@ -10,6 +12,8 @@ pub const USAGE: &str = "usage: relay drill < SCRIPT
 pub const HELP: &str = "relay: a live video relay, whose rules are proved
 
 usage: relay drill < SCRIPT
+       relay remux < FLV > TS
+       relay check < TS
        relay --help
        relay --version
 
@@ -66,16 +70,32 @@ and at most 65536 for meta, vconfig and aconfig. BYTES is at most 268435456,
 ITEMS 1 to 65536, and PLAYERS 1 to 256. An item costs its bytes and 64 more. A
 line has at most 65536 bytes, and a script at most 268435456.
 
+relay remux reads a file of FLV on standard input and writes it as a transport
+stream on standard output: its AVC as access units, its AAC in ADTS frames.
+Units of other codecs, units that can't be read and units without a
+configuration are left out.
+
+relay check reads a transport stream of this form on standard input, and prints
+a line for each unit of it. Times are in 1/90000 second, and LEN is the number
+of a unit's bytes.
+  video PTS DTS LEN
+  audio PTS LEN
+  units N              the last line: there are N units
+
+A file has at most 68719476736 bytes.
+
 Exit status:
-  0  the script was read to its end
+  0  the input was read to its end
   2  the command line is none of the above; nothing was read or written
   3  standard input failed
-  4  a line of the script is none of the above, or may not stand there; the
-     replies to the lines before it are written
+  4  a line of the script is none of the above, or may not stand there; or the
+     file is none, or none any more from a byte on. What the lines or the units
+     before give is written
   5  standard output failed
   6  there was too little memory
+  8  the file was read to its end, and a unit of sound or pictures was left out
 Where it isn't 0, the last line on standard error is 'relay: status CODE at
-PLACE'. PLACE is the number of the script's line with code 4, the first being
-1, and else 0. Lines before it say why in words, but not where a pipe's reader
-has gone.
+PLACE'. With code 4 PLACE is the number of the script's line, the first being 1,
+or the number of the file's bytes before the place where it is refused; else it
+is 0. Lines before it say why in words, but not where a pipe's reader has gone.
 ";

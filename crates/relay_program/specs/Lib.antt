@@ -3,3 +3,4 @@ pub mod Outcome
 pub mod Parts
 pub mod Ends
 pub mod Words
+pub mod Commands

@@ -2,11 +2,6 @@
 use Rattle.std.specs.Prelude.{ℕ, Bool, false, List, [], ◌∷◌, codes}
 use Rattle.relay_script.specs.Lines.{is_text}
 
--- the first word is that text
-abbrev pub first_word_is : List (List ℕ) → List ℕ → Bool
-first_word_is [] text = false
-first_word_is (word ∷ words) text = is_text word text
-
 -- the one word is that text
 abbrev pub only_word_is : List (List ℕ) → List ℕ → Bool
 only_word_is [] text = false

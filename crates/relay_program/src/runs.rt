@@ -1,33 +1,66 @@
-ghost use Rattle.std.specs.Prelude.{◌≡◌, map};
+ghost use Rattle.std.specs.Prelude.{◌≡◌, None, Some, map, true};
+ghost use Rattle.file_commands.specs.Check.{CheckGives, CheckStops, CheckCut, CheckWhole};
+ghost use Rattle.file_commands.specs.Outcome.{Outcome as FileOutcome, seen};
+ghost use Rattle.file_commands.specs.Remux.{RemuxGives, RemuxStops, RemuxCut, RemuxWhole};
+ghost use Rattle.relay_program.specs.declared.runs.Command.TheVariants.{Drill, Remux, Check};
+ghost use Rattle.relay_program.specs.Commands.{command_of};
 ghost use Rattle.relay_program.specs.Drill.{drill_text, outside_line};
 ghost use Rattle.relay_program.specs.Outcome.{in_out, Outcome};
-ghost use Rattle.relay_program.specs.Words.{is_drill, first_word_is};
+ghost use Rattle.relay_program.specs.Words.{only_word_is};
 
 use crate::drills::drill;
+use file_commands::{check, remux};
 use relay_base::Status;
 use relay_outside::{Sink, Source};
 use std::alloc::Global;
 
-fn first_word_is(words: &[Vec<u8>], name: &[u8]) -> bool
-    ensures { result ≡ first_word_is (map (λ w. w.items) words.now) name.now }
+/// A command.
+#[derive(Clone, Copy, Debug, PartialEq, Eq)]
+pub enum Command {
+    /// [`drill`]
+    Drill,
+    /// [`remux`]
+    Remux,
+    /// [`check`]
+    Check,
+}
+
+fn only_word_is(words: &[Vec<u8>], text: &[u8]) -> bool
+    ensures { result ≡ only_word_is (map (λ w. w.items) words.now) text.now }
 {
     match words {
-        [word, ..] => word.as_slice() == name,
-        [] => false,
+        [word] => word.as_slice() == text,
+        _ => false,
     }
 }
 
-/// Runs the command that the first of the words names.
-///
-/// The words are those after the program's name. The one command is [`drill`], and what it writes by
-/// each code is told there. The code is
+/// The command that the words after the program's name ask for.
+pub fn command_of(words: &[Vec<u8>]) -> Option<Command>
+    ensures { result ≡ command_of (map (λ w. w.items) words.now) }
+{
+    if only_word_is(words, b"drill".as_slice()) {
+        return Some(Command::Drill);
+    }
+    if only_word_is(words, b"remux".as_slice()) {
+        return Some(Command::Remux);
+    }
+    if only_word_is(words, b"check".as_slice()) {
+        return Some(Command::Check);
+    }
+    None
+}
+
+/// Runs the command that the words name, which are those after the program's name. What it writes by each code is told at
+/// [`drill`], [`remux`] and [`check`]. The code is
 ///
 /// - 0 where the input was read to its end;
 /// - 2 exactly where the words aren't those of a command: nothing is read or written;
 /// - 3 only where the input's faults rose;
-/// - 4 where the line `place` of the input, counted from 1, is the first outside the grammar;
+/// - 4 where the input is refused at `place`: that of the first line outside a script's grammar, counted from 1, or that of
+///   the first byte of a file that is refused, counted from 0;
 /// - 5 only where the output's faults rose;
-/// - 6 for want of memory.
+/// - 6 for want of memory;
+/// - 8 for `remux` alone, where the input was read to its end and a unit of sound or pictures was left out.
 ///
 /// `place` is 0 but for code 4.
 pub fn run<S: Source, K: Sink>(
@@ -36,13 +69,24 @@ pub fn run<S: Source, K: Sink>(
     input: &mut S,
     out: &mut K,
 ) -> Status
-    ensures outcome { Outcome drill_text outside_line (is_drill (map (λ w. w.items) words.now))
+    ensures drill { command_of (map (λ w. w.items) words.now) ≡ Some Drill → Outcome drill_text outside_line true
         (in_out (S.left input.old) (K.holds out.old) (S.faults input.old) (K.faults out.old))
         (in_out (S.left input.new) (K.holds out.new) (S.faults input.new) (K.faults out.new)) result }
+    ensures remux { command_of (map (λ w. w.items) words.now) ≡ Some Remux → FileOutcome RemuxGives RemuxStops RemuxCut RemuxWhole true
+        (seen (S.left input.old) (K.holds out.old) (S.faults input.old) (K.faults out.old))
+        (seen (S.left input.new) (K.holds out.new) (S.faults input.new) (K.faults out.new)) result }
+    ensures check { command_of (map (λ w. w.items) words.now) ≡ Some Check → FileOutcome CheckGives CheckStops CheckCut CheckWhole true
+        (seen (S.left input.old) (K.holds out.old) (S.faults input.old) (K.faults out.old))
+        (seen (S.left input.new) (K.holds out.new) (S.faults input.new) (K.faults out.new)) result }
+    ensures check_codes { command_of (map (λ w. w.items) words.now) ≡ Some Check → result.code ≡ 8 → ⊥ }
+    ensures none { command_of (map (λ w. w.items) words.now) ≡ None → result.code ≡ 2 }
+    ensures words { result.code ≡ 2 → command_of (map (λ w. w.items) words.now) ≡ None }
     ensures untouched { result.code ≡ 2 → (input.new ≡ input.old) × (out.new ≡ out.old) }
 {
-    if first_word_is(words, b"drill".as_slice()) {
-        return drill(alloc, words, input, out);
+    match command_of(words) {
+        Some(Command::Drill) => drill(alloc, words, input, out),
+        Some(Command::Remux) => remux(alloc, words, input, out),
+        Some(Command::Check) => check(alloc, words, input, out),
+        None => Status { code: 2, place: 0 },
     }
-    Status { code: 2, place: 0 }
 }

@@ -1,0 +1,14 @@
+-- The command that the words of the command line ask for.
+use Rattle.std.specs.Prelude.{ℕ, List, None, Some, if◌then◌else◌}
+use Rattle.std.specs.declared.option.Option.{Option}
+use Rattle.relay_program.specs.declared.runs.Command.{Command}
+use Rattle.relay_program.specs.declared.runs.Command.TheVariants.{Drill, Remux, Check}
+use Rattle.file_commands.specs.Words.{is_check, is_remux}
+use Rattle.relay_program.specs.Words.{is_drill}
+
+abbrev pub command_of : List (List ℕ) → Option Command
+command_of words =
+    if is_drill words then Some Drill
+    else (if is_remux words then Some Remux
+    else (if is_check words then Some Check
+    else None))
