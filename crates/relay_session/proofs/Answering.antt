@@ -1,5 +1,5 @@
 -- What is answered is what the dialogue says
-use Rattle.std.proofs.Common.{◌≡◌, ◌⊎◌, inl, inr, ℕ, true, Bool, nat_eq, nat_le, ◌&&◌, List, [], ◌∷◌, length, Option, Some, Result, Ok, Err, refl, sym, ap, ◌∙◌, arith, append-nil}
+use Rattle.std.proofs.Common.{◌≡◌, ◌≤◌, ◌⊎◌, inl, inr, ℕ, true, Bool, nat_eq, nat_le, ◌&&◌, List, [], ◌∷◌, length, Option, Some, Result, Ok, Err, refl, sym, ap, ◌∙◌, arith, append-nil}
 use Rattle.std.specs.Prelude.{All}
 use Rattle.std.proofs.lemmas.List.Elements.{All-head, All-tail}
 use Rattle.std.proofs.lemmas.Bool.Decides.{nat_tests}
@@ -11,7 +11,8 @@ use Rattle.rtmp_command.specs.declared.answer.Answer.{Answer}
 use Rattle.rtmp_command.proofs.Lengths.{body_of_short}
 use Rattle.command_dialog.specs.Dialog.{answers, shown}
 use Rattle.chunk_writer.specs.Rule.{is_written}
-use Rattle.chunk_writer.specs.Written.{IsWritable, after_all, written}
+use Rattle.rtmp_command.specs.declared.answer.Answer.TheVariants as answer
+use Rattle.chunk_writer.specs.Written.{after_all, written}
 use Rattle.command_dialog.specs.declared.types.Ask.{Ask}
 use Rattle.command_dialog.specs.declared.types.Grant.{Grant}
 use Rattle.command_dialog.specs.declared.types.Meant.{Meant}
@@ -24,7 +25,7 @@ use Rattle.command_dialog.specs.State.{State}
 use Rattle.command_dialog.specs.Writable.{IsSaid}
 use Rattle.relay_session.specs.declared.end.End.{End}
 use Rattle.relay_session.specs.declared.end.End.TheVariants as end
-use Rattle.relay_session.specs.Owing.{AreWritable, Owing, Says, Takes, pending}
+use Rattle.relay_session.specs.Owing.{AreWritable, IsSayable, Owing, Says, Takes, costs_of, pending}
 use Rattle.relay_session.specs.Session.{ended_by}
 
 -- nothing is said
@@ -42,12 +43,15 @@ kind_written k (inr (inr (inr (inr e)))) = rw e refl
 size_kind : (k : ℕ) (b : Bool) → (nat_eq k 1 && b) ≡ true → k ≡ 1
 size_kind k b e = grind (arith, nat_tests, e)
 
-can : (m : Message) → IsSaid m → IsWritable m
+can : (m : Message) → IsSaid m → IsSayable m
 can m s = record {
-  kind = kind_written m.kind s.kind;
-  short = omega (arith, s.short);
-  some = λ e. (omega (arith, s.size (size_kind m.kind (nat_le 4 (length m.body)) e)));
-  most = λ e. (omega (arith, s.size (size_kind m.kind (nat_le 4 (length m.body)) e)));
+  can = record {
+    kind = kind_written m.kind s.kind;
+    short = omega (arith, s.short);
+    some = λ e. (omega (arith, s.size (size_kind m.kind (nat_le 4 (length m.body)) e)));
+    most = λ e. (omega (arith, s.size (size_kind m.kind (nat_le 4 (length m.body)) e)));
+  };
+  sized = λ e. (let is = s.size (size_kind m.kind (nat_le 4 (length m.body)) e) in record { least = omega (arith, is); most = omega (arith, is) });
 }
 
 -- what the dialogue says can be written
@@ -66,14 +70,21 @@ end_by last mm e r is (inl o) = inl (let h : Some r ≡ Some end.OutOfMemory = i
 end_by last mm e r is (inr o) = inr (ap (ended_by last) o ∙ sym is)
 
 -- what is shown of a marker can be written
-event_can : (event id : ℕ) → IsWritable (message_of (control.User event id))
-event_can event id = record { kind = refl; short = omega arith; some = λ e. absurd (cc); most = λ e. absurd (cc) }
+event_can : (event id : ℕ) → IsSayable (message_of (control.User event id))
+event_can event id = record { can = record { kind = refl; short = omega arith; some = λ e. absurd (cc); most = λ e. absurd (cc) }; sized = λ e. absurd (cc) }
 
-answer_can : (id : ℕ) (a : Answer) → IsWritable (answers id a)
-answer_can id a = record { kind = refl; short = omega (arith, body_of_short a); some = λ e. absurd (cc); most = λ e. absurd (cc) }
+answer_can : (id : ℕ) (a : Answer) → IsSayable (answers id a)
+answer_can id a = record { can = record { kind = refl; short = omega (arith, body_of_short a); some = λ e. absurd (cc); most = λ e. absurd (cc) }; sized = λ e. absurd (cc) }
 
 pub shown_can_begin : (id : ℕ) → AreWritable (shown id item.Begin)
 shown_can_begin id = (event_can 0 id, (answer_can id _, tt))
+
+-- and is short
+pub shown_few_begin : (id : ℕ) → costs_of (shown id item.Begin) ≤ 8000
+shown_few_begin id = omega (arith, body_of_short answer.PublishNotify)
+
+pub shown_few_end : (id : ℕ) → costs_of (shown id item.End) ≤ 8000
+shown_few_end id = omega (arith, body_of_short answer.UnpublishNotify)
 
 pub shown_can_end : (id : ℕ) → AreWritable (shown id item.End)
 shown_can_end id = (event_can 1 id, (answer_can id _, tt))

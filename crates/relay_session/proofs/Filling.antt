@@ -4,6 +4,7 @@ use Rattle.chunk_wire.specs.Written.{basic_bytes, field_bytes, head_bytes}
 use Rattle.chunk_writer.specs.declared.begun.Begun.{Begun}
 use Rattle.chunk_writer.specs.InHand.{InHand, after_chunk, chunk_of, format_of, left_of, payload_of}
 use Rattle.relay_session.specs.Owing.{Goes, IsHeld, in_hand}
+use Rattle.relay_session.proofs.Lengths.{chunk_most}
 use Rattle.chunk_writer.specs.Written.{extended_bytes, head_with, header_with}
 
 basic_some : (format id : ℕ) → 0 < length (basic_bytes format id)
@@ -27,18 +28,21 @@ header_some format b =
 pub chunk_some : (h : InHand) (body : List ℕ) → 0 < length (chunk_of h body)
 chunk_some h body = omega (arith, header_some (format_of h) h.begun, length-append (header_with (format_of h) h.begun) (payload_of h body))
 
--- what the loop keeps
-pub record IsFilling (old sending : InHand) (body before now : List ℕ) : Type 0 where
+-- what the loop keeps, while fewer than so many bytes stand from a place on
+pub record IsFilling (place most : ℕ) (old sending : InHand) (body before now : List ℕ) : Type 0 where
   pub held : IsHeld sending body
   pub goes : Goes (in_hand old body) before (in_hand sending body) now
   pub grows : length before ≤ length now
+  pub size : sending.size ≡ old.size
+  pub bound : (b : ℕ) → most + (18 + old.size) ≤ b → length before - place ≤ b → length now - place ≤ b
 
-pub fill_start : (old : InHand) (body before : List ℕ) → IsHeld old body → IsFilling old old body before before
-fill_start old body before h = record { held = h; goes = record { same = refl; more = []; after = sym (append-nil before) }; grows = omega arith }
+pub fill_start : (place most : ℕ) (old : InHand) (body before : List ℕ) → IsHeld old body → IsFilling place most old old body before before
+fill_start place most old body before h =
+    record { held = h; goes = record { same = refl; more = []; after = sym (append-nil before) }; grows = omega arith; size = refl; bound = λ b room le. le }
 
-pub fill_more : (old sending new : InHand) (body before now next : List ℕ) → IsFilling old sending body before now → new ≡ after_chunk sending body
-    → next ≡ now ++ chunk_of sending body → next ++ left_of new body ≡ now ++ left_of sending body → IsFilling old new body before next
-fill_more old sending new body before now next f a n s = record {
+pub fill_more : (place most : ℕ) (old sending new : InHand) (body before now next : List ℕ) → IsFilling place most old sending body before now → length now - place < most → new ≡ after_chunk sending body
+    → next ≡ now ++ chunk_of sending body → next ++ left_of new body ≡ now ++ left_of sending body → IsFilling place most old new body before next
+fill_more place most old sending new body before now next f less a n s = record {
   held = rw a f.held;
   goes = record {
     same = s ∙ f.goes.same;
@@ -46,4 +50,6 @@ fill_more old sending new body before now next f a n s = record {
     after = n ∙ ap (λ (l : List ℕ). l ++ chunk_of sending body) f.goes.after ∙ append_assoc before f.goes.more (chunk_of sending body);
   };
   grows = omega (arith, f.grows, ap length n, length-append now (chunk_of sending body));
+  size = ap (λ (h : InHand). h.size) a ∙ f.size;
+  bound = λ b room le. omega (arith, room, less, ap length n, length-append now (chunk_of sending body), chunk_most sending body, f.size);
 }

@@ -1,3 +1,10 @@
+pub mod Costs
+pub mod Causing
+pub mod Holds
+pub mod Weights
+pub mod Bodies
+pub mod Room
+pub mod Lengths
 pub mod Filling
 pub mod Pending
 pub mod Answering

@@ -25,7 +25,7 @@ use Rattle.session_owed.specs.Acks.{ack_messages, inbound, window_after, window_
 use Rattle.session_owed.specs.Talk.{Own, hand_bytes, is_take, item_of, shown}
 use Rattle.session_owed.specs.Dialogue.{Dialogue}
 use Rattle.session_owed.specs.Owed.{count_of}
-use Rattle.session_owed.specs.Talks.{Asks, NeverTakes, kept_by}
+use Rattle.session_owed.specs.Talks.{Asks, NeverTakes, Talks, kept_by}
 use Rattle.session_owed.specs.Standing.{Past, Stands, fed_more, new_past, says_more, sent_more, stepped, took, with_call, with_message}
 use Rattle.session_owed.proofs.Standing.{stands_fed, stands_hand, stands_message, stands_new, stands_reply, stands_sent, stands_take}
 use Rattle.ack_window.specs.Controls.{control_in}
@@ -39,6 +39,9 @@ use Rattle.command_dialog.specs.declared.types.Act.{Act}
 use Rattle.command_dialog.specs.declared.types.Act.TheVariants as act
 use Rattle.command_dialog.specs.Dialog.{call_of, shows}
 use Rattle.command_dialog.specs.Dialog as dialog
+use Rattle.relay_session.proofs.Room.{room_none}
+use Rattle.relay_session.proofs.Weights.{weight_hand}
+use Rattle.relay_session.specs.Bounds.{Acts, HasRoom, weight}
 use Rattle.relay_session.specs.Feeding.{IsSent}
 use Rattle.relay_session.specs.Keeping.{IsIdle, IsOver, IsSound, StandsBefore, keeps_of, past_of}
 use Rattle.relay_session.specs.Owing.{Owing, Says, Takes, nothing, pending}
@@ -65,6 +68,15 @@ does_asks desk s m (Err e) = tt
 never_takes : (who window : ℕ) (desk : Ask → Grant) → NeverTakes (session who window desk)
 unfolding does
 never_takes who window desk = λ s m. does_asks desk s m (control_in m)
+
+acts_by : (who at : ℕ) (k : Option Call) → Asks k → Acts (entry_by who at k)
+acts_by who at None a = tt
+acts_by who at (Some c) a = a
+
+-- so none waits after it
+pub loud_acts : (desk : Ask → Grant) (s : State) (m : Message) (who at : ℕ) (kept : Option Entry) → kept ≡ entry_by who at (does desk s m).makes → Acts kept
+unfolding does
+loud_acts desk s m who at kept e = subst Acts (sym e) (acts_by who at (does desk s m).makes (does_asks desk s m (control_in m)))
 
 kept_is : {S : Type 0} (d : Dialogue S) (n at : ℕ) (k : Option Call) → at ≡ hand_bytes + n → entry_by d.who at k ≡ kept_by d n k
 kept_is d n at None e = refl
@@ -146,6 +158,8 @@ sound_hand c piece x o used k more l h some u ke most xe ver be oe =
       greeting = l.greeting;
       sent = l.sent;
       others = omega (arith, l.others, oe, ap length be, length-append (pending c.outgoing) more);
+      acts = l.acts;
+      room = l.room;
     })
 
 pub before_hand : (desk : Ask → Grant) (c : Core) (piece more x : List ℕ) (o : Owing) (used : ℕ) (k : Handshake) → IsSound c → length c.x < hand_bytes → used ≡ used_of c.hand.fed piece
@@ -160,6 +174,13 @@ before_hand desk c piece more x o used k l h u ke most sum be we xe st =
     let d = session c.who c.window desk in
     rw xe (keeps_same d (fed_more (past_of c) q) (pending c.outgoing ++ more) (pending o) c.outgoing.writer o.writer c.inbound c.inbound c.dialog c.dialog be we refl refl
     (stands_hand d (past_of c) (keeps_of c) q more h m a st))
+
+pub light_hand : (c : Core) (piece more x : List ℕ) (o : Owing) (used : ℕ) (k : Handshake) → IsSound c → length c.x < hand_bytes → used ≡ used_of c.hand.fed piece
+    → k ≡ record { fed = c.hand.fed ++ read_of c.hand.fed piece; failed = None } → answered c.hand.fed ++ more ≡ answered k.fed
+    → o.others ≡ c.outgoing.others + length more → x ≡ c.x ++ take used piece → weight o.others x c.inbound ≤ weight c.outgoing.others c.x c.inbound
+light_hand c piece more x o used k l h u ke sum oe xe =
+    let kf : k.fed ≡ c.x ++ take used piece = ap (λ (v : Handshake). v.fed) (hand_now c piece used k l h u ke) in
+    weight_hand c.x x more c.outgoing.others o.others c.inbound (ap (λ (v : List ℕ). answered v ++ more) (sym (hand_is c l h)) ∙ sum ∙ ap answered (kf ∙ sym xe)) oe
 
 -- ---- bytes of chunks
 
@@ -186,9 +207,9 @@ pub says_within : (o p : Owing) (l : List Message) → Says o l p → o.others �
 says_within o p l s w = omega (arith, w, says_others o p l s)
 
 pub sound_fed : (c : Core) (part x : List ℕ) (used : ℕ) (m : Option Message) (r : ReaderKnown) (i : InWindow) (b : OutWindow) (s : State) (o : Owing) (kept : Option Entry) (place : Option ℕ) → IsSound c → hand_bytes ≤ length c.x → IsFedTo c.reader part used m r
-    → i.taken ≡ c.inbound.taken + used → b.sent ≡ c.outbound.sent → o.others ≤ length (pending o) → (place ≡ None → IsIdle kept s) → x ≡ c.x ++ take used part
+    → i.taken ≡ c.inbound.taken + used → b.sent ≡ c.outbound.sent → o.others ≤ length (pending o) → (place ≡ None → IsIdle kept s) → Acts kept → HasRoom r kept → x ≡ c.x ++ take used part
     → IsSound (record c { reader = r; inbound = i; outbound = b; dialog = s; outgoing = o; kept = kept; place = place; fed = c.fed + used; x = x })
-sound_fed c part x used m r i b s o kept place l h f t be oe pl xe =
+sound_fed c part x used m r i b s o kept place l h f t be oe pl ac ro xe =
     let q = take used part in
     let lq : length q ≡ used = length-take-le used part f.within in
     let max : r.max ≡ c.reader.max = ap (λ (k : ReaderKnown). k.max) f.now in
@@ -206,6 +227,8 @@ sound_fed c part x used m r i b s o kept place l h f t be oe pl xe =
       greeting = l.greeting;
       sent = be ∙ l.sent;
       others = oe;
+      acts = ac;
+      room = ro;
     })
 
 -- after bytes that end no message
@@ -274,6 +297,8 @@ sound_heard c e o s calls l k oe = record {
   greeting = l.greeting;
   sent = l.sent;
   others = oe;
+  acts = tt;
+  room = room_none c.reader None refl l.short;
 }
 
 pub on_err : {A B : Type 0} (r : Result A B) (P : Type 0) → P → OnErr r P
@@ -315,6 +340,7 @@ over_heard desk c e r o s calls l h k ce st =
       read = subst (λ (b : List ℕ). IsRead c.reader.max b c.reader.given) l.fed l.read;
       more = pending c.outgoing ++ written c.outgoing.writer t.says;
       owes = z.owes;
+      talks = z.talks;
     })
 
 -- ---- a Take
@@ -369,6 +395,8 @@ sound_taken c o m calls l none t = record {
   greeting = l.greeting;
   sent = l.sent;
   others = omega (arith, t.others, takes_none c.outgoing.others (pending c.outgoing) l.others none);
+  acts = l.acts;
+  room = l.room;
 }
 
 pub taken_others : (c : Core) (o : Owing) (l : List Message) → IsSound c → pending c.outgoing ≡ [] → Takes c.outgoing l o → o.others ≡ 0
@@ -396,6 +424,7 @@ over_taken desk c q e r o calls l k pl tk at ce st =
       read = subst (λ (b : List ℕ). IsRead c.reader.max b c.reader.given) l.fed l.read;
       more = pending c.outgoing ++ written c.outgoing.writer (item_of d c.dialog (e, r));
       owes = z.owes;
+      talks = subst (λ (o : Option Entry). Talks d (count_of d c.x) c.reader.given (c.calls ++ (e, r) ∷ []) o) (sym k) z.talks;
     })
 
 -- ---- bytes sent
@@ -433,6 +462,8 @@ sound_sent c n sent o w g l le oe ge we se =
       greeting = omega (arith, l.greeting, ls);
       sent = omega (arith, l.greeting, l.sent, ls);
       others = omega (arith, oe);
+      acts = l.acts;
+      room = l.room;
     })
 
 pub all_sent : (c : Core) (n : ℕ) (sent : List ℕ) (o : Owing) (w : OutWindow) (g : ℕ) → IsSound c → n ≤ length c.outgoing.ready → o.ready ≡ drop n c.outgoing.ready → o.rest ≡ c.outgoing.rest
@@ -467,6 +498,8 @@ sound_filled c o l be oe = record {
   greeting = l.greeting;
   sent = l.sent;
   others = omega (arith, l.others, oe, ap length be);
+  acts = l.acts;
+  room = l.room;
 }
 
 pub before_filled : (desk : Ask → Grant) (c : Core) (o : Owing) → pending o ≡ pending c.outgoing → o.writer ≡ c.outgoing.writer → StandsBefore desk c → StandsBefore desk (record c { outgoing = o })

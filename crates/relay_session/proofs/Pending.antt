@@ -1,5 +1,5 @@
 -- What is pending
-use Rattle.std.proofs.Common.{◌≡◌, ℕ, ◌-◌, max, ◌<◌, ◌≤◌, false, nat_eq, List, [], ◌∷◌, ◌++◌, length, drop, take, get_or, Option, Some, None, Result, Ok, Err, OnOk, refl, sym, ap, ◌∙◌, arith, append-nil, append_assoc, length-append}
+use Rattle.std.proofs.Common.{◌≡◌, ℕ, ◌+◌, ◌-◌, ◌*◌, max, ◌<◌, ◌≤◌, false, nat_eq, List, [], ◌∷◌, ◌++◌, length, drop, take, get_or, Option, Some, None, Result, Ok, Err, OnOk, OnErr, refl, sym, ap, ◌∙◌, subst, arith, append-nil, append_assoc, length-append}
 use Rattle.std.proofs.lemmas.List.{append_cancel_left, drop-append-le, length-drop, take_all}
 use Rattle.av_unit.specs.declared.bytes.OutOfMemory.{OutOfMemory}
 use Rattle.chunk_wire.specs.declared.message.Message.{Message}
@@ -12,7 +12,8 @@ use Rattle.av_unit.specs.declared.unit.Kind.{Kind}
 use Rattle.av_unit.specs.declared.unit.Kind.TheVariants.{Meta, VConfig, AConfig, Key, Inter, Audio, Data}
 use Rattle.command_dialog.specs.Dialog.{unit_message}
 use Rattle.session_owed.specs.Chunks.{Hand, hand_of}
-use Rattle.relay_session.specs.Owing.{AreWritable, Goes, IsOwing, Owing, Says, Shows, left, owing, pending}
+use Rattle.relay_session.specs.Owing.{AreWritable, Goes, IsOwing, IsSayable, IsSized, Owing, Says, Shows, cost_of, costs_of, left, others_by, owing, pending, shown_by}
+use Rattle.relay_session.proofs.Lengths.{bytes_most, next_sized}
 
 written_one : (w : WriterKnown) (m : Message) → written w (m ∷ []) ≡ bytes_of w m
 unfolding written
@@ -32,10 +33,60 @@ say_first first offset item later w l le it none = rw none (record {
 })
 
 pub say_none : (s : Owing) (first : List ℕ) (offset item : ℕ) (hand : Option Hand) (later : List ℕ) (w v : WriterKnown) (out : List ℕ) (l : List Message) (r : Result (Unit {0}) OutOfMemory)
-    → owing first offset item hand later w ≡ s → IsOwing first offset item hand later → hand ≡ None
+    → owing first offset item hand later w ≡ s → IsOwing first offset item hand later w → hand ≡ None
     → OnOk r (v ≡ after_all w l) → OnOk r (out ≡ first ++ written w l) → OnOk r (Says s l (owing out offset item hand later v))
 say_none s first offset item hand later w v out l (Ok u) is i none e f = rw (← is) (rw (none, e, f) (say_first first offset item later w l i.within i.marked (i.idle none)))
 say_none s first offset item hand later w v out l (Err x) is i none e f = e
+
+-- what the fields keep then
+pub none_kept : (first out : List ℕ) (offset item : ℕ) (hand : Option Hand) (later : List ℕ) (w v : WriterKnown) (m : Message) (r : Result (Unit {0}) OutOfMemory) → IsOwing first offset item hand later w → hand ≡ None → IsSayable m
+    → OnOk r (v ≡ next w m) → OnOk r (out ≡ first ++ bytes_of w m) → OnErr r ((v ≡ w) × (out ≡ first)) → IsOwing out offset item hand later v
+none_kept first out offset item hand later w v m (Ok u) i none s ve oe x =
+    let n = omega_length first (bytes_of w m) in
+    rw (ve, oe) (record {
+      within = omega (arith, i.within, n);
+      marked = omega (arith, i.marked, n);
+      idle = i.idle;
+      sized = next_sized w m i.sized s;
+      hand_sized = i.hand_sized;
+      shown = shown_none first (first ++ bytes_of w m) offset item hand none i.shown;
+    })
+  where
+    omega_length : (a b : List ℕ) → length (a ++ b) ≡ length a + length b
+    omega_length a b = length-append a b
+
+    shown_none : (a b : List ℕ) (offset item : ℕ) (h : Option Hand) → h ≡ None → shown_by a offset item h ≤ 20498 → shown_by b offset item h ≤ 20498
+    shown_none a b offset item None e le = le
+    shown_none a b offset item (Some h) e le = absurd (cc)
+none_kept first out offset item hand later w v m (Err e) i none s ve oe x = rw (x.0, x.1) i
+
+-- and how many answers wait then
+light_first : (first out more : List ℕ) (n k cost : ℕ) → out ≡ first ++ more → n ≡ length first - k → 16 * length more ≤ cost → 16 * (length out - k) ≤ 16 * n + cost
+light_first first out more n k cost e ne le = omega (arith, ap length e, length-append first more, ne, le)
+
+pub none_light : (s : Owing) (first out : List ℕ) (offset item : ℕ) (hand : Option Hand) (later : List ℕ) (w v : WriterKnown) (m : Message) (r : Result (Unit {0}) OutOfMemory) → owing first offset item hand later w ≡ s
+    → IsSized w.size → hand ≡ None → OnOk r (out ≡ first ++ bytes_of w m) → OnErr r ((v ≡ w) × (out ≡ first)) → 16 * others_by out offset item hand later ≤ 16 * s.others + cost_of m
+none_light s first out offset item hand later w v m (Ok u) is k none oe x =
+    rw (← is) (rw none (light_first first out (bytes_of w m) (length first - max offset item) (max offset item) (cost_of m) oe refl (bytes_most w m k)))
+none_light s first out offset item hand later w v m (Err e) is k none oe x = rw (← is) (rw (x.1) (omega arith))
+
+pub some_light : (s : Owing) (first : List ℕ) (offset item : ℕ) (hand : Option Hand) (h : Hand) (later out : List ℕ) (w v : WriterKnown) (m : Message) (r : Result (Unit {0}) OutOfMemory) → owing first offset item hand later w ≡ s
+    → IsSized w.size → hand ≡ Some h → OnOk r (out ≡ later ++ bytes_of w m) → OnErr r ((v ≡ w) × (out ≡ later)) → 16 * others_by first offset item hand out ≤ 16 * s.others + cost_of m
+some_light s first offset item hand h later out w v m (Ok u) is k some oe x =
+    rw (← is) (rw some (omega (arith, ap length oe, length-append later (bytes_of w m), bytes_most w m k)))
+some_light s first offset item hand h later out w v m (Err e) is k some oe x = rw (← is) (rw (x.1) (omega arith))
+
+pub some_kept : (first : List ℕ) (offset item : ℕ) (hand : Option Hand) (h : Hand) (later out : List ℕ) (w v : WriterKnown) (m : Message) (r : Result (Unit {0}) OutOfMemory) → IsOwing first offset item hand later w → hand ≡ Some h → IsSayable m
+    → OnOk r (v ≡ next w m) → OnErr r ((v ≡ w) × (out ≡ later)) → IsOwing first offset item hand out v
+some_kept first offset item hand h later out w v m (Ok u) i some s ve x = rw ve (record {
+  within = i.within;
+  marked = i.marked;
+  idle = λ e. absurd (let f : Some h ≡ None = sym some ∙ e in cc);
+  sized = next_sized w m i.sized s;
+  hand_sized = i.hand_sized;
+  shown = i.shown;
+})
+some_kept first offset item hand h later out w v m (Err e) i some s ve x = rw (x.0, x.1) i
 
 -- and after what is said meanwhile, where one is
 say_later : (first : List ℕ) (offset item : ℕ) (h : Hand) (later : List ℕ) (w : WriterKnown) (l : List Message)
@@ -113,9 +164,11 @@ pub record IsWriting (old : WriterKnown) (before : List ℕ) (all : List Message
   pub writer : after_all now rest ≡ after_all old all
   pub can : AreWritable rest
   pub grows : length before ≤ length out
+  pub sized : IsSized old.size → IsSized now.size
+  pub light : IsSized old.size → 16 * length out + costs_of rest ≤ 16 * length before + costs_of all
 
 pub writing_first : (w : WriterKnown) (b : List ℕ) (l : List Message) → AreWritable l → IsWriting w b l w b l
-writing_first w b l a = record { bytes = refl; writer = refl; can = a; grows = omega arith }
+writing_first w b l a = record { bytes = refl; writer = refl; can = a; grows = omega arith; sized = λ k. k; light = λ k. omega arith }
 
 rest_of : (m : Message) (ms : List Message) → take (length (m ∷ ms) - 1) (drop 1 (m ∷ ms)) ≡ ms
 rest_of m ms = take_all (length (m ∷ ms) - 1) ms (omega arith)
@@ -141,6 +194,8 @@ writing_more old now new before out more all (x ∷ ms) m some is i ne me =
       writer = ap (λ (v : WriterKnown). after_all v ms) n ∙ sym (after_more now x ms) ∙ i.writer;
       can = i.can.1;
       grows = omega (arith, i.grows, ap length b, length-append out (bytes_of now x));
+      sized = λ k. subst (λ (v : WriterKnown). IsSized v.size) (sym n) (next_sized now x (i.sized k) i.can.0);
+      light = λ k. omega (arith, i.light k, ap length b, length-append out (bytes_of now x), bytes_most now x (i.sized k));
     })
 
 none_written : (w : WriterKnown) → written w [] ≡ []

@@ -1,5 +1,5 @@
 -- The six steps of a turn, over plain values
-use Rattle.std.proofs.Common.{◌≡◌, ◌≤◌, ◌⊎◌, inl, inr, ℕ, ◌||◌, not, Bool, true, false, cond, List, [], ◌∷◌, ◌++◌, length, take, refl, sym, ap, ◌∙◌, subst, Option, Some, None, Result, Ok, Err, arith, append-nil}
+use Rattle.std.proofs.Common.{◌≡◌, ◌≤◌, ◌<◌, ◌⊎◌, inl, inr, ℕ, ◌||◌, not, Bool, true, false, cond, List, [], ◌∷◌, ◌++◌, length, take, refl, sym, ap, ◌∙◌, subst, Option, Some, None, Result, Ok, Err, arith, append-nil}
 use Rattle.std.proofs.lemmas.List.{length-take, take-append-le}
 use Rattle.std.specs.Option.{is_some}
 use Rattle.relay_outside.specs.Heard.{Came}
@@ -154,8 +154,8 @@ module _ {P S : Type 0} (asks : P → S → ℕ → Entry → Made → P → S �
         let U : List ℕ → Type 0 = λ l. Taken asks (life c l v.port v.seat) (moved || not some) a w in
         (Quietly, (c, (subst (IsFed v.parts v.input c) le f, h, subst T e (subst U le t))))
 
-    pub fed_loud : (v w : Life P S) (c : Core) (left : List ℕ) (moved : Bool) (a : Turn) → IsFed v.parts v.input c left → Hears desk v.parts c true → CalledBy asks c.kept (life c left v.port v.seat) a w → Fed asks desk v moved a w
-    fed_loud v w c left moved a f h t = (Loudly, (c, (left, (f, h, t))))
+    pub fed_loud : (v w : Life P S) (c : Core) (left : List ℕ) (moved : Bool) (a : Turn) → IsFed v.parts v.input c left → Hears desk v.parts c true → CalledBy asks c.kept (life c left v.port v.seat) a w → length v.parts.x < length c.x → Fed asks desk v moved a w
+    fed_loud v w c left moved a f h t g = (Loudly, (c, (left, (f, h, t, g))))
 
     pub fed_stopped : (v : Life P S) (c : Core) (left : List ℕ) (e : End) (moved : Bool) (a : Turn) → IsStopped v.parts v.input e c → a ≡ Ended e → Fed asks desk v moved a (life c left v.port v.seat)
     fed_stopped v c left e moved a s ae = (Stopping e, (c, (s, record { ended = ae; gone = refl; port = refl; seat = refl })))

@@ -71,11 +71,11 @@ stop_version c piece k b l e =
 pub stop_memory : (c : Core) (piece : List ℕ) (k : Handshake) (o : Owing) → IsSound c → IsStopped c piece end.OutOfMemory (record c { hand = k; outgoing = o })
 stop_memory c piece k o l = record { fed = []; left = piece; split = refl; x = sym (append-nil c.x); counted = l.counted; fixed = refl; kept = refl; place = refl; cause = tt }
 
-read_here : (c : Core) → IsSound c → IsRead c.reader.max (drop hand_bytes c.x) c.reader.given
+pub read_here : (c : Core) → IsSound c → IsRead c.reader.max (drop hand_bytes c.x) c.reader.given
 read_here c l = subst (λ (b : List ℕ). IsRead c.reader.max b c.reader.given) l.fed l.read
 
 pub over_here : (desk : Ask → Grant) (c : Core) (k : Handshake) (o : Owing) → IsSound c → StandsBefore desk c → IsOver desk (record c { hand = k; outgoing = o })
-over_here desk c k o l st = record { ms = c.reader.given; read = read_here c l; more = pending c.outgoing; owes = st.owes }
+over_here desk c k o l st = record { ms = c.reader.given; read = read_here c l; more = pending c.outgoing; owes = st.owes; talks = st.talks }
 
 -- ---- chunks that are read
 
@@ -146,7 +146,7 @@ pub over_fed : (desk : Ask → Grant) (c : Core) (q x : List ℕ) (r : ReaderKno
     → StandsBefore desk c → IsOver desk (record c { reader = r; inbound = i; outbound = b; dialog = s; outgoing = o; fed = n; x = x })
 over_fed desk c q x r i b s o n h k room read max xe st =
     let z = stands_fed (session c.who c.window desk) (past_of c) (keeps_of c) q h k room st in
-    rw (xe, max) (record { ms = c.reader.given; read = read; more = (took (keeps_of c) (length q)).pending; owes = z.owes })
+    rw (xe, max) (record { ms = c.reader.given; read = read; more = (took (keeps_of c) (length q)).pending; owes = z.owes; talks = z.talks })
 
 dropped : (c : Core) (q : List ℕ) → IsSound c → hand_bytes ≤ length c.x → drop hand_bytes (c.x ++ q) ≡ c.reader.fed ++ q
 dropped c q l h = drop-append-le hand_bytes c.x q h ∙ ap (λ (b : List ℕ). b ++ q) (sym l.fed)
@@ -355,7 +355,7 @@ pub over_acknowledge : (desk : Ask → Grant) (c : Core) (part : List ℕ) (used
     → StandsBefore desk c → IsOver desk (record c { reader = r; inbound = i; outgoing = o })
 over_acknowledge desk c part used m r i o l f st =
     let max : r.max ≡ c.reader.max = fixed_read c part used m r f in
-    rw max (record { ms = c.reader.given; read = read_here c l; more = pending c.outgoing; owes = st.owes })
+    rw max (record { ms = c.reader.given; read = read_here c l; more = pending c.outgoing; owes = st.owes; talks = st.talks })
 
 pub over_message : (desk : Ask → Grant) (c : Core) (piece part x : List ℕ) (count used n : ℕ) (m : Message) (r : ReaderKnown) (i : InWindow) (b : OutWindow) (s : State) (o : Owing) → IsSound c → hand_bytes ≤ length c.x → c.kept ≡ None
     → IsFedTo c.reader part used (Some m) r → part ≡ take count piece → count ≤ room_of c.inbound → x ≡ c.x ++ take (used - 1) part

@@ -1,12 +1,10 @@
 -- What a session holds: the lengths of its lists of bytes, each counted once
-use Rattle.std.specs.Prelude.{◌≡◌, ℕ, ◌+◌, ◌-◌, ◌^◌, min, List, length, Option, Some, None, is_some, true, false}
+use Rattle.std.specs.Prelude.{◌≡◌, ℕ, ◌+◌, List, length, Option, Some, None, is_some, true, false}
 use Rattle.chunk_reader.specs.Feeds.{IsHeld}
 use Rattle.chunk_reader.specs.ReaderKnown.{ReaderKnown}
 use Rattle.command_dialog.specs.State.{app_length}
 use Rattle.session_owed.specs.Chunks.{Hand}
-use Rattle.stream_model.specs.declared.calls.Call.{Call}
-use Rattle.stream_model.specs.declared.calls.Call.TheVariants as call
-use Rattle.stream_model.specs.declared.calls.Entry.{Entry}
+use Rattle.relay_session.specs.Bounds.{kept_bytes}
 use Rattle.relay_session.specs.declared.core_fields.Core.{Core}
 
 -- of messages in progress: a reader that has failed holds nothing
@@ -18,20 +16,6 @@ pub record IsParts (k : ReaderKnown) (n : ℕ) : Type 0 where
 abbrev pub unit_bytes : Option Hand → ℕ
 unit_bytes None = 0
 unit_bytes (Some h) = length h.body
-
--- of the unit that a call publishes
-abbrev pub call_bytes : Call → ℕ
-call_bytes (call.Push unit) = length unit.body
-call_bytes call.Begin = 0
-call_bytes call.End = 0
-call_bytes call.Join = 0
-call_bytes (call.Take player want) = 0
-call_bytes (call.Leave player) = 0
-call_bytes call.Count = 0
-
-abbrev pub kept_bytes : Option Entry → ℕ
-kept_bytes None = 0
-kept_bytes (Some e) = call_bytes e.call
 
 pub record Held : Type 0 where
   -- received and not fed
@@ -65,4 +49,10 @@ sum_of h = h.input + (h.parts + (h.encoded + (h.unit + (h.kept + h.app))))
 pub record IsHolding (c : Core) (input : List ℕ) (n : ℕ) : Type 0 where
   pub parts : ℕ
   pub read : IsParts c.reader parts
-  pub sum : n ≡ min (sum_of (held_with c input parts)) (2 ^ 64 - 1)
+  pub sum : n ≡ sum_of (held_with c input parts)
+
+-- IT HOLDS NO MORE THAN so many bytes, where it takes messages of at most M bytes and no unit that it sends is longer than m:
+-- 4,096 of input; M and 65,536 of messages in progress, with the unit of the call that waits; 32,768 of answers, of encoded
+-- bytes and of the app; and m
+abbrev pub most_held : ℕ → ℕ → ℕ
+most_held max m = 4096 + ((max + 65536) + (32768 + m))

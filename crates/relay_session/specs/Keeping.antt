@@ -8,9 +8,11 @@ use Rattle.command_dialog.specs.State.{State}
 use Rattle.command_dialog.specs.declared.types.Phase.TheVariants.{Idle}
 use Rattle.stream_model.specs.declared.calls.Entry.{Entry}
 use Rattle.rtmp_handshake.specs.Answer.{bad_version}
-use Rattle.session_owed.specs.Owed.{out}
+use Rattle.session_owed.specs.Owed.{count_of, out}
 use Rattle.session_owed.specs.Standing.{Past, Keeps, Stands}
 use Rattle.session_owed.specs.Talk.{hand_bytes}
+use Rattle.session_owed.specs.Talks.{Talks}
+use Rattle.relay_session.specs.Bounds.{Acts, HasRoom, IsLight}
 use Rattle.relay_session.specs.Owing.{pending}
 use Rattle.relay_session.specs.Session.{session}
 use Rattle.relay_session.specs.declared.core_fields.Core.{Core}
@@ -37,8 +39,8 @@ pub record IsIdle (call : Option Entry) (s : State) : Type 0 where
 abbrev pub after_greeting : List ℕ → ℕ → ℕ
 after_greeting sent n = n - min n (hand_bytes - length sent)
 
--- its parts have read the bytes that were fed, none has failed, the bytes sent are counted, and before it has a place no call
--- waits and no role is active
+-- its parts have read the bytes that were fed, none has failed, the bytes sent are counted, before it has a place no call waits
+-- and no role is active, and a call that waits has room
 pub record IsSound (c : Core) : Type 0 where
   pub hand : c.hand ≡ record { fed = take hand_bytes c.x; failed = None }
   pub version : bad_version c.x ≡ None
@@ -53,14 +55,29 @@ pub record IsSound (c : Core) : Type 0 where
   pub greeting : c.greeting ≡ hand_bytes - length c.sent
   pub sent : c.outbound.sent ≡ min (length c.sent - hand_bytes) (2 ^ 64 - 1)
   pub others : c.outgoing.others ≤ length (pending c.outgoing)
+  pub acts : Acts c.kept
+  pub room : HasRoom c.reader c.kept
 
 -- with this call waiting
 abbrev pub waiting : Core → Entry → Core
 waiting c e = record c { kept = Some e }
 
--- of a session that has ended: what it sent begins what it owes before this desk for the bytes fed and its calls
+-- of a session that has ended: what it sent begins what it owes before this desk for the bytes fed and its calls, and these are
+-- the calls that the messages of those bytes ask for
 pub record IsOver (desk : Ask → Grant) (c : Core) : Type 0 where
   pub ms : List (ℕ × Message)
   pub read : IsRead c.reader.max (drop hand_bytes c.x) ms
   pub more : List ℕ
   pub owes : c.sent ++ more ≡ out (session c.who c.window desk) c.x ms c.calls
+  pub talks : Talks (session c.who c.window desk) (count_of (session c.who c.window desk) c.x) ms c.calls c.kept
+
+-- between the steps of a turn: it is sound, and not many answers wait
+pub record IsSteady (c : Core) : Type 0 where
+  pub sound : IsSound c
+  pub light : IsLight c.outgoing.others c.kept
+
+-- of one that has ended: its bytes are counted, and what it holds still has its bounds
+pub record HasEnded (c : Core) : Type 0 where
+  pub counted : c.fed ≡ length c.x
+  pub room : HasRoom c.reader c.kept
+  pub light : IsLight c.outgoing.others c.kept

@@ -2,12 +2,14 @@ pub mod Owing
 pub mod Session
 pub mod Keeping
 pub mod Feeding
+pub mod Bounds
 pub mod Holding
 pub mod SeatVisits
 pub mod SeatState
 pub mod SeatOwn
 pub mod Places
 pub mod Turns
+pub mod Causes
 pub mod SessionState
 pub mod Grants
 pub mod Onward

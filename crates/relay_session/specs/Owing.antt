@@ -1,10 +1,30 @@
 -- What a session is to send: bytes that are encoded, a unit in hand, and what stands after it
-use Rattle.std.specs.Prelude.{◌≡◌, ℕ, ◌+◌, ◌-◌, ◌≤◌, max, List, [], ◌∷◌, ◌++◌, length, drop, Option, Some, None}
+use Rattle.std.specs.Prelude.{◌≡◌, ℕ, ◌+◌, ◌-◌, ◌*◌, ◌≤◌, max, true, List, [], ◌∷◌, ◌++◌, length, drop, Option, Some, None}
+use Rattle.relay_base.specs.Numbers.{be32_of}
 use Rattle.chunk_wire.specs.declared.message.Message.{Message}
 use Rattle.chunk_writer.specs.InHand.{InHand, left_of}
 use Rattle.chunk_writer.specs.WriterKnown.{WriterKnown, fresh}
-use Rattle.chunk_writer.specs.Written.{IsWritable, after_all, written}
+use Rattle.chunk_writer.specs.Written.{IsWritable, after_all, sets_size, written}
 use Rattle.session_owed.specs.Chunks.{Hand, rest_by}
+
+-- a chunk size that a session tells: 128 at first, and then 4,096 (5.4.1)
+pub record IsSized (size : ℕ) : Type 0 where
+  pub least : 128 ≤ size
+  pub most : size ≤ 4096
+
+-- a message that a session sends: it can be written, and tells no other size of chunks
+pub record IsSayable (m : Message) : Type 0 where
+  pub can : IsWritable m
+  pub sized : sets_size m ≡ true → IsSized (be32_of m.body)
+
+-- sixteen times the bytes that a message has at most as chunks: 18 for its first header, and for each sixteen bytes of its body
+-- one more
+abbrev pub cost_of : Message → ℕ
+cost_of m = 288 + 17 * length m.body
+
+abbrev pub costs_of : List Message → ℕ
+costs_of [] = 0
+costs_of (m ∷ ms) = cost_of m + costs_of ms
 
 -- the chunks that are left of a unit in hand
 abbrev pub left : Hand → List ℕ
@@ -58,7 +78,7 @@ owing first offset item hand later writer = record {
 
 abbrev pub AreWritable : List Message → Type 0
 AreWritable [] = Unit {0}
-AreWritable (m ∷ ms) = IsWritable m × AreWritable ms
+AreWritable (m ∷ ms) = IsSayable m × AreWritable ms
 
 -- messages more are to be sent, which are of no item
 pub record Says (old : Owing) (l : List Message) (new : Owing) : Type 0 where
@@ -78,8 +98,21 @@ pub record Takes (old : Owing) (l : List Message) (new : Owing) : Type 0 where
   pub writer : new.writer ≡ after_all old.writer l
   pub others : new.others ≤ old.others
 
--- what the fields keep: without a unit in hand nothing stands after the first bytes
-pub record IsOwing (first : List ℕ) (offset item : ℕ) (hand : Option Hand) (later : List ℕ) : Type 0 where
+-- of the first bytes, how many are encoded of an item
+abbrev pub shown_by : List ℕ → ℕ → ℕ → Option Hand → ℕ
+shown_by first offset item None = item - offset
+shown_by first offset item (Some h) = length first - offset
+
+abbrev pub IsHandSized : Option Hand → Type 0
+IsHandSized None = Unit {0}
+IsHandSized (Some h) = IsSized h.sending.size
+
+-- what the fields keep: without a unit in hand nothing stands after the first bytes, and of an item no more is encoded than is
+-- sent at once, and a chunk
+pub record IsOwing (first : List ℕ) (offset item : ℕ) (hand : Option Hand) (later : List ℕ) (writer : WriterKnown) : Type 0 where
   pub within : offset ≤ length first
   pub marked : item ≤ length first
   pub idle : hand ≡ None → later ≡ []
+  pub sized : IsSized writer.size
+  pub hand_sized : IsHandSized hand
+  pub shown : shown_by first offset item hand ≤ 20498

@@ -1,9 +1,14 @@
 -- What contracts see of a session
-use Rattle.std.specs.Prelude.{◌≡◌, ℕ, Bool, List, length, Option, Some, None}
+use Rattle.std.specs.Prelude.{◌≡◌, ℕ, Bool, List, ◌++◌, drop, Option, Some, None}
+use Rattle.chunk_reader.specs.Sound.{IsRead}
+use Rattle.chunk_wire.specs.declared.message.Message.{Message}
 use Rattle.command_dialog.specs.declared.types.Ask.{Ask}
 use Rattle.command_dialog.specs.declared.types.Grant.{Grant}
-use Rattle.relay_session.specs.Keeping.{IsOver, IsSound, StandsBefore}
+use Rattle.session_owed.specs.Published.{published, pushed_by, pushed_in}
+use Rattle.session_owed.specs.Talk.{hand_bytes}
+use Rattle.relay_session.specs.Keeping.{HasEnded, IsOver, IsSteady, StandsBefore}
 use Rattle.relay_session.specs.SeatState.{SeatState}
+use Rattle.relay_session.specs.Session.{session}
 use Rattle.relay_session.specs.Turns.{Gone, Life, gone_of, life}
 use Rattle.relay_session.specs.declared.core_fields.Core.{Core}
 use Rattle.relay_session.specs.declared.end.End.{End}
@@ -27,10 +32,10 @@ pub record SessionState (Q : Type 0) : Type 0 where
 abbrev pub life_at : {P Q : Type 0} → SessionState Q → P → Life P (SeatState Q)
 life_at s port = life s.parts s.input port s.seat
 
--- one that lives is sound
+-- one that lives is sound, and what it holds has its bounds, also where it has ended
 abbrev pub IsLiving : Option End → Core → Type 0
-IsLiving None c = IsSound c
-IsLiving (Some e) c = c.fed ≡ length c.x
+IsLiving None c = IsSteady c
+IsLiving (Some e) c = HasEnded c
 
 -- WHAT WAS SENT AND WHAT IS PENDING IS WHAT IT OWES before this desk; of one that has ended, what was sent begins that
 abbrev pub StandsBy : Option End → (Ask → Grant) → Core → Type 0
@@ -39,6 +44,13 @@ StandsBy (Some e) desk c = IsOver desk c
 
 abbrev pub StandsFor : {Q : Type 0} → (Ask → Grant) → SessionState Q → Type 0
 StandsFor desk s = StandsBy s.ended desk s.parts
+
+-- THE UNITS PUBLISHED by the messages of the bytes fed, as the dialogue makes calls of them, are those of its calls, and that of
+-- the call that waits: none is lost, and none published twice
+pub record Publishes (desk : Ask → Grant) (c : Core) : Type 0 where
+  pub ms : List (ℕ × Message)
+  pub read : IsRead c.reader.max (drop hand_bytes c.x) ms
+  pub units : pushed_by c.calls ++ pushed_in c.kept ≡ published (session c.who c.window desk) ms c.calls
 
 abbrev pub ended_by : Turn → Option End
 ended_by Moved = None

@@ -1,5 +1,5 @@
 -- ONE TURN OF A SESSION, as a relation: by what the link and the port answered in it, each step with those after it
-use Rattle.std.specs.Prelude.{◌≡◌, ◌⊎◌, ℕ, ◌-◌, Bool, true, false, not, ◌&&◌, ◌||◌, nat_le, if◌then◌else◌, List, [], ◌∷◌, length, take, Option, Some, None, Result, Ok, Err}
+use Rattle.std.specs.Prelude.{◌≡◌, ◌⊎◌, ℕ, ◌-◌, ◌<◌, Bool, true, false, not, ◌&&◌, ◌||◌, nat_le, if◌then◌else◌, List, [], ◌∷◌, length, take, Option, Some, None, Result, Ok, Err}
 use Rattle.std.specs.Option.{is_some}
 use Rattle.relay_outside.specs.Heard.{Came, CameBytes, CameEnd, CameNotYet, CameFailed}
 use Rattle.relay_outside.specs.declared.link.Said.{Said}
@@ -15,7 +15,7 @@ use Rattle.stream_model.specs.declared.replies.Reply.{Reply}
 use Rattle.stream_model.specs.declared.replies.Reply.TheVariants as reply
 use Rattle.session_owed.specs.Talk.{Own}
 use Rattle.relay_session.specs.Feeding.{Hears, IsCalled, IsFed, IsOthers, IsSent, IsStopped}
-use Rattle.relay_session.specs.Keeping.{IsOver, IsSound, StandsBefore}
+use Rattle.relay_session.specs.Keeping.{HasEnded, IsOver, IsSteady, StandsBefore}
 use Rattle.relay_session.specs.Owing.{pending}
 use Rattle.relay_session.specs.declared.core_fields.Core.{Core}
 use Rattle.relay_session.specs.declared.end.End.{End}
@@ -114,9 +114,9 @@ pub record IsEnded {P S : Type 0} (e : End) (v : Life P S) (a : Turn) (w : Life 
 
 -- what a turn leaves: a session that lives is sound and stands for its past, of one that ended what was sent begins what it owes
 abbrev pub Lives : Core → Turn → Type 0
-Lives c Moved = IsSound c
-Lives c Idle = IsSound c
-Lives c (Ended e) = c.fed ≡ length c.x
+Lives c Moved = IsSteady c
+Lives c Idle = IsSteady c
+Lives c (Ended e) = HasEnded c
 
 abbrev pub Leaves : (Ask → Grant) → Core → Turn → Type 0
 Leaves desk c Moved = StandsBefore desk c
@@ -125,8 +125,8 @@ Leaves desk c (Ended e) = IsOver desk c
 
 -- the same of a call that was tried: true where it was made
 abbrev pub LivesTried : Core → Result Bool End → Type 0
-LivesTried c (Ok made) = IsSound c
-LivesTried c (Err e) = c.fed ≡ length c.x
+LivesTried c (Ok made) = IsSteady c
+LivesTried c (Err e) = HasEnded c
 
 abbrev pub LeavesTried : (Ask → Grant) → Core → Result Bool End → Type 0
 LeavesTried desk c (Ok made) = StandsBefore desk c
@@ -209,7 +209,7 @@ module _ {P S : Type 0} (asks : P → S → ℕ → Entry → Made → P → S �
     FedAs Quietly v moved a w =
         (c : Core) × (IsFed v.parts v.input c [] × Hears desk v.parts c false × Taken (life c [] v.port v.seat) (moved || not (is_nil v.input)) a w)
     FedAs Loudly v moved a w =
-        (c : Core) × ((left : List ℕ) × (IsFed v.parts v.input c left × Hears desk v.parts c true × CalledBy c.kept (life c left v.port v.seat) a w))
+        (c : Core) × ((left : List ℕ) × (IsFed v.parts v.input c left × Hears desk v.parts c true × CalledBy c.kept (life c left v.port v.seat) a w × (length v.parts.x < length c.x)))
     FedAs (Stopping e) v moved a w =
         (c : Core) × (IsStopped v.parts v.input e c × IsEnded e (life c v.input v.port v.seat) a w)
 

@@ -1,4 +1,4 @@
-ghost use Rattle.std.specs.Prelude.{◌≡◌, ◌≤◌, ◌⊎◌, [], length, option_map, None, Some, Err, OnOk, IfOk, IfErr};
+ghost use Rattle.std.specs.Prelude.{◌≡◌, ◌≤◌, ◌+◌, ◌*◌, ◌⊎◌, [], length, option_map, None, Some, Err, OnOk, IfOk, IfErr};
 ghost use Rattle.std.specs.Option.{option_map_or};
 ghost use Rattle.ack_window.specs.Controls.{ping_answer_of};
 ghost use Rattle.command_dialog.specs.Dialog as dialog;
@@ -50,7 +50,8 @@ fn answer_control(
     control: Control,
     outgoing: &mut Outgoing,
 ) -> Result<(), OutOfMemory>
-    ensures { OnOk result (Says outgoing.old (pongs (ping_answer_of control)) outgoing.new) }
+    ensures said { OnOk result (Says outgoing.old (pongs (ping_answer_of control)) outgoing.new) }
+    ensures light { 16 * outgoing.new.others ≤ 16 * outgoing.old.others + 4640 }
 {
     match ping_answer(&control) {
         None => Ok(()),
@@ -120,6 +121,7 @@ fn answer_command<D: Desk>(
     ensures makes { IfOk result (λ act. act ≡ (dialog_does (D.grants desk.now) dialog.old message).makes) }
     ensures ok { OnOk result (ended_by last (meaning dialog.old message) ≡ None) }
     ensures err { IfErr result (λ e. (e ≡ end.OutOfMemory) ⊎ (ended_by last (meaning dialog.old message) ≡ Some e)) }
+    ensures light { 16 * outgoing.new.others ≤ 16 * outgoing.old.others + 4640 }
 {
     let meant = match dialog.asks(alloc, &message) {
         Ok(meant) => meant,
@@ -161,6 +163,7 @@ pub(crate) fn answer<D: Desk>(
     ensures place { IfOk result (λ asked. asked.place ≡ place_by (D.grants desk.now) dialog.old place message) }
     ensures ok { OnOk result (refused last dialog.old message ≡ None) }
     ensures err { IfErr result (λ e. (e ≡ end.OutOfMemory) ⊎ (refused last dialog.old message ≡ Some e)) }
+    ensures light { 16 * outgoing.new.others ≤ 16 * outgoing.old.others + 4640 }
 {
     match control_of(&message) {
         Err(_) => Err(End::BadControl { at: last }),
@@ -192,6 +195,7 @@ pub(crate) fn hear(
 ) -> Result<(), OutOfMemory>
     ensures state { OnOk result (dialog.new ≡ (told dialog.old reply.now).state) }
     ensures said { OnOk result (Says outgoing.old (told dialog.old reply.now).says outgoing.new) }
+    ensures light { 16 * outgoing.new.others ≤ 16 * outgoing.old.others + 7036 }
 {
     match dialog.answered(alloc, reply) {
         Err(_) => Err(OutOfMemory),
@@ -223,7 +227,8 @@ fn item_of(reply: Reply) -> Option<Item>
 // What a player on that message stream is shown of an item is to be sent.
 fn show(alloc: Global, id: u32, item: Item, outgoing: &mut Outgoing) -> Result<(), OutOfMemory>
     requires { pending outgoing.old ≡ [] }
-    ensures { OnOk result (Shows outgoing.old (shown id item) outgoing.new) }
+    ensures shown { OnOk result (Shows outgoing.old (shown id item) outgoing.new) }
+    ensures light { outgoing.new.others ≤ outgoing.old.others }
 {
     match item {
         Item::Unit(unit) => outgoing.show_unit(alloc, id, unit),
@@ -247,7 +252,8 @@ pub(crate) fn take_in(
     outgoing: &mut Outgoing,
 ) -> Result<(), OutOfMemory>
     requires { pending outgoing.old ≡ [] }
-    ensures { OnOk result (Takes outgoing.old (option_map_or (shown id) (item_in reply) []) outgoing.new) }
+    ensures takes { OnOk result (Takes outgoing.old (option_map_or (shown id) (item_in reply) []) outgoing.new) }
+    ensures light { outgoing.new.others ≤ outgoing.old.others }
 {
     match item_of(reply) {
         None => Ok(()),

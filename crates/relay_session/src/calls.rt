@@ -2,7 +2,7 @@ ghost use Rattle.std.specs.Prelude.{◌≡◌, [], length, None, Some, Result};
 ghost use Rattle.command_dialog.specs.State.{playing_in};
 ghost use Rattle.command_dialog.specs.declared.types.Ask.{Ask};
 ghost use Rattle.command_dialog.specs.declared.types.Grant.{Grant};
-ghost use Rattle.relay_session.specs.Keeping.{IsSound, StandsBefore, waiting};
+ghost use Rattle.relay_session.specs.Keeping.{IsSteady, StandsBefore, waiting};
 ghost use Rattle.relay_session.specs.Owing.{pending};
 ghost use Rattle.relay_session.specs.Places.{Asked, IsAt};
 ghost use Rattle.relay_session.specs.Turns.{IsTried, Leaves, LeavesTried, Lives, LivesTried, TakeAsked, answer, is_not_yet, life};
@@ -60,7 +60,7 @@ pub(crate) fn make<P: StreamPort>(
     entry: Entry,
 ) -> Result<bool, End>
     requires at { IsAt (P.fits port.old) (length (P.rules port.old).names) (waiting body.old.core entry) body.old.seat }
-    requires sound { IsSound (waiting body.old.core entry) }
+    requires sound { IsSteady (waiting body.old.core entry) }
     ensures at { IsAt (P.fits port.new) (length (P.rules port.new).names) body.new.core body.new.seat }
     ensures sound { LivesTried body.new.core result }
     ensures stands { (desk : Ask → Grant) → StandsBefore desk (waiting body.old.core entry) → LeavesTried desk body.new.core result }
@@ -101,7 +101,7 @@ pub(crate) fn take<P: StreamPort>(
     moved: bool,
 ) -> Turn
     requires at { IsAt (P.fits port.old) (length (P.rules port.old).names) body.old.core body.old.seat }
-    requires sound { IsSound body.old.core }
+    requires sound { IsSteady body.old.core }
     requires open { body.old.core.kept ≡ None }
     requires plays { playing_in body.old.core.dialog.phase ≡ Some playing.now }
     requires nothing { pending body.old.core.outgoing ≡ [] }

@@ -1,5 +1,6 @@
-ghost use Rattle.std.specs.Prelude.{◌≡◌};
-ghost use Rattle.relay_session.specs.Holding.{IsHolding, call_bytes, kept_bytes};
+ghost use Rattle.std.specs.Prelude.{◌≡◌, ◌≤◌, ℕ};
+ghost use Rattle.relay_session.specs.Bounds.{HasRoom, IsLight, call_bytes, kept_bytes};
+ghost use Rattle.relay_session.specs.Holding.{IsHolding, most_held, unit_bytes};
 
 use crate::Core;
 use crate::input::Input;
@@ -32,14 +33,17 @@ fn kept_bytes(kept: &Option<Entry>) -> usize
 
 /// How many bytes a session with this input holds.
 pub(crate) fn held_in(core: &Core, input: &Input) -> u64
-    ensures { IsHolding core.now input.now result }
+    requires room { HasRoom core.now.reader core.now.kept }
+    requires light { IsLight core.now.outgoing.others core.now.kept }
+    ensures holds { IsHolding core.now input.now result }
+    ensures most { (m : ℕ) → unit_bytes core.now.outgoing.hand ≤ m → result ≤ most_held core.now.reader.max m }
 {
-    core.dialog
-        .held()
-        .saturating_add(kept_bytes(&core.kept) as u64)
-        .saturating_add(core.outgoing.unit_len() as u64)
-        .saturating_add(core.outgoing.later().len() as u64)
-        .saturating_add(core.outgoing.ready().len() as u64)
-        .saturating_add(core.reader.held())
-        .saturating_add(input.left().len() as u64)
+    let app = core.dialog.held();
+    let kept = kept_bytes(&core.kept) as u64;
+    let unit = core.outgoing.unit_len() as u64;
+    let later = core.outgoing.later().len() as u64;
+    let ready = core.outgoing.ready().len() as u64;
+    let parts = core.reader.held();
+    let input = input.left().len() as u64;
+    app + kept + unit + later + ready + parts + input
 }

@@ -5,7 +5,7 @@ use av_unit::{Bytes, OutOfMemory};
 use std::alloc::Global;
 use std::marker::Model;
 
-/// The bytes that were received and not fed yet. Contracts see their list.
+/// The bytes that were received and not fed yet, at most 4,096. Contracts see their list.
 #[derive(Drop)]
 pub(crate) struct Input {
     bytes: Bytes,
@@ -19,7 +19,7 @@ impl Model for Input {
 
     ghost view = { λ i. drop i.offset i.bytes };
 
-    ghost invariant = { λ i. i.offset ≤ length i.bytes };
+    ghost invariant = { λ i. (i.offset ≤ length i.bytes) × (length i.bytes ≤ 4096) };
 }
 
 impl Input {
@@ -35,6 +35,7 @@ impl Input {
 
     /// Bytes came, where none were left.
     pub(crate) fn receive(&mut self, alloc: Global, bytes: &[u8]) -> Result<(), OutOfMemory>
+        requires { length bytes.now ≤ 4096 }
         ensures { OnOk result (self.new ≡ bytes.now) }
     {
         let mut list = Bytes::new(alloc);
@@ -46,7 +47,8 @@ impl Input {
 
     /// The bytes that are left.
     pub(crate) fn left(&self) -> &[u8]
-        ensures { result.now ≡ self.now }
+        ensures value { result.now ≡ self.now }
+        ensures short { length self.now ≤ 4096 }
     {
         &self.bytes.as_slice()[self.offset..]
     }

@@ -1,9 +1,9 @@
-ghost use Rattle.std.specs.Prelude.{◌≡◌, ◌≤◌, ◌+◌, ◌⊎◌, ◌∷◌, ◌++◌, [], length, min, drop, OnOk};
+ghost use Rattle.std.specs.Prelude.{◌≡◌, ◌≤◌, ◌+◌, ◌*◌, ◌⊎◌, ◌∷◌, ◌++◌, [], length, min, drop, OnErr, OnOk};
 ghost use Rattle.chunk_wire.specs.declared.message.Message.{Message};
-ghost use Rattle.chunk_writer.specs.Written.{IsWritable, after_all, written};
+ghost use Rattle.chunk_writer.specs.Written.{after_all, written};
 ghost use Rattle.command_dialog.specs.Dialog.{unit_message};
 ghost use Rattle.relay_session.specs.Holding.{unit_bytes};
-ghost use Rattle.relay_session.specs.Owing.{AreWritable, Says, Shows, nothing, pending};
+ghost use Rattle.relay_session.specs.Owing.{AreWritable, IsSayable, IsSized, Says, Shows, cost_of, costs_of, nothing, pending};
 
 use crate::unit_in_hand::UnitInHand;
 use av_unit::{Bytes, OutOfMemory, UnitArc};
@@ -37,7 +37,7 @@ impl Model for Outgoing {
 
     ghost view = { λ o. owing o.first o.offset o.item o.hand o.later o.writer };
 
-    ghost invariant = { λ o. IsOwing o.first o.offset o.item o.hand o.later };
+    ghost invariant = { λ o. IsOwing o.first o.offset o.item o.hand o.later o.writer };
 }
 
 // Writes messages in turn.
@@ -46,6 +46,8 @@ fn write_all(writer: &mut Writer, messages: &[Message], out: &mut Bytes) -> Resu
     ensures writer { OnOk result (writer.new ≡ after_all writer.old messages.now) }
     ensures bytes { OnOk result (out.new ≡ out.old ++ written writer.old messages.now) }
     ensures grows { length out.old ≤ length out.new }
+    ensures light { IsSized writer.old.size → 16 * length out.new ≤ 16 * length out.old + costs_of messages.now }
+    ensures sized { IsSized writer.old.size → IsSized writer.new.size }
 {
     let mut left = messages;
     while let [message, rest @ ..] = left {
@@ -75,6 +77,7 @@ impl Outgoing {
         ensures bytes { OnOk result (pending self.new ≡ pending self.old ++ bytes.now) }
         ensures writer { OnOk result (self.new.writer ≡ self.old.writer) }
         ensures others { OnOk result (self.new.others ≡ self.old.others + length bytes.now) }
+        ensures err { OnErr result (self.new ≡ self.old) }
     {
         match self.hand {
             None => self.first.append(bytes),
@@ -84,8 +87,9 @@ impl Outgoing {
 
     /// Appends a message.
     pub fn say(&mut self, message: &Message) -> Result<(), OutOfMemory>
-        requires { IsWritable message.now }
-        ensures { OnOk result (Says self.old (message.now ∷ []) self.new) }
+        requires { IsSayable message.now }
+        ensures said { OnOk result (Says self.old (message.now ∷ []) self.new) }
+        ensures light { 16 * self.new.others ≤ 16 * self.old.others + cost_of message.now }
     {
         match self.hand {
             None => self.writer.put_message(message, &mut self.first),
@@ -96,7 +100,8 @@ impl Outgoing {
     /// Appends messages in turn.
     pub fn say_all(&mut self, messages: &[Message]) -> Result<(), OutOfMemory>
         requires { AreWritable messages.now }
-        ensures { OnOk result (Says self.old messages.now self.new) }
+        ensures said { OnOk result (Says self.old messages.now self.new) }
+        ensures light { 16 * self.new.others ≤ 16 * self.old.others + costs_of messages.now }
     {
         match self.hand {
             None => write_all(&mut self.writer, messages, &mut self.first),
@@ -104,11 +109,13 @@ impl Outgoing {
         }
     }
 
-    /// Appends the messages of an item, where nothing is pending.
+    /// Appends the few messages of a marker, where nothing is pending.
     pub fn show_all(&mut self, alloc: Global, messages: &[Message]) -> Result<(), OutOfMemory>
         requires nothing { pending self.old ≡ [] }
         requires writable { AreWritable messages.now }
-        ensures { OnOk result (Shows self.old messages.now self.new) }
+        requires few { costs_of messages.now ≤ 8000 }
+        ensures shown { OnOk result (Shows self.old messages.now self.new) }
+        ensures light { self.new.others ≤ self.old.others }
     {
         let mut first = Bytes::new(alloc);
         write_all(&mut self.writer, messages, &mut first)?;
@@ -129,7 +136,8 @@ impl Outgoing {
         unit: UnitArc,
     ) -> Result<(), OutOfMemory>
         requires { pending self.old ≡ [] }
-        ensures { OnOk result (Shows self.old (unit_message stream unit ∷ []) self.new) }
+        ensures shown { OnOk result (Shows self.old (unit_message stream unit ∷ []) self.new) }
+        ensures light { self.new.others ≤ self.old.others }
     {
         let hand = UnitInHand::begin(&mut self.writer, stream, unit)?;
         self.first = Bytes::new(alloc);
@@ -161,6 +169,7 @@ impl Outgoing {
         ensures writer { OnOk result (self.new.writer ≡ self.old.writer) }
         ensures others { OnOk result (self.new.others ≡ self.old.others) }
         ensures filled { OnOk result ((16384 ≤ length self.new.ready) ⊎ (self.new.rest ≡ [])) }
+        ensures light { self.new.others ≤ self.old.others }
     {
         self.trim(alloc)?;
         self.encode(alloc)
@@ -172,6 +181,7 @@ impl Outgoing {
         ensures writer { OnOk result (self.new.writer ≡ self.old.writer) }
         ensures others { OnOk result (self.new.others ≡ self.old.others) }
         ensures filled { OnOk result ((16384 ≤ length self.new.ready) ⊎ (self.new.rest ≡ [])) }
+        ensures light { self.new.others ≤ self.old.others }
     {
         match &mut self.hand {
             None => return Ok(()),
@@ -198,7 +208,8 @@ impl Outgoing {
 
     /// How many bytes the unit has that is being sent; none where there is none.
     pub fn unit_len(&self) -> usize
-        ensures { result ≡ unit_bytes self.now.hand }
+        ensures value { result ≡ unit_bytes self.now.hand }
+        ensures most { result ≤ 4194304 }
     {
         match &self.hand {
             None => 0,
@@ -213,9 +224,10 @@ impl Outgoing {
         self.later.as_slice()
     }
 
-    /// The bytes that are encoded.
+    /// The bytes that are encoded. Of an item these are no more than are sent at once and a chunk.
     pub fn ready(&self) -> &[u8]
-        ensures { result.now ≡ self.now.ready }
+        ensures value { result.now ≡ self.now.ready }
+        ensures most { length self.now.ready + length self.now.later ≤ self.now.others + 20498 }
     {
         &self.first.as_slice()[self.offset..]
     }

@@ -2,13 +2,14 @@ ghost use Rattle.std.specs.Prelude.{◌≡◌, ◌≤◌, ℕ, [], length, true,
 ghost use Rattle.command_dialog.specs.declared.types.Ask.{Ask};
 ghost use Rattle.command_dialog.specs.declared.types.Grant.{Grant};
 ghost use Rattle.session_owed.specs.Standing.{new_past};
-ghost use Rattle.relay_session.specs.Holding.{IsHolding};
+ghost use Rattle.relay_session.specs.Causes.{Did, MayBe};
+ghost use Rattle.relay_session.specs.Holding.{IsHolding, most_held, unit_bytes};
 ghost use Rattle.relay_session.specs.Keeping.{past_of};
 ghost use Rattle.relay_session.specs.Owing.{pending};
 ghost use Rattle.relay_session.specs.Onward.{GoesOn};
 ghost use Rattle.relay_session.specs.Places.{Asked, IsAt, IsOffered};
 ghost use Rattle.relay_session.specs.SeatState.{GoOn, HasFit, LeaveFails, LeavesFrom, StandsAt, left_at, place_of};
-ghost use Rattle.relay_session.specs.SessionState.{StandsFor, end_or_quit, ended_by, gone_but_kept, life_at};
+ghost use Rattle.relay_session.specs.SessionState.{Publishes, StandsFor, end_or_quit, ended_by, gone_but_kept, life_at};
 ghost use Rattle.relay_session.specs.Turns.{EndedBy};
 
 use crate::body::Body;
@@ -102,6 +103,9 @@ impl<P: StreamPort> Session<P> {
         ensures ended { self.new.ended ≡ ended_by result }
         ensures quit { self.new.quit ≡ self.old.quit }
         ensures stands { StandsFor (D.grants desk.now) self.old → StandsFor (D.grants desk.now) self.new }
+        ensures did { Did result (life_at self.old port.old) (life_at self.new port.new) }
+        ensures may_be { MayBe result (P.busies port.old) (P.busies port.new) (L.counts link.old) (L.counts link.new) }
+        ensures units { StandsFor (D.grants desk.now) self.old → Publishes (D.grants desk.now) self.new.parts }
     {
         match self.ended {
             Some(end) => Turn::Ended(end),
@@ -150,7 +154,8 @@ impl<P: StreamPort> Session<P> {
     /// How many bytes it holds: of the input that it wasn't fed, of messages in progress, of what is encoded and not sent, of the
     /// unit that is being sent, which counts whole, of the unit that the call that waits publishes, and of its dialogue's app.
     pub fn held(&self) -> u64
-        ensures { IsHolding self.now.parts self.now.input result }
+        ensures holds { IsHolding self.now.parts self.now.input result }
+        ensures most { (m : ℕ) → unit_bytes self.now.parts.outgoing.hand ≤ m → result ≤ most_held self.now.parts.reader.max m }
     {
         held_in(&self.body.core, &self.body.input)
     }

@@ -1,8 +1,8 @@
 //! The six steps of a turn, the last first. Each function does one step and those after it.
-ghost use Rattle.std.specs.Prelude.{◌≡◌, ◌≤◌, ◌⊎◌, ◌||◌, [], length, take, None};
+ghost use Rattle.std.specs.Prelude.{◌≡◌, ◌≤◌, ◌⊎◌, ◌||◌, [], length, take, true, None};
 ghost use Rattle.command_dialog.specs.declared.types.Ask.{Ask};
 ghost use Rattle.command_dialog.specs.declared.types.Grant.{Grant};
-ghost use Rattle.relay_session.specs.Keeping.{IsSound, StandsBefore};
+ghost use Rattle.relay_session.specs.Keeping.{IsSteady, StandsBefore};
 ghost use Rattle.relay_session.specs.Places.{Asked, IsAt, IsOffered};
 ghost use Rattle.relay_session.specs.Turns.{CalledBy, Fed, Input as FromInput, KeptBy, Leaves, Lives, QuitBy, Sent, Taken, is_held_back, is_hungry, life, takes};
 
@@ -35,7 +35,8 @@ fn either(a: bool, b: bool) -> bool
 
 // The first bytes, or all.
 fn first(bytes: &[u8], count: usize) -> &[u8]
-    ensures { result.now ≡ take count bytes.now }
+    ensures value { result.now ≡ take count bytes.now }
+    ensures within { length result.now ≤ length bytes.now }
 {
     &bytes[..count.min(bytes.len())]
 }
@@ -77,7 +78,7 @@ fn hungry(core: &Core) -> bool
 /// Step 6: one Take, where it is to be made.
 fn finish<P: StreamPort>(body: &mut Body<P>, port: &mut P, alloc: Global, moved: bool) -> Turn
     requires at { IsAt (P.fits port.old) (length (P.rules port.old).names) body.old.core body.old.seat }
-    requires sound { IsSound body.old.core }
+    requires sound { IsSteady body.old.core }
     ensures at { IsAt (P.fits port.new) (length (P.rules port.new).names) body.new.core body.new.seat }
     ensures sound { Lives body.new.core result }
     ensures stands { (desk : Ask → Grant) → StandsBefore desk body.old.core → Leaves desk body.new.core result }
@@ -96,7 +97,7 @@ fn finish<P: StreamPort>(body: &mut Body<P>, port: &mut P, alloc: Global, moved:
 /// The call that a message asked for, and step 6.
 fn make_on<P: StreamPort>(body: &mut Body<P>, port: &mut P, alloc: Global) -> Turn
     requires at { IsAt (P.fits port.old) (length (P.rules port.old).names) body.old.core body.old.seat }
-    requires sound { IsSound body.old.core }
+    requires sound { IsSteady body.old.core }
     ensures at { IsAt (P.fits port.new) (length (P.rules port.new).names) body.new.core body.new.seat }
     ensures sound { Lives body.new.core result }
     ensures stands { (desk : Ask → Grant) → StandsBefore desk body.old.core → Leaves desk body.new.core result }
@@ -120,9 +121,10 @@ fn feed_on<P: StreamPort, D: Desk>(
     moved: bool,
 ) -> Turn
     requires at { IsAt (P.fits port.old) (length (P.rules port.old).names) body.old.core body.old.seat }
-    requires sound { IsSound body.old.core }
+    requires sound { IsSteady body.old.core }
     requires offered { IsOffered (D.grants desk.now) (length (P.rules port.old).names) }
     requires open { body.old.core.kept ≡ None }
+    requires hungry { is_hungry body.old.core ≡ true }
     ensures at { IsAt (P.fits port.new) (length (P.rules port.new).names) body.new.core body.new.seat }
     ensures sound { Lives body.new.core result }
     ensures stands { StandsBefore (D.grants desk.now) body.old.core → Leaves (D.grants desk.now) body.new.core result }
@@ -146,7 +148,7 @@ fn input_on<P: StreamPort, D: Desk, L: Link>(
     moved: bool,
 ) -> Turn
     requires at { IsAt (P.fits port.old) (length (P.rules port.old).names) body.old.core body.old.seat }
-    requires sound { IsSound body.old.core }
+    requires sound { IsSteady body.old.core }
     requires offered { IsOffered (D.grants desk.now) (length (P.rules port.old).names) }
     requires open { body.old.core.kept ≡ None }
     ensures at { IsAt (P.fits port.new) (length (P.rules port.new).names) body.new.core body.new.seat }
@@ -183,7 +185,7 @@ fn send_on<P: StreamPort, D: Desk, L: Link>(
     moved: bool,
 ) -> Turn
     requires at { IsAt (P.fits port.old) (length (P.rules port.old).names) body.old.core body.old.seat }
-    requires sound { IsSound body.old.core }
+    requires sound { IsSteady body.old.core }
     requires offered { IsOffered (D.grants desk.now) (length (P.rules port.old).names) }
     requires open { body.old.core.kept ≡ None }
     ensures at { IsAt (P.fits port.new) (length (P.rules port.new).names) body.new.core body.new.seat }
@@ -221,7 +223,7 @@ fn quit_on<P: StreamPort, D: Desk, L: Link>(
     moved: bool,
 ) -> Turn
     requires at { IsAt (P.fits port.old) (length (P.rules port.old).names) body.old.core body.old.seat }
-    requires sound { IsSound body.old.core }
+    requires sound { IsSteady body.old.core }
     requires offered { IsOffered (D.grants desk.now) (length (P.rules port.old).names) }
     requires open { body.old.core.kept ≡ None }
     ensures at { IsAt (P.fits port.new) (length (P.rules port.new).names) body.new.core body.new.seat }
@@ -246,7 +248,7 @@ pub(crate) fn kept_on<P: StreamPort, D: Desk, L: Link>(
     quit: bool,
 ) -> Turn
     requires at { IsAt (P.fits port.old) (length (P.rules port.old).names) body.old.core body.old.seat }
-    requires sound { IsSound body.old.core }
+    requires sound { IsSteady body.old.core }
     requires offered { IsOffered (D.grants desk.now) (length (P.rules port.old).names) }
     ensures at { IsAt (P.fits port.new) (length (P.rules port.new).names) body.new.core body.new.seat }
     ensures sound { Lives body.new.core result }

@@ -1,4 +1,4 @@
-ghost use Rattle.std.specs.Prelude.{◌≡◌, ◌≤◌, ◌<◌, ◌+◌, ◌-◌, ◌^◌, [], length, take, drop, true, Some, None, IfOk, IfErr, OnOk, OnErr};
+ghost use Rattle.std.specs.Prelude.{◌≡◌, ◌≤◌, ◌<◌, ◌+◌, ◌-◌, ◌*◌, ◌^◌, [], length, take, drop, true, false, Some, None, IfOk, IfErr, OnOk, OnErr};
 ghost use Rattle.ack_window.specs.Inbound.{ack_of, in_took, room_of};
 ghost use Rattle.session_owed.specs.Acks.{ack_messages};
 ghost use Rattle.session_owed.specs.Talk.{hand_bytes, is_take};
@@ -6,6 +6,7 @@ ghost use Rattle.session_owed.specs.Standing.{new_past};
 ghost use Rattle.command_dialog.specs.State.{playing_in};
 ghost use Rattle.command_dialog.specs.declared.types.Ask.{Ask};
 ghost use Rattle.command_dialog.specs.declared.types.Grant.{Grant};
+ghost use Rattle.relay_session.specs.Bounds.{HasRoom, IsLight, weight};
 ghost use Rattle.relay_session.specs.Feeding.{Hears, IsCalled, IsFed, IsOthers, IsSent, IsStopped, heard_of, read_end};
 ghost use Rattle.relay_session.specs.Keeping.{IsOver, IsSound, StandsBefore, past_of, waiting};
 ghost use Rattle.relay_session.specs.Owing.{Says, pending};
@@ -41,6 +42,7 @@ pub fn new_core(alloc: Global, who: u64, window: u32, max_message: u32) -> Core
     ensures past { past_of result ≡ new_past }
     ensures fixed { (result.who ≡ who) × (result.window ≡ window) × (result.reader.max ≡ max_message) }
     ensures nothing { pending result.outgoing ≡ [] }
+    ensures light { IsLight result.outgoing.others result.kept }
     ensures place { result.place ≡ None }
 {
     Core {
@@ -73,6 +75,7 @@ fn acknowledge(
     requires far { inbound.old.taken + n < 2 ^ 63 }
     ensures window { inbound.new ≡ in_took inbound.old n }
     ensures said { OnOk result (Says outgoing.old (ack_messages (ack_of inbound.old n)) outgoing.new) }
+    ensures light { 16 * outgoing.new.others ≤ 16 * outgoing.old.others + 356 }
 {
     match inbound.took(n) {
         None => Ok(()),
@@ -95,6 +98,7 @@ pub fn hand_piece(core: &mut Core, alloc: Global, piece: &[u8]) -> Result<usize,
     ensures heard { OnOk result (heard_of core.new ≡ heard_of core.old) }
     ensures stopped { IfErr result (λ e. IsStopped core.old piece.now e core.new) }
     ensures over { (desk : Ask → Grant) → StandsBefore desk core.old → OnErr result (IsOver desk core.new) }
+    ensures light { weight core.new.outgoing.others core.new.x core.new.inbound ≤ weight core.old.outgoing.others core.old.x core.old.inbound }
 {
     let HandFed { used, out, done: _ } = match core.hand.feed(alloc, piece) {
         Ok(fed) => fed,
@@ -136,6 +140,10 @@ pub fn chunk_piece<D: Desk>(
     ensures heard { IfOk result (λ p. Hears (D.grants desk.now) core.old core.new p.ended) }
     ensures stopped { IfErr result (λ e. IsStopped core.old piece.now e core.new) }
     ensures over { StandsBefore (D.grants desk.now) core.old → OnErr result (IsOver (D.grants desk.now) core.new) }
+    ensures quiet { IfOk result (λ p. p.ended ≡ false
+        → weight core.new.outgoing.others core.new.x core.new.inbound ≤ weight core.old.outgoing.others core.old.x core.old.inbound + 356 * p.used) }
+    ensures light { 16000 * core.new.outgoing.others
+        ≤ weight core.old.outgoing.others core.old.x core.old.inbound + (356 * length piece.now + 4640000) }
 {
     let room = core.inbound.room_to_next();
     let count = (piece.len() as u64).min(room) as usize;
@@ -219,6 +227,8 @@ pub fn hear_reply(
     ensures stands { (desk : Ask → Grant) → StandsBefore desk (waiting core.old asked.value) → OnOk result (StandsBefore desk core.new) }
     ensures called { IsCalled (waiting core.old asked.value) asked.value reply.now core.new }
     ensures others { OnOk result (IsOthers core.old core.new) }
+    ensures light { 16 * core.new.outgoing.others ≤ 16 * core.old.outgoing.others + 7036 }
+    ensures room { HasRoom core.new.reader core.new.kept }
     ensures over { (desk : Ask → Grant) → StandsBefore desk (waiting core.old asked.value) → OnErr result (IsOver desk core.new) }
 {
     core.kept = None;
@@ -246,6 +256,8 @@ pub fn hear_item(
     ensures stands { (desk : Ask → Grant) → StandsBefore desk core.old → OnOk result (StandsBefore desk core.new) }
     ensures called { IsCalled core.old asked.value reply core.new }
     ensures others { OnOk result (core.new.outgoing.others ≡ 0) }
+    ensures light { core.new.outgoing.others ≤ core.old.outgoing.others }
+    ensures room { HasRoom core.new.reader core.new.kept }
     ensures over { (desk : Ask → Grant) → StandsBefore desk core.old → OnErr result (IsOver desk core.new) }
 {
     core.calls.add(&Pair::of(asked, &reply));

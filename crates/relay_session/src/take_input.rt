@@ -1,4 +1,5 @@
-ghost use Rattle.std.specs.Prelude.{◌≡◌, ◌<◌, ◌≤◌, [], length, drop, None, false, IfOk, IfErr, OnOk, OnErr};
+ghost use Rattle.std.specs.Prelude.{◌≡◌, ◌<◌, ◌≤◌, ◌+◌, ◌*◌, [], length, drop, None, true, false, IfOk, IfErr, OnOk, OnErr};
+ghost use Rattle.relay_session.specs.Bounds.{weight};
 ghost use Rattle.relay_session.specs.Feeding.{Hears, IsFed, IsStopped};
 ghost use Rattle.relay_session.specs.Keeping.{IsOver, IsSound, StandsBefore};
 
@@ -22,6 +23,10 @@ fn next_piece<D: Desk>(core: &mut Core, alloc: Global, desk: &D, piece: &[u8]) -
     ensures heard { IfOk result (λ p. Hears (D.grants desk.now) core.old core.new p.ended) }
     ensures stopped { IfErr result (λ e. IsStopped core.old piece.now e core.new) }
     ensures over { StandsBefore (D.grants desk.now) core.old → OnErr result (IsOver (D.grants desk.now) core.new) }
+    ensures quiet { IfOk result (λ p. p.ended ≡ false
+        → weight core.new.outgoing.others core.new.x core.new.inbound ≤ weight core.old.outgoing.others core.old.x core.old.inbound + 356 * p.used) }
+    ensures light { 16000 * core.new.outgoing.others
+        ≤ weight core.old.outgoing.others core.old.x core.old.inbound + (356 * length piece.now + 4640000) }
 {
     if core.fed >= HAND_BYTES {
         return chunk_piece(core, alloc, desk, piece);
@@ -39,11 +44,15 @@ pub(crate) fn feed<D: Desk>(
 ) -> Result<bool, End>
     requires sound { IsSound core.old }
     requires open { core.old.kept ≡ None }
+    requires hungry { core.old.outgoing.others ≤ 8192 }
+    requires short { length input.old ≤ 4096 }
     ensures sound { OnOk result (IsSound core.new) }
     ensures stands { StandsBefore (D.grants desk.now) core.old → OnOk result (StandsBefore (D.grants desk.now) core.new) }
+    ensures light { 16 * core.new.outgoing.others ≤ 186694 }
     ensures fed { OnOk result (IsFed core.old input.old core.new input.new) }
     ensures heard { IfOk result (λ loud. Hears (D.grants desk.now) core.old core.new loud) }
     ensures all { IfOk result (λ loud. loud ≡ false → input.new ≡ []) }
+    ensures grows { IfOk result (λ loud. loud ≡ true → length core.old.x < length core.new.x) }
     ensures stopped { IfErr result (λ e. IsStopped core.old input.old e core.new) }
     ensures over { StandsBefore (D.grants desk.now) core.old → OnErr result (IsOver (D.grants desk.now) core.new) }
 {

@@ -1,4 +1,4 @@
-ghost use Rattle.std.specs.Prelude.{◌≡◌, ◌≤◌, ◌<◌, ◌-◌, ◌⊎◌, [], length, IfOk, OnOk};
+ghost use Rattle.std.specs.Prelude.{◌≡◌, ◌≤◌, ◌<◌, ◌+◌, ◌-◌, ◌⊎◌, ℕ, [], length, IfOk, OnOk};
 ghost use Rattle.chunk_writer.specs.Written.{after};
 ghost use Rattle.command_dialog.specs.Dialog.{unit_message};
 ghost use Rattle.session_owed.specs.Chunks.{hand_of};
@@ -35,6 +35,7 @@ impl UnitInHand {
     ) -> Result<UnitInHand, OutOfMemory>
         ensures hand { IfOk result (λ h. h ≡ hand_of writer.old (unit_message stream unit)) }
         ensures writer { OnOk result (writer.new ≡ after writer.old (unit_message stream unit)) }
+        ensures size { writer.new.size ≡ writer.old.size }
     {
         let Unit { kind, time, body } = unit.unit();
         let kind = message_kind(*kind);
@@ -44,7 +45,8 @@ impl UnitInHand {
 
     /// How many bytes the unit has.
     pub(crate) fn body_len(&self) -> usize
-        ensures { result ≡ length self.now.body }
+        ensures value { result ≡ length self.now.body }
+        ensures most { result ≤ 4194304 }
     {
         self.unit.unit().body.len()
     }
@@ -60,6 +62,8 @@ impl UnitInHand {
         ensures goes { OnOk result (Goes self.old out.old self.new out.new) }
         ensures filled { OnOk result ((most ≤ length out.new - place) ⊎ (left self.new ≡ [])) }
         ensures grows { length out.old ≤ length out.new }
+        ensures size { self.new.sending.size ≡ self.old.sending.size }
+        ensures bound { (b : ℕ) → most + (18 + self.old.sending.size) ≤ b → length out.old - place ≤ b → length out.new - place ≤ b }
     {
         let body = self.unit.unit().body.as_slice();
         fill_with(&mut self.sending, body, out, place, most)
@@ -80,6 +84,8 @@ fn fill_with(
     ensures goes { OnOk result (Goes (in_hand sending.old body.now) out.old (in_hand sending.new body.now) out.new) }
     ensures filled { OnOk result ((most ≤ length out.new - place) ⊎ (left (in_hand sending.new body.now) ≡ [])) }
     ensures grows { length out.old ≤ length out.new }
+    ensures size { sending.new.size ≡ sending.old.size }
+    ensures bound { (b : ℕ) → most + (18 + sending.old.size) ≤ b → length out.old - place ≤ b → length out.new - place ≤ b }
 {
     while out.len() - place < most {
         if !sending.next_chunk(body, out)? {

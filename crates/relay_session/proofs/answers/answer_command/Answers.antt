@@ -1,4 +1,5 @@
-use Rattle.std.proofs.Common.{List, sym, ap, ◌∙◌, subst}
+use Rattle.std.proofs.Common.{List, sym, ap, ◌∙◌, subst, arith}
+use Rattle.relay_session.proofs.Costs.{meant_cost}
 use Rattle.chunk_wire.specs.declared.message.Message.{Message}
 use Rattle.command_dialog.specs.State.{Step}
 use Rattle.command_dialog.specs.Meaning.{meaning}
@@ -23,9 +24,15 @@ returns-in-Ok-say_all-clause-said g c =
     let S : List Message → Type 0 = λ l. Says c.args.outgoing.now l c.say_all.new.self in
     subst S (c.as_slice.ensures ∙ c.in-Ok-step.ensures.says
     ∙ sym (ap (λ (t : Step). t.says) (does_is (g.D.Desk.grants c.args.desk.now) c.args.dialog.now c.args.message c.in-Ok.meant c.granted-grant.result c.in-Ok.ensures c.granted-grant.ensures)))
-    c.in-Ok-say_all.ensures
+    c.in-Ok-say_all.ensures.said
 
 pub returns-in-Ok-say_all-clause-makes : goal.returns-in-Ok-say_all-clause-makes
 returns-in-Ok-say_all-clause-makes g c =
     c.in-Ok-step.ensures.makes
     ∙ sym (ap (λ (t : Step). t.makes) (does_is (g.D.Desk.grants c.args.desk.now) c.args.dialog.now c.args.message c.in-Ok.meant c.granted-grant.result c.in-Ok.ensures c.granted-grant.ensures))
+
+pub returns-in-Ok-say_all-clause-light : goal.returns-in-Ok-say_all-clause-light
+returns-in-Ok-say_all-clause-light g c = omega (arith, c.say_all.ensures.light, meant_cost c.args.dialog.now c.granted-grant.result c.in-Ok.meant _ (c.as_slice.ensures ∙ c.in-Ok-step.ensures.says))
+
+pub returns-in-Err-say_all-clause-light : goal.returns-in-Err-say_all-clause-light
+returns-in-Err-say_all-clause-light g c = omega (arith, c.say_all.ensures.light, meant_cost c.args.dialog.now c.granted-grant.result c.in-Ok.meant _ (c.as_slice.ensures ∙ c.in-Ok-step.ensures.says))

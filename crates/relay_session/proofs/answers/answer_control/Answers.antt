@@ -5,7 +5,7 @@ use Rattle.relay_session.specs.Session.{pongs}
 use Rattle.relay_session.proofs.Answering.{says_none}
 use Rattle.relay_session.proofs.answers.answer_control.Goals as goal
 
-pub returns-in-None : goal.returns-in-None
-returns-in-None c =
+pub returns-in-None-clause-said : goal.returns-in-None-clause-said
+returns-in-None-clause-said c =
     let S : Option Control → Type 0 = λ o. Says c.args.outgoing.now (pongs o) c.args.outgoing.now in
     subst S (sym c.in-None.is ∙ c.ping_answer.ensures) (says_none c.args.outgoing.now)

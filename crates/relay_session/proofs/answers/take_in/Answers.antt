@@ -7,7 +7,7 @@ use Rattle.relay_session.specs.Owing.{Takes}
 use Rattle.relay_session.proofs.Answering.{takes_none}
 use Rattle.relay_session.proofs.answers.take_in.Goals as goal
 
-pub returns-in-None : goal.returns-in-None
-returns-in-None c =
+pub returns-in-None-clause-takes : goal.returns-in-None-clause-takes
+returns-in-None-clause-takes c =
     let S : Option Item → Type 0 = λ o. Takes c.args.outgoing.now (option_map_or (shown c.args.id) o []) c.args.outgoing.now in
     subst S (sym c.in-None.is ∙ c.item_of.ensures) (takes_none c.args.outgoing.now)

@@ -1,23 +1,17 @@
 use Rattle.std.proofs.Common.{ap, arith, length}
+use Rattle.relay_session.proofs.Holds.{others_few, parts_room}
 use Rattle.relay_session.proofs.held.held_in.Goals as goal
 
-pub returns : goal.returns
-returns c = record {
-  parts = c.held-2.result;
-  read = record { lives = c.held-2.ensures.lives; failed = c.held-2.ensures.failed };
-  sum = omega (
-    arith,
-    c.held.ensures.value,
-    c.kept_bytes.ensures,
-    c.unit_len.ensures,
-    ap length c.later.ensures,
-    ap length c.ready.ensures,
-    ap length c.left.ensures,
-    c.saturating_add.ensures,
-    c.saturating_add-2.ensures,
-    c.saturating_add-3.ensures,
-    c.saturating_add-4.ensures,
-    c.saturating_add-5.ensures,
-    c.saturating_add-6.ensures,
-  );
+pub returns-clause-holds : goal.returns-clause-holds
+returns-clause-holds c = record {
+  parts = c.held-parts.result;
+  read = record { lives = c.held-parts.ensures.lives; failed = c.held-parts.ensures.failed };
+  sum = omega (arith, c.held-app.ensures.value, c.kept_bytes-kept.ensures, c.unit_len-unit.ensures.value, ap length c.later.ensures, ap length c.ready.ensures.value, ap length c.left.ensures.value);
 }
+
+pub returns-clause-most : goal.returns-clause-most
+returns-clause-most c = λ m le. (
+    let d = c.args.core.now in
+    let parts = parts_room d.reader c.held-parts.result d.kept (record { lives = c.held-parts.ensures.lives; failed = c.held-parts.ensures.failed }) c.requires.room in
+    let few = others_few d.outgoing.others d.kept c.requires.light in
+    omega (arith, le, parts, few, c.held-app.ensures.most, c.kept_bytes-kept.ensures, c.unit_len-unit.ensures.value, c.ready.ensures.most, c.left.ensures.short, ap length c.later.ensures, ap length c.ready.ensures.value, ap length c.left.ensures.value))

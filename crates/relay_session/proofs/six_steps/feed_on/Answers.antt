@@ -4,6 +4,7 @@ use Rattle.relay_session.specs.Places.{Asked}
 use Rattle.relay_session.specs.Turns.{Taken, is_nil, life}
 use Rattle.relay_session.specs.declared.turn.Turn.TheVariants.{Ended}
 use Rattle.relay_session.proofs.Rounds.{at_heard, fed_loud, fed_quiet, fed_stopped}
+use Rattle.relay_session.proofs.Going.{light_fed}
 use Rattle.relay_session.proofs.six_steps.feed_on.Goals as goal
 
 pub make_on-requires-clause-at : goal.make_on-requires-clause-at
@@ -21,7 +22,7 @@ returns-in-Ok-true-clause-turn g c =
     let e = c.in-Ok-true.ensures in
     let f = c.make_on in
     fed_loud (Asked P.fits P.rules P.root P.seen P.count P.wants P.busies) desk (life b.core b.input c.args.port.now b.seat) (life f.new.body.core f.new.body.input f.new.port f.new.body.seat) c.feed.new.core c.feed.new.input c.args.moved f.result e.fed
-    (subst (Hears desk b.core c.feed.new.core) c.in-Ok-true.field-0-test e.heard) f.ensures.turn
+    (subst (Hears desk b.core c.feed.new.core) c.in-Ok-true.field-0-test e.heard) f.ensures.turn (e.grows c.in-Ok-true.field-0-test)
 
 pub returns-in-Ok-false-clause-turn : goal.returns-in-Ok-false-clause-turn
 returns-in-Ok-false-clause-turn g c =
@@ -32,7 +33,7 @@ returns-in-Ok-false-clause-turn g c =
     let f = c.finish in
     let w = life f.new.body.core f.new.body.input f.new.port f.new.body.seat in
     fed_quiet (Asked P.fits P.rules P.root P.seen P.count P.wants P.busies) desk (life b.core b.input c.args.port.now b.seat) w c.feed.new.core c.feed.new.input c.is_empty-none.result c.args.moved f.result e.fed (e.all c.in-Ok-false.field-0-test)
-    (subst (Hears desk b.core c.feed.new.core) c.in-Ok-false.field-0-test e.heard) (c.is_empty-none.ensures ∙ ap is_nil c.left.ensures)
+    (subst (Hears desk b.core c.feed.new.core) c.in-Ok-false.field-0-test e.heard) (c.is_empty-none.ensures ∙ ap is_nil c.left.ensures.value)
     (subst (λ (x : Bool). Taken (Asked P.fits P.rules P.root P.seen P.count P.wants P.busies) (life c.feed.new.core c.feed.new.input c.args.port.now b.seat) x f.result w) c.either.ensures f.ensures.turn)
 
 pub returns-in-Err-clause-turn : goal.returns-in-Err-clause-turn
@@ -40,3 +41,6 @@ returns-in-Err-clause-turn g c =
     let P = g.P.StreamPort in
     let b = c.args.body.now in
     fed_stopped (Asked P.fits P.rules P.root P.seen P.count P.wants P.busies) (g.D.Desk.grants c.args.desk.now) (life b.core b.input c.args.port.now b.seat) c.feed.new.core c.feed.new.input c.in-Err.end c.args.moved (Ended c.in-Err.end) c.in-Err.ensures.stopped refl
+
+pub make_on-requires-clause-sound : goal.make_on-requires-clause-sound
+make_on-requires-clause-sound g c = record { sound = c.in-Ok-true.ensures.sound; light = light_fed c.feed.new.core.outgoing.others c.feed.new.core.kept c.feed.ensures.light }

@@ -1,10 +1,16 @@
-use Rattle.std.proofs.Common.{◌+◌, ◌-◌, ◌∙◌, ap, arith, refl, rules, subst, sym}
+use Rattle.std.proofs.Common.{◌+◌, ◌-◌, ◌∙◌, ap, arith, length, length-append, refl, rules, subst, sym}
+use Rattle.ack_window.specs.Inbound.{room_of}
 use Rattle.ack_window.specs.Outbound.{OutWindow}
+use Rattle.chunk_reader.specs.ReaderKnown.{ReaderKnown}
 use Rattle.chunk_reader.proofs.Short.{fed_short}
 use Rattle.relay_session.specs.Feeding.{IsStopped}
 use Rattle.relay_session.specs.declared.end.End.{End}
-use Rattle.relay_session.proofs.Living.{before_loud, before_quiet, far, says_within, sound_fed}
+use Rattle.relay_session.proofs.Bodies.{loud_most}
+use Rattle.relay_session.proofs.Living.{before_loud, before_quiet, far, loud_acts, says_within, sound_fed}
+use Rattle.relay_session.proofs.Room.{room_loud, room_none}
 use Rattle.relay_session.proofs.Stopping.{fed_chunk, loud_heard, loud_idle, others_both, outbound_kept, over_message, over_reader, stop_acknowledge, stop_message, stop_reader}
+use Rattle.relay_session.proofs.Stopping.{part_room, part_used}
+use Rattle.relay_session.proofs.Weights.{weight_loud, weight_quiet}
 use Rattle.relay_session.proofs.steps.chunk_piece.Goals as goal
 
 pub acknowledge-requires-clause-far : goal.acknowledge-requires-clause-far
@@ -41,7 +47,8 @@ returns-in-None-clause-sound g c =
     let d = c.args.core.now in
     let l = c.requires.sound in
     sound_fed d c.first-part.result.now c.add_all-in-None.new.self c.in-Ok.fed.used c.in-Ok.fed.message c.feed.new.self c.acknowledge.new.inbound d.outbound d.dialog c.acknowledge.new.outgoing d.kept d.place
-    l c.requires.late (c.in-Ok.ensures.ok l.reads) (search rules) refl (says_within d.outgoing c.acknowledge.new.outgoing _ c.in-Ok-acknowledge.ensures.said l.others) l.placed (search rules)
+    l c.requires.late (c.in-Ok.ensures.ok l.reads) (search rules) refl (says_within d.outgoing c.acknowledge.new.outgoing _ c.in-Ok-acknowledge.ensures.said l.others) l.placed l.acts
+    (room_none c.feed.new.self d.kept c.requires.open (omega (arith, l.short, ap (λ (k : ReaderKnown). k.max) (c.in-Ok.ensures.ok l.reads).now))) (search rules)
 
 pub returns-in-None-clause-stands : goal.returns-in-None-clause-stands
 returns-in-None-clause-stands g c = λ st. (
@@ -59,7 +66,10 @@ returns-in-Ok-answer-clause-sound g c =
     sound_fed d c.first-part.result.now c.add_all-in-Ok-answer.new.self c.in-Ok.fed.used c.in-Ok.fed.message c.feed.new.self c.answer.new.inbound c.answer.new.outbound c.answer.new.dialog c.answer.new.outgoing a.kept a.place
     l c.requires.late (c.in-Ok.ensures.ok l.reads) (search rules) (ap (λ (w : OutWindow). w.sent) e.outbound ∙ outbound_kept d.outbound c.in-Some.message)
     (says_within c.acknowledge.new.outgoing c.answer.new.outgoing _ e.said o)
-    (loud_idle (g.D.Desk.grants c.args.desk.now) d.dialog c.answer.new.dialog c.in-Some.message d.place a.place d.kept a.kept d.who (d.fed + c.in-Ok.fed.used) l.placed e.place e.makes e.state) (search rules)
+    (loud_idle (g.D.Desk.grants c.args.desk.now) d.dialog c.answer.new.dialog c.in-Some.message d.place a.place d.kept a.kept d.who (d.fed + c.in-Ok.fed.used) l.placed e.place e.makes e.state)
+    (loud_acts (g.D.Desk.grants c.args.desk.now) d.dialog c.in-Some.message d.who (d.fed + c.in-Ok.fed.used) a.kept e.makes)
+    (room_loud d.reader c.feed.new.self c.first-part.result.now c.in-Ok.fed.used c.in-Some.message a.kept (rw c.in-Some.is at (c.in-Ok.ensures.ok l.reads))
+    (loud_most d.who (d.fed + c.in-Ok.fed.used) (g.D.Desk.grants c.args.desk.now) d.dialog c.in-Some.message a.kept e.makes) l.short) (search rules)
 
 pub returns-in-Ok-answer-clause-stands : goal.returns-in-Ok-answer-clause-stands
 returns-in-Ok-answer-clause-stands g c = λ st. (
@@ -101,3 +111,33 @@ returns-in-Err-answer-clause-over g c = λ st. (
     over_message (g.D.Desk.grants c.args.desk.now) d c.args.piece.now c.first-part.result.now c.add_all-in-Err-answer.new.self c.min-count.result c.in-Ok.fed.used (d.fed + c.in-Ok.fed.used - 1) c.in-Some.message c.feed.new.self
     c.answer.new.inbound c.answer.new.outbound c.answer.new.dialog c.answer.new.outgoing c.requires.sound c.requires.late c.requires.open f c.first-part.ensures (omega (arith, c.min-count.ensures, c.room_to_next-room.ensures.value))
     (search rules) st)
+
+pub returns-in-None-clause-quiet : goal.returns-in-None-clause-quiet
+returns-in-None-clause-quiet g c = λ e. (
+    let d = c.args.core.now in
+    let part = c.first-part.result.now in
+    let f = c.in-Ok.ensures.ok c.requires.sound.reads in
+    let room = part_room c.args.piece.now part c.min-count.result (room_of c.args.core.now.inbound) c.first-part.ensures (omega (arith, c.min-count.ensures, c.room_to_next-room.ensures.value)) in
+    weight_quiet d.inbound c.acknowledge.new.inbound c.in-Ok.fed.used d.x c.add_all-in-None.new.self d.outgoing c.acknowledge.new.outgoing c.room_to_next-room.ensures.kept (omega (arith, f.within, room))
+    c.in-Ok-acknowledge.ensures.said c.acknowledge.ensures.light c.acknowledge.ensures.window (omega (arith, c.requires.late))
+    (omega (arith, ap length c.add_all-in-None.ensures, length-append d.x c.first-in-None.result.now)))
+
+pub returns-in-Ok-answer-clause-light : goal.returns-in-Ok-answer-clause-light
+returns-in-Ok-answer-clause-light g c =
+    let d = c.args.core.now in
+    let used = c.in-Ok.fed.used in
+    let part = c.first-part.result.now in
+    let f = c.in-Ok.ensures.ok c.requires.sound.reads in
+    let room = part_room c.args.piece.now part c.min-count.result (room_of c.args.core.now.inbound) c.first-part.ensures (omega (arith, c.min-count.ensures, c.room_to_next-room.ensures.value)) in
+    weight_loud d.inbound used (length c.args.piece.now) c.answer.new.outgoing.others d.x d.outgoing c.acknowledge.new.outgoing c.room_to_next-room.ensures.kept (omega (arith, f.within, room))
+    c.in-Ok-acknowledge.ensures.said c.acknowledge.ensures.light c.answer.ensures.light (part_used c.args.piece.now part c.min-count.result used c.first-part.ensures f.within).1
+
+pub returns-in-Err-answer-clause-light : goal.returns-in-Err-answer-clause-light
+returns-in-Err-answer-clause-light g c =
+    let d = c.args.core.now in
+    let used = c.in-Ok.fed.used in
+    let part = c.first-part.result.now in
+    let f = c.in-Ok.ensures.ok c.requires.sound.reads in
+    let room = part_room c.args.piece.now part c.min-count.result (room_of c.args.core.now.inbound) c.first-part.ensures (omega (arith, c.min-count.ensures, c.room_to_next-room.ensures.value)) in
+    weight_loud d.inbound used (length c.args.piece.now) c.answer.new.outgoing.others d.x d.outgoing c.acknowledge.new.outgoing c.room_to_next-room.ensures.kept (omega (arith, f.within, room))
+    c.in-Ok-acknowledge.ensures.said c.acknowledge.ensures.light c.answer.ensures.light (part_used c.args.piece.now part c.min-count.result used c.first-part.ensures f.within).1
