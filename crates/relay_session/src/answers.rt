@@ -7,7 +7,8 @@ ghost use Rattle.command_dialog.specs.Dialog.{does as dialog_does};
 ghost use Rattle.command_dialog.specs.Meaning.{meaning};
 ghost use Rattle.session_owed.specs.Acks.{window_by, windowed};
 ghost use Rattle.relay_session.specs.Owing.{Says, Shows, Takes, pending};
-ghost use Rattle.relay_session.specs.Session.{commands, does, ended_by, entry_by, item_in, outbound_after, outbound_by, place_by, place_of, pongs, refused, told};
+ghost use Rattle.relay_session.specs.Session.{commands, does, ended_by, entry_by, item_in, outbound_after};
+ghost use Rattle.relay_session.specs.Session.{outbound_by, place_by, place_of, pongs, refused, told};
 ghost use Rattle.relay_session.specs.declared.end.End.TheVariants as end;
 
 use crate::{Desk, End, Outgoing};

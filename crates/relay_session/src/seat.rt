@@ -338,6 +338,7 @@ impl<P: StreamPort> Seat<P> {
     pub fn others_law()
         ensures stands { (x y : P) (s : SeatState P.Pass) → P.rules y ≡ P.rules x → GoOn (P.root x) (P.root y) → StandsAt P.rules P.root P.seen x s
             → StandsAt P.rules P.root P.seen y s }
-        ensures fit { (x y : P) (s : SeatState P.Pass) → ((q : ℕ) (p : P.Pass) → P.fits x q p → P.fits y q p) → HasFit (P.fits x) s.spot → HasFit (P.fits y) s.spot }
+        ensures fit { (x y : P) (s : SeatState P.Pass) → ((q : ℕ) (p : P.Pass) → P.fits x q p → P.fits y q p) → HasFit (P.fits x) s.spot
+            → HasFit (P.fits y) s.spot }
     {}
 }

@@ -10,7 +10,8 @@ ghost use Rattle.relay_session.specs.SeatState.{plays, publishes};
 /// its End Ended. From its Join answered Joined to its Leave it holds that player's place, and none of its Takes is answered
 /// NotPlayer.
 pub fn own_calls_law()
-    ensures publisher { (limits : StreamLimits) (past : History) (who : ℕ) → IsLawful limits past → publishes (own who past) ≡ true → publisher past ≡ Some who }
+    ensures publisher { (limits : StreamLimits) (past : History) (who : ℕ) → IsLawful limits past → publishes (own who past) ≡ true
+        → publisher past ≡ Some who }
     ensures player { (limits : StreamLimits) (past : History) (who player : ℕ) → IsLawful limits past → plays player (own who past) ≡ true
         → holder past player ≡ Some who }
     ensures fares { (limits : StreamLimits) (past : History) (who : ℕ) → IsLawful limits past → Fares (own who past) }

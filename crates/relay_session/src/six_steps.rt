@@ -4,7 +4,8 @@ ghost use Rattle.command_dialog.specs.declared.types.Ask.{Ask};
 ghost use Rattle.command_dialog.specs.declared.types.Grant.{Grant};
 ghost use Rattle.relay_session.specs.Keeping.{IsSteady, StandsBefore};
 ghost use Rattle.relay_session.specs.Places.{Asked, IsAt, IsOffered};
-ghost use Rattle.relay_session.specs.Turns.{CalledBy, Fed, Input as FromInput, KeptBy, Leaves, Lives, QuitBy, Sent, Taken, is_held_back, is_hungry, life, takes};
+ghost use Rattle.relay_session.specs.Turns.{CalledBy, Fed, Input as FromInput, KeptBy, QuitBy, Sent, Taken};
+ghost use Rattle.relay_session.specs.Turns.{Leaves, Lives, is_held_back, is_hungry, life, takes};
 
 use crate::body::Body;
 use crate::calls::{answer_of, make, take};
@@ -82,7 +83,8 @@ fn finish<P: StreamPort>(body: &mut Body<P>, port: &mut P, alloc: Global, moved:
     ensures at { IsAt (P.fits port.new) (length (P.rules port.new).names) body.new.core body.new.seat }
     ensures sound { Lives body.new.core result }
     ensures stands { (desk : Ask → Grant) → StandsBefore desk body.old.core → Leaves desk body.new.core result }
-    ensures turn { Taken (Asked P.fits P.rules P.root P.seen P.count P.wants P.busies) (life body.old.core body.old.input port.old body.old.seat) moved result (life body.new.core body.new.input port.new body.new.seat) }
+    ensures turn { Taken (Asked P.fits P.rules P.root P.seen P.count P.wants P.busies)
+        (life body.old.core body.old.input port.old body.old.seat) moved result (life body.new.core body.new.input port.new body.new.seat) }
 {
     match fill(&mut body.core, alloc) {
         Ok(()) => {}
@@ -101,7 +103,8 @@ fn make_on<P: StreamPort>(body: &mut Body<P>, port: &mut P, alloc: Global) -> Tu
     ensures at { IsAt (P.fits port.new) (length (P.rules port.new).names) body.new.core body.new.seat }
     ensures sound { Lives body.new.core result }
     ensures stands { (desk : Ask → Grant) → StandsBefore desk body.old.core → Leaves desk body.new.core result }
-    ensures turn { CalledBy (Asked P.fits P.rules P.root P.seen P.count P.wants P.busies) body.old.core.kept (life body.old.core body.old.input port.old body.old.seat) result (life body.new.core body.new.input port.new body.new.seat) }
+    ensures turn { CalledBy (Asked P.fits P.rules P.root P.seen P.count P.wants P.busies) body.old.core.kept
+        (life body.old.core body.old.input port.old body.old.seat) result (life body.new.core body.new.input port.new body.new.seat) }
 {
     match body.core.kept.take() {
         None => finish(body, port, alloc, true),
@@ -128,7 +131,8 @@ fn feed_on<P: StreamPort, D: Desk>(
     ensures at { IsAt (P.fits port.new) (length (P.rules port.new).names) body.new.core body.new.seat }
     ensures sound { Lives body.new.core result }
     ensures stands { StandsBefore (D.grants desk.now) body.old.core → Leaves (D.grants desk.now) body.new.core result }
-    ensures turn { Fed (Asked P.fits P.rules P.root P.seen P.count P.wants P.busies) (D.grants desk.now) (life body.old.core body.old.input port.old body.old.seat) moved result (life body.new.core body.new.input port.new body.new.seat) }
+    ensures turn { Fed (Asked P.fits P.rules P.root P.seen P.count P.wants P.busies) (D.grants desk.now)
+        (life body.old.core body.old.input port.old body.old.seat) moved result (life body.new.core body.new.input port.new body.new.seat) }
 {
     let none = is_empty(body.input.left());
     match feed(&mut body.core, &mut body.input, alloc, desk) {
@@ -154,8 +158,8 @@ fn input_on<P: StreamPort, D: Desk, L: Link>(
     ensures at { IsAt (P.fits port.new) (length (P.rules port.new).names) body.new.core body.new.seat }
     ensures sound { Lives body.new.core result }
     ensures stands { StandsBefore (D.grants desk.now) body.old.core → Leaves (D.grants desk.now) body.new.core result }
-    ensures turn { FromInput (Asked P.fits P.rules P.root P.seen P.count P.wants P.busies) (D.grants desk.now) L.hears (life body.old.core body.old.input port.old body.old.seat) link.old moved result
-        (life body.new.core body.new.input port.new body.new.seat) link.new }
+    ensures turn { FromInput (Asked P.fits P.rules P.root P.seen P.count P.wants P.busies) (D.grants desk.now) L.hears
+        (life body.old.core body.old.input port.old body.old.seat) link.old moved result (life body.new.core body.new.input port.new body.new.seat) link.new }
 {
     if !hungry(&body.core) {
         return finish(body, port, alloc, moved);
@@ -191,8 +195,8 @@ fn send_on<P: StreamPort, D: Desk, L: Link>(
     ensures at { IsAt (P.fits port.new) (length (P.rules port.new).names) body.new.core body.new.seat }
     ensures sound { Lives body.new.core result }
     ensures stands { StandsBefore (D.grants desk.now) body.old.core → Leaves (D.grants desk.now) body.new.core result }
-    ensures turn { Sent (Asked P.fits P.rules P.root P.seen P.count P.wants P.busies) (D.grants desk.now) L.hears L.says (life body.old.core body.old.input port.old body.old.seat) link.old moved result
-        (life body.new.core body.new.input port.new body.new.seat) link.new }
+    ensures turn { Sent (Asked P.fits P.rules P.root P.seen P.count P.wants P.busies) (D.grants desk.now) L.hears L.says
+        (life body.old.core body.old.input port.old body.old.seat) link.old moved result (life body.new.core body.new.input port.new body.new.seat) link.new }
 {
     match fill(&mut body.core, alloc) {
         Ok(()) => {}
@@ -229,8 +233,8 @@ fn quit_on<P: StreamPort, D: Desk, L: Link>(
     ensures at { IsAt (P.fits port.new) (length (P.rules port.new).names) body.new.core body.new.seat }
     ensures sound { Lives body.new.core result }
     ensures stands { StandsBefore (D.grants desk.now) body.old.core → Leaves (D.grants desk.now) body.new.core result }
-    ensures turn { QuitBy (Asked P.fits P.rules P.root P.seen P.count P.wants P.busies) (D.grants desk.now) L.hears L.says quit (life body.old.core body.old.input port.old body.old.seat) link.old moved
-        result (life body.new.core body.new.input port.new body.new.seat) link.new }
+    ensures turn { QuitBy (Asked P.fits P.rules P.root P.seen P.count P.wants P.busies) (D.grants desk.now) L.hears L.says quit
+        (life body.old.core body.old.input port.old body.old.seat) link.old moved result (life body.new.core body.new.input port.new body.new.seat) link.new }
 {
     if quit {
         return Turn::Ended(End::Quit);
@@ -253,8 +257,8 @@ pub(crate) fn kept_on<P: StreamPort, D: Desk, L: Link>(
     ensures at { IsAt (P.fits port.new) (length (P.rules port.new).names) body.new.core body.new.seat }
     ensures sound { Lives body.new.core result }
     ensures stands { StandsBefore (D.grants desk.now) body.old.core → Leaves (D.grants desk.now) body.new.core result }
-    ensures turn { KeptBy (Asked P.fits P.rules P.root P.seen P.count P.wants P.busies) (D.grants desk.now) L.hears L.says body.old.core.kept quit (life body.old.core body.old.input port.old body.old.seat) link.old
-        result (life body.new.core body.new.input port.new body.new.seat) link.new }
+    ensures turn { KeptBy (Asked P.fits P.rules P.root P.seen P.count P.wants P.busies) (D.grants desk.now) L.hears L.says body.old.core.kept quit
+        (life body.old.core body.old.input port.old body.old.seat) link.old result (life body.new.core body.new.input port.new body.new.seat) link.new }
 {
     match body.core.kept.take() {
         None => quit_on(body, port, link, desk, alloc, quit, false),
