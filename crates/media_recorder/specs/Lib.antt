@@ -1,6 +1,8 @@
 pub mod Taken
 pub mod Mediums
 pub mod Flv
+pub mod Transport
+pub mod TsMediums
 pub mod Calls
 pub mod Ports
 pub mod Seats

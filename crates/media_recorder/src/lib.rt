@@ -1,7 +1,7 @@
 //! Recorders: players that write what they take.
 //!
 //! A recorder joins a stream, takes its items as any player does, and writes them by a [`Medium`] to a sink. An
-//! [`FlvRecorder`] writes FLV.
+//! [`FlvRecorder`] writes FLV, a [`TsRecorder`] a transport stream.
 #![tactic(auto)]
 
 mod flv;
@@ -11,12 +11,14 @@ mod pending;
 mod recorder;
 mod seat;
 mod tape;
+mod transport;
 mod turn;
 
 pub use flv::{FlvMedium, FlvRecorder};
 pub use laws::{still_fits_law, viewer_law};
 pub use medium::Medium;
 pub use recorder::Recorder;
+pub use transport::{TsMedium, TsRecorder};
 pub use turn::{Leaving, RecEnd, RecTurn};
 
 #[cfg(test)]

@@ -3,6 +3,7 @@ ghost use Rattle.relay_outside.specs.Put.{PutCount};
 ghost use Rattle.turn_gate.specs.Histories.{Begins};
 ghost use Rattle.media_recorder.specs.Mediums.{AreWithin, most_held};
 ghost use Rattle.media_recorder.specs.Taken.{taken};
+ghost use Rattle.media_recorder.specs.Recorders.{AreWritten};
 ghost use Rattle.media_recorder.specs.Ports.{Serves, FitsIf};
 ghost use Rattle.media_recorder.specs.Seats.{StandIf};
 ghost use Rattle.media_recorder.specs.Turns.{is_empty, PutEnds, Unmade, JoinEnds, TakeEnds, Writing, Puts, JoinsAt, TakesAt, Calls, Works, Turns};
@@ -67,6 +68,14 @@ impl<P: StreamPort, M: Medium> Recorder<P, M> {
     {
         self.tape.law();
         self.seat.law();
+    }
+
+    /// The medium, which has written what was taken, but where there was no memory.
+    pub(crate) fn medium(&self) -> &M
+        ensures written { M.written result.now ≡ self.now.tape.items }
+        ensures taken { AreWritten self.now.end self.now.tape.items (taken self.now.seat.calls) }
+    {
+        self.tape.medium()
     }
 
     /// One turn: a put of all that is pending, else a call. That is its Join where it hasn't joined, else one Take.

@@ -49,6 +49,13 @@ impl<M: Medium> Tape<M> {
         let _ = &self.pending;
     }
 
+    /// The medium, which has written the items.
+    pub(crate) fn medium(&self) -> &M
+        ensures { M.written result.now ≡ self.now.items }
+    {
+        &self.medium
+    }
+
     /// The bytes that the sink is yet to take.
     pub(crate) fn pending(&self) -> &[u8]
         ensures { result.now ≡ self.now.pending }
