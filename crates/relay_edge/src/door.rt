@@ -1,0 +1,164 @@
+//! Doors over a listening socket.
+ghost use Rattle.std.specs.Prelude.{◌≡◌, None, false};
+
+use crate::cells::{DOOR, LEFT, READABLE};
+use crate::link::RealLink;
+use crate::post::Post;
+use mio::net::{TcpListener, TcpStream};
+use mio::{Interest, Registry, Token};
+use relay_outside::{Door, Knock};
+use std::alloc::{AllocError, Global};
+use std::io;
+use std::io::ErrorKind;
+use std::marker::Model;
+use std::sync::Arc;
+
+// What the system says where there is no descriptor or no memory for a socket: ENOMEM, ENFILE, EMFILE and ENOBUFS.
+const SHORTAGES: [i32; 4] = [12, 23, 24, 105];
+
+// Whether the system has no room for a socket, so that it is to be asked again later.
+fn is_shortage(error: &io::Error) -> bool {
+    match error.raw_os_error() {
+        Some(number) => SHORTAGES.contains(&number),
+        None => false,
+    }
+}
+
+/// A worker's door. The doors of all workers share one listening socket; a worker that has clearly more links than
+/// another leaves new ones to that one. All doors together give so many links and are then closed.
+#[derive(Drop)]
+pub struct RealDoor {
+    listener: TcpListener,
+    registry: Registry,
+    post: Arc<Post, Global>,
+    accept: u32,
+    count: u64,
+    failed: u64,
+    over: bool,
+}
+
+impl Model for RealDoor {
+    ghost use Rattle.std.specs.Prelude.{None};
+    ghost use Rattle.relay_outside.specs.Doors.{DoorTold};
+
+    ghost Value = { DoorTold };
+
+    ghost view = { λ d. record { given = d.count; faults = d.failed; closed = d.over; back = None } };
+}
+
+impl RealDoor {
+    /// A door whose listener is registered.
+    pub(crate) fn new(
+        listener: TcpListener,
+        registry: Registry,
+        post: Arc<Post, Global>,
+        accept: u32,
+    ) -> RealDoor
+        ensures { result ≡ record { given = 0; faults = 0; closed = false; back = None } }
+    {
+        RealDoor {
+            listener,
+            registry,
+            post,
+            accept,
+            count: 0,
+            failed: 0,
+            over: false,
+        }
+    }
+
+    // Leaves what came to a worker with fewer links, which is woken once for it.
+    fn leaves(&self) -> bool {
+        if !self.post.has_lighter() {
+            return false;
+        }
+        if !self.post.cells.has(DOOR, LEFT) {
+            self.post.cells.add(DOOR, LEFT);
+            self.post.wake_lighter();
+        }
+        true
+    }
+
+    // Whether there may be a connection for this worker.
+    fn is_asked(&self) -> bool {
+        self.post.open();
+        self.post.cells.has(DOOR, READABLE) && !self.leaves()
+    }
+
+    // The next connection, if there is one, registered under the token.
+    fn accept(&self, token: usize) -> io::Result<Option<TcpStream>> {
+        match self.listener.accept() {
+            Ok((mut stream, _)) => {
+                stream.set_nodelay(true)?;
+                let both = Interest::READABLE | Interest::WRITABLE;
+                self.registry.register(&mut stream, Token(token), both)?;
+                Ok(Some(stream))
+            }
+            Err(error) if error.kind() == ErrorKind::WouldBlock || is_shortage(&error) => {
+                self.post.cells.remove(DOOR, READABLE);
+                Ok(None)
+            }
+            Err(error) => Err(error),
+        }
+    }
+
+    // The same where one more may be given, which is then claimed.
+    fn accept_claimed(&self, token: usize) -> io::Result<Option<TcpStream>> {
+        if !self.post.claim(self.accept) {
+            return Ok(None);
+        }
+        let accepted = self.accept(token);
+        if !matches!(accepted, Ok(Some(_))) {
+            self.post.unclaim();
+        }
+        accepted
+    }
+
+    // The next connection with its token and the post, if there is one for this worker.
+    fn knock(&self) -> io::Result<Option<(TcpStream, usize, Arc<Post, Global>)>> {
+        if !self.is_asked() {
+            return Ok(None);
+        }
+        let Some(token) = self.post.cells.free() else {
+            return Ok(None);
+        };
+        let post = Arc::try_clone(&self.post)?;
+        match self.accept_claimed(token)? {
+            Some(stream) => Ok(Some((stream, token, post))),
+            None => Ok(None),
+        }
+    }
+}
+
+impl Door for RealDoor {
+    type Link = RealLink;
+
+    ghost told = { λ d. d };
+
+    fn next(&mut self) -> Knock<RealLink> {
+        if self.over {
+            return Knock::Closed;
+        }
+        if self.post.is_done(self.accept) {
+            self.over = true;
+            return Knock::Closed;
+        }
+        match self.knock() {
+            Ok(Some((stream, token, post))) => {
+                self.count += 1;
+                Knock::Link(RealLink::new(stream, post, token))
+            }
+            Ok(None) => Knock::NotYet,
+            Err(_) => {
+                self.failed = self.failed.saturating_add(1);
+                Knock::Failed
+            }
+        }
+    }
+
+    fn back(&mut self, link: RealLink) -> Result<(), AllocError> {
+        let _ = &self.over;
+        drop(link);
+        Ok(())
+    }
+}

@@ -1,0 +1,295 @@
+//! A house over sockets and files.
+ghost use Rattle.std.specs.Prelude.{◌≡◌, None, IfOk, false};
+
+use crate::board::Board;
+use crate::cells::{DOOR, READABLE};
+use crate::door::RealDoor;
+use crate::file::RealFile;
+use crate::post::Post;
+use crate::rest::{RealRest, WAKER};
+use mio::net::TcpListener;
+use mio::{Events, Interest, Poll, Registry, Token, Waker};
+use relay_outside::House;
+use std::alloc::{AllocError, Global};
+use std::fs::{File, Files};
+use std::io::Eprint;
+use std::marker::Model;
+use std::net::{Net, SocketAddr};
+use std::sync::Arc;
+use std::{io, net, str};
+
+/// How many events a poll takes at once.
+const EVENTS: usize = 128;
+
+// The text that the bytes are.
+fn text(bytes: &[u8]) -> io::Result<&str> {
+    match str::from_utf8(bytes) {
+        Ok(text) => Ok(text),
+        Err(_) => Err(io::Error::from(io::ErrorKind::InvalidInput)),
+    }
+}
+
+// The address that the bytes name: an IP address and a port.
+fn address(listen: &[u8]) -> io::Result<SocketAddr> {
+    match text(listen)?.parse::<SocketAddr>() {
+        Ok(address) => Ok(address),
+        Err(_) => Err(io::Error::from(io::ErrorKind::InvalidInput)),
+    }
+}
+
+// What the house keeps of a worker until its door and its rest are asked for.
+#[derive(Drop)]
+struct Hand {
+    worker: u32,
+    post: Arc<Post, Global>,
+    registry: Option<Registry>,
+    poll: Option<Poll>,
+}
+
+impl Hand {
+    fn new<R: Net>(
+        rt: &R,
+        alloc: Global,
+        board: Arc<Board, Global>,
+        worker: u32,
+    ) -> io::Result<Hand> {
+        let poll = Poll::new(rt)?;
+        board.join(worker as usize, Waker::new(poll.registry(), Token(WAKER))?);
+        Ok(Hand {
+            worker,
+            post: Post::new(alloc, board, worker as usize)?,
+            registry: Some(poll.registry().try_clone()?),
+            poll: Some(poll),
+        })
+    }
+
+    // Its door, once.
+    fn door(&mut self, socket: net::TcpListener, accept: u32) -> io::Result<RealDoor>
+        ensures { IfOk result (λ d. d ≡ record { given = 0; faults = 0; closed = false; back = None }) }
+    {
+        let Some(registry) = self.registry.take() else {
+            return Err(io::Error::from(io::ErrorKind::AlreadyExists));
+        };
+        let mut listener = TcpListener::from_std(socket);
+        registry.register(&mut listener, Token(DOOR), Interest::READABLE)?;
+        self.post.cells.add(DOOR, READABLE);
+        let post = Arc::try_clone(&self.post)?;
+        Ok(RealDoor::new(listener, registry, post, accept))
+    }
+
+    // Its rest, once.
+    fn rest(&mut self, alloc: Global) -> io::Result<RealRest> {
+        let Some(poll) = self.poll.take() else {
+            return Err(io::Error::from(io::ErrorKind::AlreadyExists));
+        };
+        let events = Events::with_capacity(alloc, EVENTS)?;
+        Ok(RealRest::new(poll, events, Arc::try_clone(&self.post)?))
+    }
+}
+
+// The sockets of a house.
+#[derive(Drop)]
+struct Sockets {
+    alloc: Global,
+    board: Arc<Board, Global>,
+    // Where it listens: the address as it was asked for, and the socket.
+    listening: Option<(Vec<u8>, net::TcpListener)>,
+    hands: Vec<Hand>,
+}
+
+impl Sockets {
+    // A handle of the socket that listens at that address.
+    fn listener<R: Net<Listener = net::TcpListener, Stream = net::TcpStream> + Eprint>(
+        &mut self,
+        rt: &R,
+        listen: &[u8],
+    ) -> io::Result<net::TcpListener> {
+        if let Some((asked, socket)) = &self.listening {
+            if asked.as_slice() == listen {
+                return socket.try_clone();
+            }
+        }
+        let socket = net::TcpListener::bind(rt, address(listen)?)?;
+        socket.set_nonblocking(true)?;
+        let at = socket.local_addr()?;
+        let _ = eprintln!(rt; "relay: listens on {at}");
+        let other = socket.try_clone()?;
+        self.listening = Some((listen.to_vec(self.alloc)?, other));
+        Ok(socket)
+    }
+
+    // The worker's hand, which is made where it isn't there.
+    fn hand<R: Net>(&mut self, rt: &R, worker: u32) -> io::Result<&mut Hand> {
+        let mut at = 0usize;
+        for hand in self.hands.as_slice() {
+            if hand.worker == worker {
+                break;
+            }
+            at = at.saturating_add(1);
+        }
+        if at >= self.hands.len() {
+            let board = Arc::try_clone(&self.board)?;
+            let hand = Hand::new(rt, self.alloc, board, worker)?;
+            self.hands.push(hand)?;
+        }
+        match self.hands.get_mut(at) {
+            Some(hand) => Ok(hand),
+            None => Err(io::Error::from(io::ErrorKind::NotFound)),
+        }
+    }
+
+    fn door<R: Net<Listener = net::TcpListener, Stream = net::TcpStream> + Eprint>(
+        &mut self,
+        rt: &R,
+        worker: u32,
+        listen: &[u8],
+        accept: u32,
+    ) -> io::Result<RealDoor>
+        ensures { IfOk result (λ d. d ≡ record { given = 0; faults = 0; closed = false; back = None }) }
+    {
+        let socket = self.listener(rt, listen)?;
+        self.hand(rt, worker)?.door(socket, accept)
+    }
+
+    fn rest<R: Net>(&mut self, rt: &R, worker: u32) -> io::Result<RealRest> {
+        let alloc = self.alloc;
+        self.hand(rt, worker)?.rest(alloc)
+    }
+}
+
+// The files of a house, by the names that it gave.
+#[derive(Drop)]
+struct Names {
+    alloc: Global,
+    given: Vec<Vec<u8>>,
+}
+
+impl Names {
+    // Makes a file that is empty. A name is given once.
+    fn file<R: Files<File = File>>(&mut self, rt: &R, name: &[u8]) -> io::Result<File> {
+        for given in self.given.as_slice() {
+            if given.as_slice() == name {
+                return Err(io::Error::from(io::ErrorKind::AlreadyExists));
+            }
+        }
+        let file = File::create(rt, text(name)?)?;
+        self.given.push(name.to_vec(self.alloc)?)?;
+        Ok(file)
+    }
+}
+
+/// A house over sockets and files: doors that share one listening socket, rests that wake each other, and files. It says on
+/// standard error where it listens, and why a door, a rest or a file couldn't be had.
+#[derive(Drop)]
+pub struct RealHouse<'a, R> {
+    rt: &'a R,
+    sockets: Sockets,
+    names: Names,
+    failed: u64,
+    spoilt: u64,
+}
+
+impl<'a, R> Model for RealHouse<'a, R> {
+    ghost use Rattle.std.specs.Prelude.{None};
+    ghost use Rattle.relay_outside.specs.Houses.{HouseTold};
+
+    ghost Value = { HouseTold };
+
+    ghost view = { λ h. record { faults = h.failed; spoiled = h.spoilt; kept = None; shut = None } };
+}
+
+impl<'a, R: Eprint> RealHouse<'a, R> {
+    /// A house that has given nothing.
+    pub fn new(rt: &'a R, alloc: Global) -> Result<RealHouse<'a, R>, AllocError>
+        ensures { IfOk result (λ h. h ≡ record { faults = 0; spoiled = 0; kept = None; shut = None }) }
+    {
+        let board = Board::new(alloc)?;
+        Ok(RealHouse {
+            rt,
+            sockets: Sockets {
+                alloc,
+                board: Arc::new(alloc, board)?,
+                listening: None,
+                hands: Vec::new(alloc),
+            },
+            names: Names {
+                alloc,
+                given: Vec::new(alloc),
+            },
+            failed: 0,
+            spoilt: 0,
+        })
+    }
+
+    // Says what failed and why.
+    fn say(&self, what: &[u8], error: &io::Error) {
+        match str::from_utf8(what) {
+            Ok(what) => {
+                let _ = eprintln!(self.rt; "relay: {what}: {error}");
+            }
+            Err(_) => {
+                let _ = eprintln!(self.rt; "relay: a name that isn't UTF-8: {error}");
+            }
+        }
+    }
+}
+
+impl<R> House for RealHouse<'_, R>
+where
+    R: Net<Listener = net::TcpListener, Stream = net::TcpStream> + Files<File = File> + Eprint,
+{
+    type Door = RealDoor;
+
+    type Rest = RealRest;
+
+    type File = RealFile;
+
+    ghost told = { λ h. h };
+
+    fn door(&mut self, worker: u32, listen: &[u8], accept: u32) -> Option<RealDoor> {
+        match self.sockets.door(self.rt, worker, listen, accept) {
+            Ok(door) => Some(door),
+            Err(error) => {
+                self.say(listen, &error);
+                self.failed = self.failed.saturating_add(1);
+                None
+            }
+        }
+    }
+
+    fn rest(&mut self, worker: u32) -> Option<RealRest> {
+        match self.sockets.rest(self.rt, worker) {
+            Ok(rest) => Some(rest),
+            Err(error) => {
+                self.say(b"a worker's poll", &error);
+                self.failed = self.failed.saturating_add(1);
+                None
+            }
+        }
+    }
+
+    fn file(&mut self, name: &[u8]) -> Option<RealFile> {
+        match self.names.file(self.rt, name) {
+            Ok(file) => Some(RealFile::new(file)),
+            Err(error) => {
+                self.say(name, &error);
+                self.failed = self.failed.saturating_add(1);
+                None
+            }
+        }
+    }
+
+    fn keep(&mut self, name: &[u8], file: RealFile) -> Result<(), AllocError> {
+        if let Some(error) = file.error() {
+            self.say(name, &error);
+            self.spoilt = self.spoilt.saturating_add(1);
+        }
+        Ok(())
+    }
+
+    fn shut(&mut self, _worker: u32, door: RealDoor) -> Result<(), AllocError> {
+        let _ = &self.names;
+        drop(door);
+        Ok(())
+    }
+}
