@@ -1,0 +1,3 @@
+pub mod Slabs
+pub mod Sounding
+pub mod Turning

@@ -1,0 +1,11 @@
+use Rattle.std.proofs.Common.{[], length, refl, rules}
+use Rattle.std.proofs.lemmas.List.Elements.{All-nil, All-same}
+use Rattle.relay_worker.specs.Benches.{IsFiled}
+use Rattle.relay_worker.proofs.Sounding.{sound_new}
+use Rattle.relay_worker.proofs.worker.Worker.new.Goals as goal
+
+pub invariant_of-result : goal.invariant_of-result
+invariant_of-result g c = (
+  sound_new g.P.StreamPort.fits g.P.StreamPort.rules g.D.Door.told _ _ c.requires.number c.requires.short c.in-Ok.ensures.empty c.in-Ok.ensures.capacity refl refl c.requires.door.given c.requires.door.open_yet,
+  All-same (IsFiled (g.P.StreamPort.fits c.args.port) (length (g.P.StreamPort.rules c.args.port).names)) c.new.result.items [] (search rules) (All-nil (IsFiled (g.P.StreamPort.fits c.args.port) (length (g.P.StreamPort.rules c.args.port).names))),
+)

@@ -1,0 +1,49 @@
+use Rattle.std.proofs.Common.{◌≡◌, ◌∙◌, ap, arith, length, map, refl}
+use Rattle.std.proofs.lemmas.List.Elements.{All-same}
+use Rattle.relay_worker.specs.Benches.{IsFiled}
+use Rattle.relay_worker.specs.Running.{label_of}
+use Rattle.relay_worker.proofs.Sounding.{ahead_trans, keeps_at, kept, records_at, rounds_at}
+use Rattle.relay_worker.proofs.worker.Worker.round.Goals as goal
+
+pub invariant_of-self : goal.invariant_of-self
+invariant_of-self g c =
+    let new = c.record_all.new.recorders in
+    let items = c.self.inside.recorders.items in
+    let a : length new ≡ length items = omega (arith, c.record_all.auto.recorders, ap length c.as_mut_slice.ensures.value) in
+    let y = c.record_all.new.self.port in
+    (c.record_all.ensures.sound, All-same (IsFiled (g.P.StreamPort.fits y) (length (g.P.StreamPort.rules y).names)) _ new (kept c.self.inside.recorders.len new items a c.self.inside.recorders.ok.0) c.record_all.ensures.filed)
+
+pub returns-clause-rounds : goal.returns-clause-rounds
+returns-clause-rounds g c =
+    let new = c.record_all.new.recorders in
+    let items = c.self.inside.recorders.items in
+    let a : length new ≡ length items = omega (arith, c.record_all.auto.recorders, ap length c.as_mut_slice.ensures.value) in
+    rounds_at _ _ _ _ _ _ _ c.args.self.now _ c.round.result c.self.view_is
+    (record {
+      admitted = c.admit.new.self;
+      turned = c.turn_all.new.self;
+      closed = c.close_all.new.self;
+      admits = c.admit.ensures.admits;
+      turns = c.turn_all.ensures.turns;
+      closings = c.close_all.ensures.closes;
+      records = records_at _ c.close_all.new.self c.record_all.new.self c.as_mut_slice.result.now items new _ c.as_mut_slice.ensures.value (kept c.self.inside.recorders.len new items a c.self.inside.recorders.ok.0) c.record_all.ensures.records;
+      terms = refl;
+      answers = c.round.ensures;
+    })
+
+pub returns-clause-keeps : goal.returns-clause-keeps
+returns-clause-keeps g c =
+    let fits = g.P.StreamPort.fits in
+    let rules = g.P.StreamPort.rules in
+    let root = g.P.StreamPort.root in
+    let new = c.record_all.new.recorders in
+    let items = c.self.inside.recorders.items in
+    let a : length new ≡ length items = omega (arith, c.record_all.auto.recorders, ap length c.as_mut_slice.ensures.value) in
+    keeps_at fits rules root _ c.args.self.now _ c.self.view_is
+    (record {
+      terms = refl;
+      port = ahead_trans fits rules root c.self.inside.bench.port c.admit.new.self.port c.record_all.new.self.port c.admit.ensures.ahead
+          (ahead_trans fits rules root c.admit.new.self.port c.turn_all.new.self.port c.record_all.new.self.port c.turn_all.ensures.ahead
+          (ahead_trans fits rules root c.turn_all.new.self.port c.close_all.new.self.port c.record_all.new.self.port c.close_all.ensures.ahead c.record_all.ensures.ahead));
+      labels = ap (map label_of) (kept c.self.inside.recorders.len new items a c.self.inside.recorders.ok.0) ∙ (c.record_all.ensures.labels ∙ ap (map label_of) c.as_mut_slice.ensures.value);
+    })

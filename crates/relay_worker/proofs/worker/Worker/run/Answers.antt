@@ -1,0 +1,30 @@
+use Rattle.std.proofs.Common.{ap, length, subst, sym}
+use Rattle.stream_registry.specs.Names.{PortRules}
+use Rattle.relay_worker.specs.Running.{KeepsOn}
+use Rattle.relay_worker.proofs.Sounding.{has_run, keeps_trans, offered_on}
+use Rattle.relay_worker.proofs.worker.Worker.run.Goals as goal
+
+pub returns-then-round-eq0-clause-keeps : goal.returns-then-round-eq0-clause-keeps
+returns-then-round-eq0-clause-keeps g c = keeps_trans g.P.StreamPort.fits g.P.StreamPort.rules g.P.StreamPort.root c.args.self.now c.loop.self c.round-round.new.self c.loop.invariant.keeps c.round-round.ensures.keeps
+
+pub returns-then-round-eq0-clause-run : goal.returns-then-round-eq0-clause-run
+returns-then-round-eq0-clause-run g c =
+    has_run g.D.Link.Link.told g.D.Link.Link.counts g.D.Door.told _ _ _ g.P.StreamPort.fits g.P.StreamPort.rules c.loop.self c.round-round.new.self c.round-round.result c.round-round.ensures.rounds c.law.ensures.sound c.if-round.true c.if-round-eq0.true
+
+pub loop-preserved : goal.loop-preserved
+loop-preserved g c =
+    let e = c.round-round.ensures.keeps in
+    record {
+      offered = offered_on (g.G.Desk.grants c.args.desk.now) (length (g.P.StreamPort.rules c.loop.self.bench.port).names) (length (g.P.StreamPort.rules c.round-round.new.self.bench.port).names) (ap (λ (r : PortRules). length r.names) e.port.fixed) c.loop.invariant.offered;
+      keeps = keeps_trans g.P.StreamPort.fits g.P.StreamPort.rules g.P.StreamPort.root c.args.self.now c.loop.self c.round-round.new.self c.loop.invariant.keeps e;
+    }
+
+pub loop-preserved-then-not-round : goal.loop-preserved-then-not-round
+loop-preserved-then-not-round g c =
+    let e = c.round-round.ensures.keeps in
+    record {
+      offered = offered_on (g.G.Desk.grants c.args.desk.now) (length (g.P.StreamPort.rules c.round-round.new.self.bench.port).names) (length (g.P.StreamPort.rules c.pause.new.self.bench.port).names) (ap (λ w. length (g.P.StreamPort.rules w.bench.port).names) c.pause.ensures)
+          (offered_on (g.G.Desk.grants c.args.desk.now) (length (g.P.StreamPort.rules c.loop.self.bench.port).names) (length (g.P.StreamPort.rules c.round-round.new.self.bench.port).names) (ap (λ (r : PortRules). length r.names) e.port.fixed) c.loop.invariant.offered);
+      keeps = subst (λ w. KeepsOn g.P.StreamPort.fits g.P.StreamPort.rules g.P.StreamPort.root c.args.self.now w) (sym c.pause.ensures)
+          (keeps_trans g.P.StreamPort.fits g.P.StreamPort.rules g.P.StreamPort.root c.args.self.now c.loop.self c.round-round.new.self c.loop.invariant.keeps e);
+    }

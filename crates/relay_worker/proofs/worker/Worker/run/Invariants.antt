@@ -1,0 +1,10 @@
+use Rattle.relay_session.specs.Places.{IsOffered}
+use Rattle.std.proofs.Common.{length}
+use Rattle.relay_worker.specs.Running.{KeepsOn}
+use Rattle.relay_worker.proofs.worker.Worker.run.Given as goal
+
+abbrev pub invariant-loop : goal.invariant-loop
+invariant-loop g l = record {
+  offered : IsOffered (g.G.Desk.grants l.desk) (length (g.P.StreamPort.rules l.self.bench.port).names);
+  keeps : KeepsOn g.P.StreamPort.fits g.P.StreamPort.rules g.P.StreamPort.root l.fn.self l.self;
+}

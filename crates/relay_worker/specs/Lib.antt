@@ -1,0 +1,6 @@
+pub mod Filed
+pub mod Benches
+pub mod Sessions
+pub mod Rounds
+pub mod Running
+pub mod Books

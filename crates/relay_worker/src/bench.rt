@@ -1,0 +1,391 @@
+//! What a worker has in hand: its port, its door, and its sessions with their links.
+ghost use Rattle.std.specs.Prelude.{◌≡◌, ◌≢◌, length, map, true, None, is_some};
+ghost use Rattle.relay_session.specs.Onward.{GoesOn};
+ghost use Rattle.relay_session.specs.Places.{Asked, IsAt, IsOffered};
+ghost use Rattle.relay_session.specs.SeatState.{HasFit};
+ghost use Rattle.relay_session.specs.SessionState.{ended_by};
+ghost use Rattle.relay_worker.specs.Benches.{AreFiled, IsFiled, IsSound};
+ghost use Rattle.relay_worker.specs.Filed.{TakesTurn as FileTurn};
+ghost use Rattle.relay_worker.specs.Rounds.{AdmitsIf, ClosesAt, HandsBack, Recorded, RecordsAt, TurnsAt, Walks, WalksAll, answered, asks_door, has_left, is_starved, is_written, starves};
+ghost use Rattle.relay_worker.specs.Running.{GoesAhead, label_of};
+ghost use Rattle.relay_worker.specs.Sessions.{Closes, TakesTurn, is_moved, is_spent, lacks_memory};
+
+use crate::recorder::Recorder;
+use crate::round::Round;
+use media_recorder::{RecEnd, RecTurn};
+use relay_base::Limits;
+use relay_outside::{Door, Knock, Link, Rest, Sink};
+use relay_session::{Desk, End, Leaving, Session, Turn};
+use slab::Slab;
+use std::alloc::Global;
+use stream_registry::StreamPort;
+
+/// The number of a worker, how many links it has at most at a time, and the limits of its sessions.
+#[derive(Clone, Copy, Debug, PartialEq, Eq)]
+pub struct Terms {
+    pub number: u32,
+    pub links: u32,
+    pub limits: Limits,
+}
+
+/// A session with its link. `over` says that it has ended.
+#[derive(Drop)]
+pub struct Seated<P: StreamPort, L: Link> {
+    pub session: Session<P>,
+    pub link: L,
+    pub over: bool,
+}
+
+impl<P: StreamPort, L: Link> Seated<P, L> {
+    // One turn of a session that lives.
+    fn turn<G: Desk>(&mut self, alloc: Global, port: &mut P, desk: &G) -> Turn
+        requires living { self.old.session.ended ≡ None }
+        requires at { IsAt (P.fits port.old) (length (P.rules port.old).names) self.old.session.parts self.old.session.seat }
+        requires offered { IsOffered (G.grants desk.now) (length (P.rules port.old).names) }
+        ensures at { IsAt (P.fits port.new) (length (P.rules port.new).names) self.new.session.parts self.new.session.seat }
+        ensures over { self.new.over ≡ is_some self.new.session.ended }
+        ensures ahead { GoesAhead P.fits P.rules P.root port.old port.new }
+        ensures turn { TakesTurn (Asked P.fits P.rules P.root P.seen P.count P.wants P.busies) (GoesOn P.fits P.rules P.root P.seen P.busies)
+            (G.grants desk.now) L.hears L.says port.old self.old result port.new self.new }
+    {
+        let answer = self.session.turn(alloc, port, &mut self.link, desk);
+        self.over = is_over(answer);
+        answer
+    }
+
+    // One close of a session that has ended.
+    fn close(&mut self, port: &mut P) -> Leaving
+        requires fit { HasFit (P.fits port.old) self.old.session.seat.spot }
+        requires over { self.old.session.ended ≢ None }
+        ensures link { self.new ≡ record self.old { session = self.new.session } }
+        ensures over { is_some self.new.session.ended ≡ true }
+        ensures who { self.new.session.parts.who ≡ self.old.session.parts.who }
+        ensures ahead { GoesAhead P.fits P.rules P.root port.old port.new }
+        ensures closes { Closes P.fits P.rules P.root P.seen P.count P.wants P.busies port.old self.old.session result port.new self.new.session }
+    {
+        self.session.close(port)
+    }
+}
+
+// Whether the session has left its stream.
+fn has_left(answer: Leaving) -> bool
+    ensures { result ≡ has_left answer }
+{
+    match answer {
+        Leaving::Done => true,
+        Leaving::Worn => true,
+        Leaving::Busy => false,
+        Leaving::OutOfMemory => false,
+    }
+}
+
+// Whether the session has ended.
+fn is_over(answer: Turn) -> bool
+    ensures { result ≡ is_some (ended_by answer) }
+{
+    match answer {
+        Turn::Moved => false,
+        Turn::Idle => false,
+        Turn::Ended(_) => true,
+    }
+}
+
+// Whether the turn moved something.
+fn is_moved(answer: Turn) -> bool
+    ensures { result ≡ is_moved answer }
+{
+    match answer {
+        Turn::Moved => true,
+        Turn::Idle => false,
+        Turn::Ended(_) => false,
+    }
+}
+
+// Whether the session has ended for want of memory.
+fn is_spent(answer: Turn) -> bool
+    ensures { result ≡ is_spent answer }
+{
+    match answer {
+        Turn::Moved => false,
+        Turn::Idle => false,
+        Turn::Ended(end) => lacks_memory(end),
+    }
+}
+
+// Whether the recorder moved something.
+fn is_written(answer: RecTurn) -> bool
+    ensures { result ≡ is_written answer }
+{
+    match answer {
+        RecTurn::Moved => true,
+        RecTurn::Idle => false,
+        RecTurn::Busy => false,
+        RecTurn::Ended(_) => false,
+    }
+}
+
+// Whether the recorder has ended for want of memory.
+fn is_starved(answer: RecTurn) -> bool
+    ensures { result ≡ is_starved answer }
+{
+    match answer {
+        RecTurn::Moved => false,
+        RecTurn::Idle => false,
+        RecTurn::Busy => false,
+        RecTurn::Ended(end) => starves(end),
+    }
+}
+
+// Tells the others that something moved.
+fn wake<R: Rest>(rest: &mut R, moved: bool) {
+    if moved {
+        rest.moved();
+    }
+}
+
+/// The port of a worker, its door and its sessions, each under a key. `had` is how many links it has had, and `closed` says
+/// that the door has closed. `refused` says that a link was dropped, or that a session or recorder has ended, for want of
+/// memory. `moved` and `dropped` speak of this round: something moved, or a link was dropped.
+#[derive(Drop)]
+pub struct Bench<P: StreamPort, D: Door> {
+    pub port: P,
+    pub door: D,
+    pub sessions: Slab<Seated<P, D::Link>>,
+    pub had: u64,
+    pub closed: bool,
+    pub refused: bool,
+    pub moved: bool,
+    pub dropped: bool,
+}
+
+// The most links of a worker.
+const MOST: u64 = 1 << 40;
+
+impl<P: StreamPort, D: Door> Bench<P, D> {
+    // A link more, if a place is free and one comes.
+    pub(crate) fn admit(&mut self, alloc: Global, terms: &Terms)
+        requires sound { IsSound P.fits P.rules D.told terms.now self.old }
+        ensures sound { IsSound P.fits P.rules D.told terms.now self.new }
+        ensures ahead { GoesAhead P.fits P.rules P.root self.old.port self.new.port }
+        ensures admits { AdmitsIf D.Link.told D.Link.counts D.told terms.now (asks_door terms.now self.old) self.old self.new }
+    {
+        if self.sessions.len() >= terms.links as usize {
+            return;
+        }
+        if self.had >= MOST {
+            return;
+        }
+        match self.door.next() {
+            Knock::Link(link) => {
+                let who = u64::from(terms.number) * MOST + self.had;
+                let session = Session::new(alloc, who, terms.limits);
+                self.sessions.insert_reserved(Seated {
+                    session,
+                    link,
+                    over: false,
+                });
+                self.had += 1;
+                self.moved = true;
+            }
+            Knock::NotYet => {}
+            Knock::Closed => {
+                self.closed = true;
+            }
+            Knock::Failed => {}
+        }
+    }
+
+    // The session at this key takes a turn, if it lives.
+    fn turn_at<R: Rest, G: Desk>(
+        &mut self,
+        alloc: Global,
+        rest: &mut R,
+        desk: &G,
+        terms: &Terms,
+        key: usize,
+    )
+        requires sound { IsSound P.fits P.rules D.told terms.now self.old }
+        requires offered { IsOffered (G.grants desk.now) (length (P.rules self.old.port).names) }
+        ensures sound { IsSound P.fits P.rules D.told terms.now self.new }
+        ensures ahead { GoesAhead P.fits P.rules P.root self.old.port self.new.port }
+        ensures turns { TurnsAt (TakesTurn (Asked P.fits P.rules P.root P.seen P.count P.wants P.busies) (GoesOn P.fits P.rules P.root P.seen P.busies)
+            (G.grants desk.now) D.Link.hears D.Link.says) key self.old self.new }
+    {
+        let _ = terms;
+        let Some(seated) = self.sessions.get(key) else {
+            return;
+        };
+        if seated.over {
+            return;
+        }
+        let Some(seated) = self.sessions.get_mut(key) else {
+            return;
+        };
+        let answer = seated.turn(alloc, &mut self.port, desk);
+        self.moved |= is_moved(answer);
+        self.refused |= is_spent(answer);
+        wake(rest, is_moved(answer));
+    }
+
+    // The session at this key is closed, if it has ended, and its link is handed back.
+    fn close_at(&mut self, terms: &Terms, key: usize)
+        requires sound { IsSound P.fits P.rules D.told terms.now self.old }
+        ensures sound { IsSound P.fits P.rules D.told terms.now self.new }
+        ensures ahead { GoesAhead P.fits P.rules P.root self.old.port self.new.port }
+        ensures closes { ClosesAt D.Link.told D.Link.counts D.told (Closes P.fits P.rules P.root P.seen P.count P.wants P.busies) key self.old self.new }
+    {
+        let Some(seated) = self.sessions.get(key) else {
+            return;
+        };
+        if !seated.over {
+            return;
+        }
+        let Some(mut seated) = self.sessions.try_remove(key) else {
+            return;
+        };
+        let answer = seated.close(&mut self.port);
+        if has_left(answer) {
+            self.hand_back(seated);
+            return;
+        }
+        self.sessions.insert_reserved(seated);
+    }
+
+    // A session has left, and its link goes back to the door.
+    fn hand_back(&mut self, seated: Seated<P, D::Link>)
+        ensures back { HandsBack D.Link.told D.Link.counts D.told seated.link self.old self.new }
+        ensures port { self.new.port ≡ self.old.port }
+        ensures sessions { self.new.sessions ≡ self.old.sessions }
+    {
+        let Seated {
+            session,
+            link,
+            over: _,
+        } = seated;
+        drop(session);
+        self.moved = true;
+        if self.door.back(link).is_err() {
+            self.refused = true;
+            self.dropped = true;
+        }
+    }
+
+    // One turn of each session, in the order of the keys.
+    pub(crate) fn turn_all<R: Rest, G: Desk>(
+        &mut self,
+        alloc: Global,
+        rest: &mut R,
+        desk: &G,
+        terms: &Terms,
+    )
+        requires sound { IsSound P.fits P.rules D.told terms.now self.old }
+        requires offered { IsOffered (G.grants desk.now) (length (P.rules self.old.port).names) }
+        ensures sound { IsSound P.fits P.rules D.told terms.now self.new }
+        ensures ahead { GoesAhead P.fits P.rules P.root self.old.port self.new.port }
+        ensures turns { WalksAll (TurnsAt (TakesTurn (Asked P.fits P.rules P.root P.seen P.count P.wants P.busies) (GoesOn P.fits P.rules P.root P.seen P.busies)
+            (G.grants desk.now) D.Link.hears D.Link.says)) self.old self.new }
+    {
+        for key in 0..self.sessions.capacity() {
+            self.turn_at(alloc, rest, desk, terms, key);
+        }
+    }
+
+    // One close of each session that has ended, in the order of the keys.
+    pub(crate) fn close_all(&mut self, terms: &Terms)
+        requires sound { IsSound P.fits P.rules D.told terms.now self.old }
+        ensures sound { IsSound P.fits P.rules D.told terms.now self.new }
+        ensures ahead { GoesAhead P.fits P.rules P.root self.old.port self.new.port }
+        ensures closes { WalksAll (ClosesAt D.Link.told D.Link.counts D.told (Closes P.fits P.rules P.root P.seen P.count P.wants P.busies)) self.old self.new }
+    {
+        for key in 0..self.sessions.capacity() {
+            self.close_at(terms, key);
+        }
+    }
+
+    // The recorder takes a turn.
+    fn record<R: Rest, K: Sink>(
+        &mut self,
+        rest: &mut R,
+        recorder: &mut Recorder<P, K>,
+        terms: &Terms,
+    )
+        requires sound { IsSound P.fits P.rules D.told terms.now self.old }
+        requires filed { IsFiled (P.fits self.old.port) (length (P.rules self.old.port).names) recorder.old }
+        ensures sound { IsSound P.fits P.rules D.told terms.now self.new }
+        ensures ahead { GoesAhead P.fits P.rules P.root self.old.port self.new.port }
+        ensures filed { IsFiled (P.fits self.new.port) (length (P.rules self.new.port).names) recorder.new }
+        ensures records { Recorded (FileTurn P.fits P.rules P.root P.busies P.seen P.mine P.count K.takes K.holds) recorder.old self.old recorder.new self.new }
+    {
+        let _ = terms;
+        let answer = recorder.turn(&mut self.port);
+        self.moved |= is_written(answer);
+        self.refused |= is_starved(answer);
+        wake(rest, is_written(answer));
+    }
+
+    // One turn of each recorder, in order.
+    pub(crate) fn record_all<R: Rest, K: Sink>(
+        &mut self,
+        rest: &mut R,
+        recorders: &mut [Recorder<P, K>],
+        terms: &Terms,
+    )
+        requires sound { IsSound P.fits P.rules D.told terms.now self.old }
+        requires filed { AreFiled P.fits P.rules self.old.port recorders.old }
+        ensures sound { IsSound P.fits P.rules D.told terms.now self.new }
+        ensures ahead { GoesAhead P.fits P.rules P.root self.old.port self.new.port }
+        ensures filed { AreFiled P.fits P.rules self.new.port recorders.new }
+        ensures labels { map label_of recorders.new ≡ map label_of recorders.old }
+        ensures records { Walks (RecordsAt (FileTurn P.fits P.rules P.root P.busies P.seen P.mine P.count K.takes K.holds)) (length recorders.old)
+            (self.old, recorders.old) (self.new, recorders.new) }
+    {
+        for recorder in recorders.iter_mut() {
+            self.record(rest, recorder, terms);
+        }
+    }
+
+    // What this round did.
+    pub(crate) fn round(&self, terms: &Terms) -> Round
+        requires { IsSound P.fits P.rules D.told terms.now self.now }
+        ensures { result ≡ answered D.told self.now }
+    {
+        let links = terms.links;
+        let _ = links;
+        Round {
+            moved: self.moved,
+            live: self.sessions.len() as u32,
+            closed: self.closed || self.had >= MOST,
+            refused: self.dropped,
+        }
+    }
+}
+
+// Whether a session that ended so lacked memory.
+fn lacks_memory(end: End) -> bool
+    ensures { result ≡ lacks_memory end }
+{
+    match end {
+        End::PeerClosed => false,
+        End::LinkFault => false,
+        End::BadVersion { .. } => false,
+        End::BadChunk { .. } => false,
+        End::BadControl { .. } => false,
+        End::BadCommand { .. } => false,
+        End::TooManyStreams { .. } => false,
+        End::Quit => false,
+        End::Worn => false,
+        End::OutOfMemory => true,
+    }
+}
+
+// Whether a recorder that ended so lacked memory.
+fn starves(end: RecEnd) -> bool
+    ensures { result ≡ starves end }
+{
+    match end {
+        RecEnd::SinkFault => false,
+        RecEnd::Full => false,
+        RecEnd::Worn => false,
+        RecEnd::OutOfMemory => true,
+    }
+}

@@ -1,0 +1,13 @@
+//! Workers of the relay: each has a port to the streams, a door, its sessions with their links, and recorders with their
+//! files, and takes rounds of turns.
+#![tactic(auto)]
+
+mod bench;
+mod recorder;
+mod round;
+mod worker;
+
+pub use bench::{Bench, Seated, Terms};
+pub use recorder::{Parted, Recorder};
+pub use round::Round;
+pub use worker::{Finished, Worker};

@@ -1,0 +1,87 @@
+//! A recorder with its file.
+ghost use Rattle.std.specs.Prelude.{◌≡◌, ◌≢◌, ◌<◌, ◌++◌, length, Some};
+ghost use Rattle.turn_gate.specs.Histories.{Begins};
+ghost use Rattle.media_recorder.specs.Ports.{FitsIf, Serves};
+ghost use Rattle.media_recorder.specs.Says.{Says};
+ghost use Rattle.media_recorder.specs.Seats.{StandIf};
+ghost use Rattle.media_recorder.specs.Taken.{taken};
+ghost use Rattle.media_recorder.specs.Turns.{Turns};
+ghost use Rattle.relay_worker.specs.Filed.{Leaves, form_of, sink_of, state_of, text_of};
+
+use media_recorder::{FlvRecorder, Leaving, RecEnd, RecTurn};
+use relay_outside::Sink;
+use stream_registry::StreamPort;
+
+/// A recorder with the file that it writes.
+#[derive(Drop)]
+pub enum Recorder<P: StreamPort, K: Sink> {
+    /// It writes FLV.
+    Flv(FlvRecorder<P>, K),
+}
+
+/// What became of a recorder that was to leave.
+#[derive(Drop)]
+pub enum Parted<P: StreamPort, K: Sink> {
+    /// It has left, and this is its file.
+    Done(K),
+    /// The port was busy. The recorder comes back.
+    Busy(Recorder<P, K>),
+    /// There was no memory for the call. The recorder comes back.
+    OutOfMemory(Recorder<P, K>),
+}
+
+impl<P: StreamPort, K: Sink> Recorder<P, K> {
+    /// What the file took and what is pending are the text of the items that the recorder's Takes were sent, or a beginning
+    /// of it where there was no memory. Its calls stand in the stream's history.
+    pub fn law(&self)
+        ensures whole { (state_of self.now).end ≢ Some RecEnd.OutOfMemory
+            → (state_of self.now).tape.sent ++ (state_of self.now).tape.pending ≡ text_of self.now (taken (state_of self.now).seat.calls) }
+        ensures prefix { Begins ((state_of self.now).tape.sent ++ (state_of self.now).tape.pending) (text_of self.now (taken (state_of self.now).seat.calls)) }
+        ensures calls { StandIf P.limits P.seen P.mine (state_of self.now).seat.who (state_of self.now).seat.pass (state_of self.now).seat.calls }
+    {
+        match self {
+            Recorder::Flv(recorder, _) => {
+                recorder.law();
+                recorder.flv_law();
+            }
+        }
+    }
+
+    /// One turn: a put of all that is pending, else a call. That is its Join where it hasn't joined, else one Take.
+    pub fn turn(&mut self, port: &mut P) -> RecTurn
+        requires place { (state_of self.old).seat.place < length (P.rules port.old).names }
+        requires fits { FitsIf (P.fits port.old (state_of self.old).seat.place) (state_of self.old).seat.pass }
+        ensures fits { FitsIf (P.fits port.new (state_of self.new).seat.place) (state_of self.new).seat.pass }
+        ensures who { (state_of self.new).seat.who ≡ (state_of self.old).seat.who }
+        ensures place { (state_of self.new).seat.place ≡ (state_of self.old).seat.place }
+        ensures form { form_of self.new ≡ form_of self.old }
+        ensures port { Serves P.rules P.root P.busies P.fits (state_of self.old).seat.place port.old port.new }
+        ensures turn { Turns P.rules P.root P.busies P.seen P.mine P.count K.takes (state_of self.old).end port.old port.new
+            (sink_of self.old) (sink_of self.new) (state_of self.old) result (state_of self.new) }
+        ensures took { K.holds (sink_of self.old) ≡ Some (state_of self.old).tape.sent → K.holds (sink_of self.new) ≡ Some (state_of self.new).tape.sent }
+        ensures says { Says P.mine (P.root port.old (state_of self.old).seat.place) (P.busies port.old) (P.busies port.new) result (state_of self.new) }
+    {
+        match self {
+            Recorder::Flv(recorder, sink) => recorder.turn(port, sink),
+        }
+    }
+
+    /// Makes its Leave, if it has joined, and detaches its pass. Where the port is busy or has no memory for the call, the
+    /// recorder comes back, as it was. Where the history is full, no call is made any more.
+    pub fn leave(self, port: &mut P) -> Parted<P, K>
+        requires place { (state_of self).seat.place < length (P.rules port.old).names }
+        requires fits { FitsIf (P.fits port.old (state_of self).seat.place) (state_of self).seat.pass }
+        ensures port { Serves P.rules P.root P.busies P.fits (state_of self).seat.place port.old port.new }
+        ensures leaves { Leaves P.rules P.root P.busies P.seen P.mine P.count port.old port.new self result }
+    {
+        match self {
+            Recorder::Flv(recorder, sink) => match recorder.leave(port) {
+                Leaving::Done => Parted::Done(sink),
+                Leaving::Busy(recorder) => Parted::Busy(Recorder::Flv(recorder, sink)),
+                Leaving::OutOfMemory(recorder) => Parted::OutOfMemory(Recorder::Flv(
+                    recorder, sink,
+                )),
+            },
+        }
+    }
+}

@@ -1,0 +1,209 @@
+//! A worker.
+ghost use Rattle.std.specs.Prelude.{◌≡◌, ◌≤◌, ◌<◌, ◌^◌, [], ◌∷◌, ◌++◌, ℕ, length, false, IfOk, OnOk, OnErr};
+ghost use Rattle.command_dialog.specs.declared.types.Ask.{Ask};
+ghost use Rattle.slab.specs.Slab.{slab_len};
+ghost use Rattle.relay_outside.specs.Doors.{IsNewDoor};
+ghost use Rattle.relay_session.specs.Onward.{GoesOn};
+ghost use Rattle.relay_session.specs.Places.{Asked, IsOffered};
+ghost use Rattle.relay_worker.specs.Benches.{AreFiled, IsFiled, IsSound};
+ghost use Rattle.relay_worker.specs.Filed.{TakesTurn as FileTurn};
+ghost use Rattle.relay_worker.specs.Rounds.{Rounds};
+ghost use Rattle.relay_worker.specs.Running.{HasRun, KeepsOn};
+ghost use Rattle.relay_worker.specs.Sessions.{Closes, TakesTurn};
+
+use crate::bench::{Bench, Terms};
+use crate::recorder::Recorder;
+use crate::round::Round;
+use av_unit::OutOfMemory;
+use relay_base::Limits;
+use relay_outside::{Door, Rest, Sink};
+use relay_session::Desk;
+use slab::Slab;
+use std::alloc::Global;
+use std::marker::Model;
+use std::sync::Wait;
+use stream_registry::StreamPort;
+
+/// One thread of the relay: it takes links from its door, gives each session of them its turns, and hands the links back.
+/// It gives its recorders their turns too.
+#[derive(Drop)]
+pub struct Worker<P: StreamPort, D: Door, R: Rest, K: Sink> {
+    alloc: Global,
+    terms: Terms,
+    bench: Bench<P, D>,
+    rest: R,
+    recorders: Vec<Recorder<P, K>>,
+}
+
+impl<P: StreamPort, D: Door, R: Rest, K: Sink> Model for Worker<P, D, R, K> {
+    ghost use Rattle.relay_worker.specs.Benches.{AreFiled, IsSound, WorkerState};
+
+    ghost Value = { WorkerState P D K P.Pass D.Link };
+
+    ghost view = { λ w. record { terms = w.terms; bench = w.bench; recorders = w.recorders.items } };
+
+    ghost invariant = { λ w. IsSound P.fits P.rules D.told w.terms w.bench × AreFiled P.fits P.rules w.bench.port w.recorders.items };
+}
+
+/// What is left of a worker: its port, its door, its recorders, and whether a link was dropped, or a session or recorder has
+/// ended, for want of memory.
+#[derive(Drop)]
+pub struct Finished<P: StreamPort, D: Door, K: Sink> {
+    pub port: P,
+    pub door: D,
+    pub recorders: Vec<Recorder<P, K>>,
+    pub refused: bool,
+}
+
+impl<P: StreamPort, D: Door, R: Rest, K: Sink> Worker<P, D, R, K> {
+    /// A worker of this number, which is below 2^20, with at most so many links at a time, whose sessions have these limits.
+    /// All link places are taken now, and no link needs memory when it comes. The door is a new one.
+    pub fn new(
+        alloc: Global,
+        number: u32,
+        links: u32,
+        limits: Limits,
+        port: P,
+        door: D,
+        rest: R,
+    ) -> Result<Worker<P, D, R, K>, OutOfMemory>
+        requires number { number < 2 ^ 20 }
+        requires short { limits.max_message ≤ 4194304 }
+        requires door { IsNewDoor (D.told door) }
+        ensures terms { IfOk result (λ w. w.terms ≡ record { number = number; links = links; limits = limits }) }
+        ensures port { IfOk result (λ w. w.bench.port ≡ port) }
+        ensures door { IfOk result (λ w. w.bench.door ≡ door) }
+        ensures none { IfOk result (λ w. (slab_len w.bench.sessions ≡ 0) × (w.recorders ≡ [])) }
+        ensures whole { IfOk result (λ w. w.bench.refused ≡ false) }
+    {
+        let Ok(sessions) = Slab::with_capacity(alloc, links as usize) else {
+            return Err(OutOfMemory);
+        };
+        Ok(Worker {
+            alloc,
+            terms: Terms {
+                number,
+                links,
+                limits,
+            },
+            bench: Bench {
+                port,
+                door,
+                sessions,
+                had: 0,
+                closed: false,
+                refused: false,
+                moved: false,
+                dropped: false,
+            },
+            rest,
+            recorders: Vec::new(alloc),
+        })
+    }
+
+    /// What it keeps: at most so many sessions, each with a name of its own, and all of them and the recorders fit its port.
+    pub fn law(&self)
+        ensures sound { IsSound P.fits P.rules D.told self.now.terms self.now.bench }
+        ensures filed { AreFiled P.fits P.rules self.now.bench.port self.now.recorders }
+    {
+        let _ = &self.bench;
+    }
+
+    /// One recorder more. Its place is there, and a pass that it has was attached to the worker's port or to one made with
+    /// it. A refusal drops this recorder, and changes nothing else.
+    pub fn enlist(&mut self, recorder: Recorder<P, K>) -> Result<(), OutOfMemory>
+        requires { IsFiled (P.fits self.old.bench.port) (length (P.rules self.old.bench.port).names) recorder }
+        ensures enlisted { OnOk result (self.new ≡ record self.old { recorders = self.old.recorders ++ recorder ∷ [] }) }
+        ensures refused { OnErr result (self.new ≡ self.old) }
+    {
+        let _ = &self.bench;
+        if self.recorders.push(recorder).is_err() {
+            return Err(OutOfMemory);
+        }
+        Ok(())
+    }
+
+    // Waits until there is something to do.
+    fn pause(&mut self)
+        ensures { self.new ≡ self.old }
+    {
+        self.rest.pause();
+    }
+
+    /// One round: the door is asked for a link where a place is free, each session takes one turn, each that has ended is
+    /// closed, and each recorder takes one turn. Each desk that is handed in is to be the same.
+    pub fn round<G: Desk>(&mut self, desk: &G) -> Round
+        requires offered { IsOffered (G.grants desk.now) (length (P.rules self.old.bench.port).names) }
+        ensures rounds { Rounds D.Link.told D.Link.counts D.told
+            (TakesTurn (Asked P.fits P.rules P.root P.seen P.count P.wants P.busies) (GoesOn P.fits P.rules P.root P.seen P.busies)
+            (G.grants desk.now) D.Link.hears D.Link.says)
+            (Closes P.fits P.rules P.root P.seen P.count P.wants P.busies)
+            (FileTurn P.fits P.rules P.root P.busies P.seen P.mine P.count K.takes K.holds) self.old result self.new }
+        ensures keeps { KeepsOn P.fits P.rules P.root self.old self.new }
+    {
+        self.bench.moved = false;
+        self.bench.dropped = false;
+        self.bench.admit(self.alloc, &self.terms);
+        self.bench
+            .turn_all(self.alloc, &mut self.rest, desk, &self.terms);
+        self.bench.close_all(&self.terms);
+        self.bench
+            .record_all(&mut self.rest, self.recorders.as_mut_slice(), &self.terms);
+        self.bench.round(&self.terms)
+    }
+
+    /// Rounds until the door has closed and no session lives, with a pause after each round in which nothing moved.
+    pub fn run<W: Wait, G: Desk>(&mut self, rt: &W, desk: &G)
+        requires offered { IsOffered (G.grants desk.now) (length (P.rules self.old.bench.port).names) }
+        ensures keeps { KeepsOn P.fits P.rules P.root self.old self.new }
+        ensures run { HasRun D.told self.new }
+    {
+        for _ in rt.forever() {
+            let round = self.round(desk);
+            if round.closed && round.live == 0 {
+                self.law();
+                return;
+            }
+            if !round.moved {
+                self.pause();
+            }
+        }
+        unreachable!()
+    }
+
+    /// Takes a worker apart of whose sessions none lives.
+    pub fn finish(self) -> Finished<P, D, K>
+        requires { slab_len self.bench.sessions ≡ 0 }
+        ensures port { result.port ≡ self.bench.port }
+        ensures door { result.door ≡ self.bench.door }
+        ensures recorders { result.recorders.items ≡ self.recorders }
+        ensures filed { AreFiled P.fits P.rules result.port result.recorders.items }
+        ensures refused { result.refused ≡ self.bench.refused }
+    {
+        let Worker {
+            alloc: _,
+            terms: _,
+            bench,
+            rest,
+            recorders,
+        } = self;
+        drop(rest);
+        let Bench {
+            port,
+            door,
+            sessions,
+            had: _,
+            closed: _,
+            refused,
+            moved: _,
+            dropped: _,
+        } = bench;
+        drop(sessions);
+        Finished {
+            port,
+            door,
+            recorders,
+            refused,
+        }
+    }
+}
