@@ -96,6 +96,7 @@ impl Talk {
         ensures makes { IfOk result (λ acts. acts.makes ≡ (one (now_in self.old) (met message grant)).makes) }
         ensures past { IfOk result (λ _. self.new ≡ talked self.old (met message grant)) }
         ensures err { OnErr result (self.new ≡ self.old) }
+        ensures memory { OnErr result (result ≡ Err DialogFail.OutOfMemory) }
     {
         let seen = Snapshot::of(&message);
         let acts = self.dialog.step(alloc, message, meant, grant)?;
@@ -108,6 +109,7 @@ impl Talk {
         ensures says { IfOk result (λ list. list ≡ (one (now_in self.old) (an_answer reply.now)).says) }
         ensures past { IfOk result (λ _. self.new ≡ talked self.old (an_answer reply.now)) }
         ensures err { OnErr result (self.new ≡ self.old) }
+        ensures memory { OnErr result (result ≡ Err DialogFail.OutOfMemory) }
     {
         let says = self.dialog.answered(alloc, reply)?;
         self.past.add(&met_reply(reply));
