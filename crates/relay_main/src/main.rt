@@ -5,8 +5,10 @@ mod adapters;
 mod texts;
 
 use adapters::{Reading, Writing};
+use key_guard::{Guard, Guards, Mode, by_digest, by_name};
 use relay_base::Status;
 use relay_program::{Command, command_of, run};
+use std::alloc::{AllocError, Global};
 use std::process::ExitCode;
 use std::{env, io};
 use texts::{HELP, USAGE, VERSION};
@@ -75,11 +77,21 @@ fn tell_refusal(rt: &HostRuntime, words: &[Vec<u8>], place: u64) {
     };
 }
 
+// What judges keys.
+fn guards(alloc: Global) -> Result<Guards, AllocError> {
+    let plain = Guard::new(Mode::Plain, Box::new(alloc, by_name)?);
+    let digest = Guard::new(Mode::Digest, Box::new(alloc, by_digest)?);
+    Ok(Guards::new(plain, digest))
+}
+
 // Runs the command that the words name, and says why it didn't do all of it.
 fn command(rt: &HostRuntime, words: &[Vec<u8>]) -> Status {
+    let Ok(guards) = guards(rt.alloc()) else {
+        return status(NO_MEMORY);
+    };
     let mut input = Reading::new(rt.reader());
     let mut out = Writing::new(io::writer(rt));
-    let ended = run(rt.alloc(), words, &mut input, &mut out);
+    let ended = run(rt.alloc(), words, &guards, &mut input, &mut out);
     let place = ended.place;
     match ended.code {
         READ_FAULT => tell_fault(rt, "standard input", input.error()),

@@ -3,6 +3,7 @@
 pub const VERSION: &str = "relay 0.1.0\n";
 
 pub const USAGE: &str = "usage: relay drill < SCRIPT
+       relay replay < SCRIPT
        relay remux < FLV > TS
        relay check < TS
        relay --help
@@ -12,6 +13,7 @@ pub const USAGE: &str = "usage: relay drill < SCRIPT
 pub const HELP: &str = "relay: a live video relay, whose rules are proved
 
 usage: relay drill < SCRIPT
+       relay replay < SCRIPT
        relay remux < FLV > TS
        relay check < TS
        relay --help
@@ -70,6 +72,57 @@ and at most 65536 for meta, vconfig and aconfig. BYTES is at most 268435456,
 ITEMS 1 to 65536, and PLAYERS 1 to 256. An item costs its bytes and 64 more. A
 line has at most 65536 bytes, and a script at most 268435456.
 
+relay replay reads a script of connections on standard input, and prints at its
+end what each was sent and how it ended. Sessions, recorders and streams are
+numbered from 0, in the order of their lines.
+
+  limits M R N P W
+      A message has at most M bytes. The window of a stream has at most R bytes
+      and N items, and each stream has P places for players. A peer is asked to
+      acknowledge every W bytes. It is the first line that does something;
+      without it they are 4194304, 33554432, 16384, 256 and 2500000.
+  stream APP NAME
+      A stream, of which everybody may publish and play.
+  guard S ROLE MODE KEY
+      Only who has a key may be the publisher (ROLE publish) or a player (play)
+      of stream S; KEY is one more. MODE is plain, or digest where KEY is the
+      64 digits of the key's SHA-256. A stream has one mode.
+  record S flv
+      A recorder of stream S, which writes FLV.
+  open
+      A session. There are at most 64, and 64 streams.
+  in S HEX
+      Session S is given the bytes that the digits HEX name.
+  eof S
+      The link of session S ends after what it was given.
+  room S N, room S all
+      Session S may still send N bytes, or all.
+  failrecv S, failsend S, failput R
+      The next receive or send of session S fails, or the next put of recorder R.
+  turn S K, rec R K
+      K turns of session S, or of recorder R.
+  all K
+      K rounds: a turn of each session, then of each recorder.
+  quit S
+      Session S is told to end.
+
+The first four stand before all others. One that has ended does nothing more.
+APP and NAME are 1 to 64 letters, digits, '.', '_' or '-'. K is 1 to 1000000. It
+prints, with digits for bytes and - for none:
+
+  session S sent HEX
+  session S end E
+      E is none, peerclosed, linkfault, badversion AT, badchunk CAUSE AT,
+      badcontrol AT, badcommand AT, toomanystreams AT, quit or worn. AT is the
+      place in what the session was given, from 0.
+  recorder R file HEX
+  recorder R end E
+      E is none, sinkfault, full or worn.
+  stream S held BYTES
+      as drill's held
+  held TOTAL sum SUM
+      What all hold together, and the most that they may.
+
 relay remux reads a file of FLV on standard input and writes it as a transport
 stream on standard output: its AVC as access units, its AAC in ADTS frames.
 Units of other codecs, units that can't be read and units without a
@@ -90,7 +143,7 @@ Exit status:
   3  standard input failed
   4  a line of the script is none of the above, or may not stand there; or the
      file is none, or none any more from a byte on. What the lines or the units
-     before give is written
+     before give is written, but by replay nothing
   5  standard output failed
   6  there was too little memory
   8  the file was read to its end, and a unit of sound or pictures was left out

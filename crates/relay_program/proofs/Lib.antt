@@ -8,3 +8,5 @@ pub mod Fails
 pub mod Whole
 pub mod Words
 pub mod Outcomes
+pub mod ReplaySteps
+pub mod ReplayEnds

@@ -2,13 +2,14 @@
 use Rattle.std.specs.Prelude.{ℕ, List, None, Some, if◌then◌else◌}
 use Rattle.std.specs.declared.option.Option.{Option}
 use Rattle.relay_program.specs.declared.runs.Command.{Command}
-use Rattle.relay_program.specs.declared.runs.Command.TheVariants.{Drill, Remux, Check}
+use Rattle.relay_program.specs.declared.runs.Command.TheVariants.{Drill, Replay, Remux, Check}
 use Rattle.file_commands.specs.Words.{is_check, is_remux}
-use Rattle.relay_program.specs.Words.{is_drill}
+use Rattle.relay_program.specs.Words.{is_drill, is_replay}
 
 abbrev pub command_of : List (List ℕ) → Option Command
 command_of words =
     if is_drill words then Some Drill
+    else (if is_replay words then Some Replay
     else (if is_remux words then Some Remux
     else (if is_check words then Some Check
-    else None))
+    else None)))

@@ -4,3 +4,6 @@ pub mod Parts
 pub mod Ends
 pub mod Words
 pub mod Commands
+pub mod Replay
+pub mod Replayed
+pub mod ReplayParts

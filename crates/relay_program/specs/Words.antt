@@ -11,3 +11,7 @@ only_word_is (word ∷ other ∷ words) text = false
 -- the words that ask for a drill: `drill` alone
 abbrev pub is_drill : List (List ℕ) → Bool
 is_drill words = only_word_is words (codes "drill")
+
+-- the words that ask for a replay: `replay` alone
+abbrev pub is_replay : List (List ℕ) → Bool
+is_replay words = only_word_is words (codes "replay")

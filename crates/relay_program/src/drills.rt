@@ -43,7 +43,7 @@ fn default_limits() -> StreamLimits
 
 // Why a drill fails before its script's end.
 #[derive(Clone, Copy, Debug, PartialEq, Eq)]
-enum DrillFail {
+pub(crate) enum DrillFail {
     Outside { line: u64 },
     SourceFault,
     SinkFault,
@@ -51,7 +51,7 @@ enum DrillFail {
 }
 
 // Puts all of the text.
-fn put_all<K: Sink>(out: &mut K, text: &[u8]) -> Result<(), DrillFail>
+pub(crate) fn put_all<K: Sink>(out: &mut K, text: &[u8]) -> Result<(), DrillFail>
     ensures text { MatchResult result (λ _. K.holds out.new ≡ append_known (K.holds out.old) text.now)
         (λ fail. PutFails fail text.now (K.holds out.old) (K.holds out.new)) }
     ensures faults { MatchResult result (λ _. K.faults out.new ≡ K.faults out.old) (λ fail. SinkCause fail (K.faults out.old) (K.faults out.new)) }
@@ -329,7 +329,7 @@ fn answer_script<S: Source, K: Sink>(
     }
 }
 
-fn status_of(fail: DrillFail) -> Status
+pub(crate) fn status_of(fail: DrillFail) -> Status
     ensures { result ≡ status_of fail }
 {
     match fail {

@@ -1,7 +1,8 @@
 //! The commands of the relay.
 //!
 //! [`run`] takes the words after the program's name and calls the command that they name: [`drill`] answers a script of
-//! calls at one stream, a reply line for each call; [`remux`] makes a transport stream of a file of FLV, and [`check`] tells
+//! calls at one stream, a reply line for each call; [`replay`] runs a script of connections, and prints at its end what each was
+//! sent and how it ended; [`remux`] makes a transport stream of a file of FLV, and [`check`] tells
 //! the units of a transport stream. Each command says how it ended by the exit code of its [`Status`](relay_base::Status):
 //!
 //! | Code | Comes |
@@ -16,10 +17,12 @@
 #![tactic(auto)]
 
 mod drills;
+mod replays;
 mod runs;
 
 pub use drills::drill;
 pub use file_commands::{check, remux};
+pub use replays::replay;
 pub use runs::{Command, command_of, run};
 
 #[cfg(test)]

@@ -2,14 +2,17 @@ ghost use Rattle.std.specs.Prelude.{◌≡◌, None, Some, map, true};
 ghost use Rattle.file_commands.specs.Check.{CheckGives, CheckStops, CheckCut, CheckWhole};
 ghost use Rattle.file_commands.specs.Outcome.{Outcome as FileOutcome, seen};
 ghost use Rattle.file_commands.specs.Remux.{RemuxGives, RemuxStops, RemuxCut, RemuxWhole};
-ghost use Rattle.relay_program.specs.declared.runs.Command.TheVariants.{Drill, Remux, Check};
+ghost use Rattle.relay_program.specs.declared.runs.Command.TheVariants.{Drill, Replay, Remux, Check};
 ghost use Rattle.relay_program.specs.Commands.{command_of};
 ghost use Rattle.relay_program.specs.Drill.{drill_text, outside_line};
 ghost use Rattle.relay_program.specs.Outcome.{in_out, Outcome};
+ghost use Rattle.relay_program.specs.Replayed.{Replayed};
 ghost use Rattle.relay_program.specs.Words.{only_word_is};
 
 use crate::drills::drill;
+use crate::replays::replay;
 use file_commands::{check, remux};
+use key_guard::Guards;
 use relay_base::Status;
 use relay_outside::{Sink, Source};
 use std::alloc::Global;
@@ -19,6 +22,8 @@ use std::alloc::Global;
 pub enum Command {
     /// [`drill`]
     Drill,
+    /// [`replay`]
+    Replay,
     /// [`remux`]
     Remux,
     /// [`check`]
@@ -41,6 +46,9 @@ pub fn command_of(words: &[Vec<u8>]) -> Option<Command>
     if only_word_is(words, b"drill".as_slice()) {
         return Some(Command::Drill);
     }
+    if only_word_is(words, b"replay".as_slice()) {
+        return Some(Command::Replay);
+    }
     if only_word_is(words, b"remux".as_slice()) {
         return Some(Command::Remux);
     }
@@ -51,7 +59,7 @@ pub fn command_of(words: &[Vec<u8>]) -> Option<Command>
 }
 
 /// Runs the command that the words name, which are those after the program's name. What it writes by each code is told at
-/// [`drill`], [`remux`] and [`check`]. The code is
+/// [`drill`], [`replay`], [`remux`] and [`check`]. The guards judge keys. The code is
 ///
 /// - 0 where the input was read to its end;
 /// - 2 exactly where the words aren't those of a command: nothing is read or written;
@@ -66,10 +74,14 @@ pub fn command_of(words: &[Vec<u8>]) -> Option<Command>
 pub fn run<S: Source, K: Sink>(
     alloc: Global,
     words: &[Vec<u8>],
+    guards: &Guards,
     input: &mut S,
     out: &mut K,
 ) -> Status
     ensures drill { command_of (map (λ w. w.items) words.now) ≡ Some Drill → Outcome drill_text outside_line true
+        (in_out (S.left input.old) (K.holds out.old) (S.faults input.old) (K.faults out.old))
+        (in_out (S.left input.new) (K.holds out.new) (S.faults input.new) (K.faults out.new)) result }
+    ensures replay { command_of (map (λ w. w.items) words.now) ≡ Some Replay → Replayed true
         (in_out (S.left input.old) (K.holds out.old) (S.faults input.old) (K.faults out.old))
         (in_out (S.left input.new) (K.holds out.new) (S.faults input.new) (K.faults out.new)) result }
     ensures remux { command_of (map (λ w. w.items) words.now) ≡ Some Remux → FileOutcome RemuxGives RemuxStops RemuxCut RemuxWhole true
@@ -85,6 +97,7 @@ pub fn run<S: Source, K: Sink>(
 {
     match command_of(words) {
         Some(Command::Drill) => drill(alloc, words, input, out),
+        Some(Command::Replay) => replay(alloc, words, guards, input, out),
         Some(Command::Remux) => remux(alloc, words, input, out),
         Some(Command::Check) => check(alloc, words, input, out),
         None => Status { code: 2, place: 0 },

@@ -2,6 +2,7 @@ ghost use Rattle.std.specs.Prelude.{None};
 ghost use Rattle.relay_outside.specs.Put.{PutStep};
 
 use crate::{drill, run};
+use key_guard::{Guard, Guards, Mode, by_digest, by_name};
 use relay_base::Status;
 use relay_outside::{MemSink, MemSource, Put, Sink};
 use std::alloc::{AllocError, Global};
@@ -21,6 +22,12 @@ fn source(
         };
     }
     Ok(MemSource::new(pieces, fails))
+}
+
+fn guards(alloc: Global) -> Result<Guards, Fail> {
+    let plain = Guard::new(Mode::Plain, Box::new(alloc, by_name)?);
+    let digest = Guard::new(Mode::Digest, Box::new(alloc, by_digest)?);
+    Ok(Guards::new(plain, digest))
 }
 
 fn words(alloc: Global) -> Result<Vec<Vec<u8>>, Fail> {
@@ -45,7 +52,7 @@ fn told(alloc: Global, out: &MemSink, status: Status) -> Result<Vec<u8>, AllocEr
 fn drilled_in(alloc: Global, script: &[u8], piece: usize) -> Result<Vec<u8>, Fail> {
     let mut input = source(alloc, script, piece, vec![in alloc]?)?;
     let mut out = MemSink::new(alloc, vec![in alloc]?);
-    let status = run(alloc, &words(alloc)?, &mut input, &mut out);
+    let status = run(alloc, &words(alloc)?, &guards(alloc)?, &mut input, &mut out);
     Ok(told(alloc, &out, status)?)
 }
 
@@ -354,8 +361,43 @@ fn the_257th_player_finds_no_place(rt: HostRuntime) -> Result<(), Fail> {
 fn run_with(alloc: Global, words: Vec<Vec<u8>>) -> Result<Vec<u8>, Fail> {
     let mut input = source(alloc, b"begin 1\n", 8, vec![in alloc]?)?;
     let mut out = MemSink::new(alloc, vec![in alloc]?);
-    let status = run(alloc, &words, &mut input, &mut out);
+    let status = run(alloc, &words, &guards(alloc)?, &mut input, &mut out);
     Ok(told(alloc, &out, status)?)
+}
+
+// What a replay of the script, in pieces of so many bytes, tells.
+fn replayed_in(alloc: Global, script: &[u8], piece: usize) -> Result<Vec<u8>, Fail> {
+    let mut input = source(alloc, script, piece, vec![in alloc]?)?;
+    let mut out = MemSink::new(alloc, vec![in alloc]?);
+    let words = vec![in alloc; b"replay".to_vec(alloc)?]?;
+    let status = run(alloc, &words, &guards(alloc)?, &mut input, &mut out);
+    Ok(told(alloc, &out, status)?)
+}
+
+#[test]
+fn a_session_ends_at_a_bad_version(rt: HostRuntime) -> Result<(), Fail> {
+    let alloc = rt.alloc();
+    let script = b"stream live cam
+record 0 flv
+open
+in 0 06
+all 2"
+        .as_slice();
+    for piece in [1, 4096] {
+        let told = replayed_in(alloc, script, piece)?;
+        assert_eq!(rt;
+            told.as_slice(),
+            b"session 0 sent -
+session 0 end badversion 0
+recorder 0 file 464c5601050000000900000000
+recorder 0 end none
+stream 0 held 0
+held 0 sum 59289600
+"
+                .as_slice()
+        );
+    }
+    Ok(())
 }
 
 #[test]

@@ -1,0 +1,257 @@
+ghost use Rattle.std.specs.Prelude.{◌≡◌, ◌<◌, ◌≤◌, ◌+◌, ◌^◌, ◌++◌, ◌∷◌, [], List, ℕ, length, map, position, ◌==◌};
+ghost use Rattle.std.specs.Prelude.{Some, None, MatchResult, OnOk, IfErr};
+ghost use Rattle.std.specs.Io.KnownBytes.{IsAtEnd};
+ghost use Rattle.relay_script.specs.Script.{NoLineFeed};
+ghost use Rattle.relay_replay.specs.Prints.{Prints};
+ghost use Rattle.relay_replay.specs.Scenes.{IsSound, start};
+ghost use Rattle.relay_program.specs.Outcome.{in_out};
+ghost use Rattle.relay_program.specs.Parts.{SourceFaults};
+ghost use Rattle.relay_program.specs.Replay.{Goes, Printed, outside_line};
+ghost use Rattle.relay_program.specs.Replayed.{Replayed};
+ghost use Rattle.relay_program.specs.ReplayParts.{HasNoSink, Fit, Advances, Stops, StopsAt, Extended, ExtendFails, Obeyed, ObeyFails, EndsIn, EndsPrinted};
+ghost use Rattle.relay_program.specs.Words.{is_replay};
+
+use crate::drills::{DrillFail, put_all, status_of};
+use av_unit::Bytes;
+use key_guard::Guards;
+use relay_base::Status;
+use relay_outside::{Got, Sink, Source};
+use relay_replay::Scene;
+use relay_script::{LineFail, replay_line};
+use std::alloc::Global;
+
+/// A script's bytes are numbered from 1; a line with a byte past this one is outside the grammar.
+const MOST_BYTES: u64 = 1 << 28;
+
+/// The most bytes of a line, its LF not counted.
+const MOST_LINE: usize = 65536;
+
+/// How many bytes are asked of a script at a time.
+const PIECE: usize = 4096;
+
+fn is_replay(words: &[Vec<u8>]) -> bool
+    ensures { result ≡ is_replay (map (λ w. w.items) words.now) }
+{
+    match words {
+        [word] => word.as_slice() == b"replay".as_slice(),
+        _ => false,
+    }
+}
+
+// A replay in the middle of its script.
+#[derive(Drop)]
+struct Replaying {
+    alloc: Global,
+    scene: Scene,
+    // What stands after the last LF.
+    line: Bytes,
+    // How many bytes of the script were read.
+    place: u64,
+    // The number of the line that is being read, from 1.
+    number: u64,
+}
+
+fn first_line_feed(text: &[u8]) -> Option<usize>
+    ensures { result ≡ position (λ c. c == 10) text.now }
+{
+    text.iter().position(|c| *c == b'\n')
+}
+
+// Does what the line with that number says.
+fn obey(
+    alloc: Global,
+    guards: &Guards,
+    scene: &mut Scene,
+    line: &[u8],
+    number: u64,
+) -> Result<(), DrillFail>
+    requires { IsSound scene.old }
+    ensures sound { OnOk result (IsSound scene.new) }
+    ensures obeyed { MatchResult result (λ _. Obeyed line.now scene.old scene.new) (λ fail. ObeyFails fail line.now number scene.old) }
+{
+    let line = match replay_line(alloc, line) {
+        Ok(line) => line,
+        Err(LineFail::Outside) => return Err(DrillFail::Outside { line: number }),
+        Err(LineFail::OutOfMemory) => return Err(DrillFail::OutOfMemory),
+    };
+    match scene.act(guards, line) {
+        Ok(()) => Ok(()),
+        Err(LineFail::Outside) => Err(DrillFail::Outside { line: number }),
+        Err(LineFail::OutOfMemory) => Err(DrillFail::OutOfMemory),
+    }
+}
+
+impl Replaying {
+    fn new(alloc: Global) -> Replaying
+        ensures fit { Fit result }
+        ensures begins { (result.scene ≡ start) × (result.line ≡ []) × (result.place ≡ 0) × (result.number ≡ 1) }
+    {
+        Replaying {
+            alloc,
+            scene: Scene::new(alloc),
+            line: Bytes::new(alloc),
+            place: 0,
+            number: 1,
+        }
+    }
+
+    // Adds bytes without an LF to the line.
+    fn extend(&mut self, run: &[u8]) -> Result<(), DrillFail>
+        requires { Fit self.old }
+        ensures fit { OnOk result (Fit self.new) }
+        ensures extended { MatchResult result (λ _. Extended self.old run.now self.new) (λ fail. ExtendFails fail self.old run.now) }
+    {
+        let place = self.place + run.len() as u64;
+        if place > MOST_BYTES || self.line.len() + run.len() > MOST_LINE {
+            return Err(DrillFail::Outside { line: self.number });
+        }
+        let Ok(()) = self.line.append(run) else {
+            return Err(DrillFail::OutOfMemory);
+        };
+        self.place = place;
+        Ok(())
+    }
+
+    // Obeys the line at its LF.
+    fn end_line(&mut self, guards: &Guards) -> Result<(), DrillFail>
+        requires { Fit self.old }
+        ensures fit { OnOk result (Fit self.new) }
+        ensures place { OnOk result (self.new.place ≡ self.old.place + 1) }
+        ensures goes { (more : List ℕ) → MatchResult result (λ _. Advances self.old (10 ∷ more) self.new more) (λ fail. Stops fail self.old (10 ∷ more)) }
+    {
+        if self.place == MOST_BYTES {
+            return Err(DrillFail::Outside { line: self.number });
+        }
+        obey(
+            self.alloc,
+            guards,
+            &mut self.scene,
+            self.line.as_slice(),
+            self.number,
+        )?;
+        self.line = Bytes::new(self.alloc);
+        self.place += 1;
+        self.number += 1;
+        Ok(())
+    }
+
+    // Reads the rest of a line, and obeys it at its LF.
+    fn whole_line(&mut self, guards: &Guards, run: &[u8]) -> Result<(), DrillFail>
+        requires { Fit self.old }
+        ensures fit { OnOk result (Fit self.new) }
+        ensures place { OnOk result (self.new.place ≡ self.old.place + length run.now + 1) }
+        ensures goes { (more : List ℕ) → NoLineFeed run.now
+            → MatchResult result (λ _. Advances self.old (run.now ++ 10 ∷ more) self.new more) (λ fail. Stops fail self.old (run.now ++ 10 ∷ more)) }
+    {
+        self.extend(run)?;
+        self.end_line(guards)
+    }
+
+    // Reads a piece of the script.
+    fn piece(&mut self, guards: &Guards, piece: &[u8]) -> Result<(), DrillFail>
+        requires { Fit self.old }
+        ensures fit { OnOk result (Fit self.new) }
+        ensures place { OnOk result (self.new.place ≡ self.old.place + length piece.now) }
+        ensures goes { (rest : List ℕ) → MatchResult result (λ _. Advances self.old (piece.now ++ rest) self.new rest) (λ fail. Stops fail self.old (piece.now ++ rest)) }
+    {
+        let mut left = piece;
+        while let Some(feed) = first_line_feed(left) {
+            self.whole_line(guards, &left[..feed])?;
+            left = &left[feed + 1..];
+        }
+        self.extend(left)
+    }
+
+    // Obeys what stands after the last LF.
+    fn last_line(&mut self, guards: &Guards) -> Result<(), DrillFail>
+        requires { Fit self.old }
+        ensures sound { OnOk result (IsSound self.new.scene) }
+        ensures ends { MatchResult result (λ _. EndsIn self.old self.new.scene) (λ fail. Stops fail self.old []) }
+    {
+        if self.line.len() == 0 {
+            return Ok(());
+        }
+        obey(
+            self.alloc,
+            guards,
+            &mut self.scene,
+            self.line.as_slice(),
+            self.number,
+        )
+    }
+
+    // Obeys what stands after the last LF, and gives what is then printed.
+    fn finish(&mut self, guards: &Guards) -> Result<Bytes, DrillFail>
+        requires { Fit self.old }
+        ensures { MatchResult result (λ text. EndsPrinted self.old text) (λ fail. Stops fail self.old []) }
+    {
+        self.last_line(guards)?;
+        match self.scene.report() {
+            Ok(text) => Ok(text),
+            Err(_) => Err(DrillFail::OutOfMemory),
+        }
+    }
+}
+
+// What a script prints.
+fn replayed<S: Source>(alloc: Global, guards: &Guards, script: &mut S) -> Result<Bytes, DrillFail>
+    ensures read { OnOk result (IsAtEnd (S.left script.new)) }
+    ensures ends { (text : List ℕ) → S.left script.old ≡ Some text
+        → MatchResult result (λ printed. Printed text printed × (outside_line text ≡ None)) (λ fail. StopsAt fail (outside_line text)) }
+    ensures source { MatchResult result (λ _. S.faults script.new ≡ S.faults script.old)
+        (λ fail. SourceFaults fail (S.faults script.old) (S.faults script.new)) }
+    ensures sink { IfErr result HasNoSink }
+{
+    let mut replay = Replaying::new(alloc);
+    let mut buffer = [0u8; PIECE];
+    loop {
+        match script.get(&mut buffer) {
+            Got::Bytes(count) => replay.piece(guards, &buffer[..count])?,
+            Got::End => return replay.finish(guards),
+            Got::Failed => return Err(DrillFail::SourceFault),
+        }
+    }
+}
+
+/// Replays a script of connections, and prints at its end what each was sent and how it ended, what each recorder wrote,
+/// and what the streams hold.
+///
+/// The one word is `replay`. A line is outside the grammar where [`replay_line`] says so, where it may not stand in its
+/// place or names what isn't there, or where it has a byte past the script's first 2^28. `limits` is the first line that
+/// does something, if it is there; then `stream`, `guard` and `record` stand in any order, and then the others. The code of
+/// the answer tells how the replay ended:
+///
+/// | Code | Comes | Written |
+/// |---|---|---|
+/// | 0 | the script was read to its end, and no line is outside the grammar | all |
+/// | 2 | exactly where the words aren't `replay` alone; nothing is read | nothing |
+/// | 3 | only where the source's faults rose | nothing |
+/// | 4 | line `place`, counted from 1, is the first outside the grammar | nothing |
+/// | 5 | only where the sink's faults rose | a first part |
+/// | 6 | for want of memory, also of a session or a recorder | nothing, or a first part |
+///
+/// `place` is 0 but for code 4.
+pub fn replay<S: Source, K: Sink>(
+    alloc: Global,
+    words: &[Vec<u8>],
+    guards: &Guards,
+    script: &mut S,
+    out: &mut K,
+) -> Status
+    ensures outcome { Replayed (is_replay (map (λ w. w.items) words.now))
+        (in_out (S.left script.old) (K.holds out.old) (S.faults script.old) (K.faults out.old))
+        (in_out (S.left script.new) (K.holds out.new) (S.faults script.new) (K.faults out.new)) result }
+    ensures untouched { result.code ≡ 2 → (script.new ≡ script.old) × (out.new ≡ out.old) }
+{
+    if !is_replay(words) {
+        return Status { code: 2, place: 0 };
+    }
+    let text = match replayed(alloc, guards, script) {
+        Ok(text) => text,
+        Err(fail) => return status_of(fail),
+    };
+    match put_all(out, text.as_slice()) {
+        Ok(()) => Status { code: 0, place: 0 },
+        Err(fail) => status_of(fail),
+    }
+}

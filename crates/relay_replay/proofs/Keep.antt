@@ -1,0 +1,153 @@
+-- What stays true of the cast.
+use Rattle.std.proofs.Common.{◌≡◌, ◌<◌, ◌+◌, ℕ, zero, suc, true, false, if◌then◌else◌, List, [], ◌∷◌, length, get_or, slice_get, slice_set}
+use Rattle.std.proofs.Common.{Option, Some, None, Result, Ok, Err, OnOk, refl, ap, sym, ◌∙◌, subst, arith, is_some}
+use Rattle.std.proofs.lemmas.List.Elements.{All-set, All-weaker}
+use Rattle.av_unit.specs.declared.bytes.OutOfMemory.{OutOfMemory}
+use Rattle.command_dialog.specs.declared.types.Ask.{Ask}
+use Rattle.command_dialog.specs.declared.types.Grant.{Grant}
+use Rattle.command_dialog.specs.declared.types.Grant.TheVariants.{Refused, Place}
+use Rattle.key_guard.specs.Allowed.{is_allowed}
+use Rattle.relay_config.specs.declared.config.PlaceRule.{PlaceRule}
+use Rattle.relay_outside.specs.MemLinks.{MemHears, MemSays}
+use Rattle.stream_registry.specs.Books.{SoleState, SeenState, FitsSole, journal_at, sole_rules}
+use Rattle.stream_registry.specs.Names.{PortRules}
+use Rattle.media_recorder.specs.Ports.{FitsIf}
+use Rattle.relay_session.specs.Grants.{granted_from, grants_for, is_named, judged}
+use Rattle.relay_session.specs.Places.{Asked, IsGrantThere, IsOffered, IsThere}
+use Rattle.relay_session.specs.SeatState.{HasFit}
+use Rattle.relay_session.specs.SessionState.{SessionState, life_at}
+use Rattle.relay_session.specs.Turns.{EndedBy}
+use Rattle.relay_session.specs.declared.end.End.{End}
+use Rattle.relay_session.specs.declared.turn.Turn.{Turn}
+use Rattle.relay_replay.specs.Cast.{ConnState, RecState, CastState, AfterTurn, SessionTurn, Turned, TurnOf, Times, Each}
+use Rattle.relay_replay.specs.Scenes.{Fits, Ready, ReadyBy, Sits}
+
+-- ---- the desk grants places that are there
+
+judged_there : (p : PlaceRule) (ask : Ask) (n count : ℕ) → n < count → IsGrantThere count (judged p ask n)
+judged_there p ask n count h =
+    elim (is_allowed p.mode (grants_for ask.role p) ask.key) as (λ b. IsGrantThere count (if b then Place n else Refused)) [ true ↦ h | false ↦ tt ]
+
+offered_from : (n : ℕ) (places : List PlaceRule) (ask : Ask) → IsGrantThere (n + length places) (granted_from n places ask)
+offered_from n [] ask = tt
+offered_from n (p ∷ rest) ask =
+    let same : n + 1 + length rest ≡ n + length (p ∷ rest) = omega arith in
+    let later = subst (λ (k : ℕ). IsGrantThere k (granted_from (n + 1) rest ask)) same (offered_from (n + 1) rest ask) in
+    elim (is_named p ask) as (λ b. IsGrantThere (n + length (p ∷ rest)) (if b then judged p ask n else granted_from (n + 1) rest ask)) [
+      | true ↦ judged_there p ask n (n + length (p ∷ rest)) (omega arith)
+      | false ↦ later
+    ]
+
+zero_and : (n : ℕ) → 0 + n ≡ n
+zero_and n = omega arith
+
+pub offered : (places : List PlaceRule) (count : ℕ) → count ≡ length places → IsOffered (granted_from 0 places) count
+offered places count e = λ ask. subst (λ (k : ℕ). IsGrantThere k (granted_from 0 places ask)) (zero_and (length places) ∙ sym e) (offered_from 0 places ask)
+
+-- ---- lists
+
+pub length_set : {A : Type 0} → (xs : List A) (n : ℕ) (y : A) → length (slice_set xs n y) ≡ length xs
+length_set [] n y = refl
+length_set (x ∷ xs) zero y = refl
+length_set (x ∷ xs) (suc n) y = ap suc (length_set xs n y)
+
+-- ---- what fits a port fits it on
+
+fit_on : (port port' : SoleState) (spot : Option (ℕ × SeenState)) → ((q : ℕ) (p : SeenState) → FitsSole port q p → FitsSole port' q p)
+    → HasFit (FitsSole port) spot → HasFit (FitsSole port') spot
+fit_on port port' None fits h = tt
+fit_on port port' (Some p) fits h = fits p.0 p.1 h
+
+ready_on : (e : Option End) (port port' : SoleState) (s : SessionState SeenState) → sole_rules port'.rules ≡ sole_rules port.rules
+    → ((q : ℕ) (p : SeenState) → FitsSole port q p → FitsSole port' q p) → ReadyBy e port s → ReadyBy e port' s
+ready_on None port port' s same fits r = record {
+  fit = fit_on port port' s.seat.spot fits r.fit;
+  there = subst (λ (x : PortRules). IsThere (length x.names) s.parts.place) (sym same) r.there;
+  calls = r.calls;
+}
+ready_on (Some e) port port' s same fits r = tt
+
+rec_fit_on : (port port' : SoleState) (place : ℕ) (pass : Option SeenState) → ((q : ℕ) (p : SeenState) → FitsSole port q p → FitsSole port' q p)
+    → FitsIf (FitsSole port place) pass → FitsIf (FitsSole port' place) pass
+rec_fit_on port port' place None fits h = tt
+rec_fit_on port port' place (Some p) fits h = fits place p h
+
+fits_on : (port port' : SoleState) (r : RecState) → sole_rules port'.rules ≡ sole_rules port.rules
+    → ((q : ℕ) (p : SeenState) → FitsSole port q p → FitsSole port' q p) → Fits port r → Fits port' r
+fits_on port port' r same fits h = (
+  subst (λ (x : PortRules). r.recorder.seat.place < length x.names) (sym same) h.0,
+  rec_fit_on port port' r.recorder.seat.place r.recorder.seat.pass fits h.1,
+)
+
+-- ---- after a turn
+
+pub session_sits : (r : Result (Unit {0}) OutOfMemory) (streams files n : ℕ) (c : CastState) (port' : SoleState) (d : ConnState) → Sits streams files c
+    → sole_rules port'.rules ≡ sole_rules c.port.rules → ((q : ℕ) (p : SeenState) → FitsSole c.port q p → FitsSole port' q p) → OnOk r (Ready port' d)
+    → OnOk r (Sits streams files (record { port = port'; sessions = slice_set c.sessions n d; recorders = c.recorders }))
+session_sits (Ok x) streams files n c port' d s same fits ready = record {
+  names = ap (λ (x : PortRules). length x.names) same ∙ s.names;
+  few = rw (length_set c.sessions n d) s.few;
+  sessions = All-set (Ready port') c.sessions n d ready (All-weaker (Ready c.port) (Ready port')
+      (λ x. ready_on x.ended c.port port' x.session same fits) c.sessions s.sessions);
+  count = s.count;
+  recorders = All-weaker (Fits c.port) (Fits port') (λ x. fits_on c.port port' x same fits) c.recorders s.recorders;
+}
+session_sits (Err e) streams files n c port' d s same fits ready = tt
+
+pub recorder_sits : (r : Result (Unit {0}) OutOfMemory) (streams files n : ℕ) (c : CastState) (port' : SoleState) (d : RecState) → Sits streams files c
+    → sole_rules port'.rules ≡ sole_rules c.port.rules → ((q : ℕ) (p : SeenState) → FitsSole c.port q p → FitsSole port' q p) → Fits port' d
+    → OnOk r (Sits streams files (record { port = port'; sessions = c.sessions; recorders = slice_set c.recorders n d }))
+recorder_sits (Ok x) streams files n c port' d s same fits fit = record {
+  names = ap (λ (x : PortRules). length x.names) same ∙ s.names;
+  few = s.few;
+  sessions = All-weaker (Ready c.port) (Ready port') (λ x. ready_on x.ended c.port port' x.session same fits) c.sessions s.sessions;
+  count = length_set c.recorders n d ∙ s.count;
+  recorders = All-set (Fits port') c.recorders n d fit (All-weaker (Fits c.port) (Fits port') (λ x. fits_on c.port port' x same fits) c.recorders s.recorders);
+}
+recorder_sits (Err e) streams files n c port' d s same fits fit = tt
+
+-- ---- a session's turn
+
+turned_by : (e : Option End) (desk : Ask → Grant) (port : SoleState) (c : ConnState) (port' : SoleState) (d : ConnState) → is_some e ≡ false
+    → Turned desk port c port' d → SessionTurn e desk port c port' d
+turned_by None desk port c port' d h t = t
+turned_by (Some e) desk port c port' d h t = absurd (cc)
+
+pub turned : (r : Result (Unit {0}) OutOfMemory) (desk : Ask → Grant) (port between port' : SoleState) (c d : ConnState) (mid : SessionState SeenState) (a : Turn)
+    → is_some c.ended ≡ false
+    → EndedBy (Asked FitsSole (λ s. sole_rules s.rules) (λ s. journal_at s.books) (λ p. p.seen) (λ p. length p.seen) (λ _. Unit {0}) (λ _. 0)) desk
+    MemHears MemSays c.session.ended c.session.quit (life_at c.session port) c.link a (life_at mid between) d.link
+    → OnOk r (AfterTurn a mid between d.session d.ended port') → OnOk r (SessionTurn c.ended desk port c port' d)
+turned (Ok x) desk port between port' c d mid a lives turn leads =
+    turned_by c.ended desk port c port' d lives (record { answer = a; between = between; mid = mid; turn = turn; leads = leads })
+turned (Err e) desk port between port' c d mid a lives turn leads = tt
+
+get_some : {A : Type 0} → (xs : List A) (n : ℕ) (x : A) → n < length xs → x ≡ get_or xs n x → slice_get xs n ≡ Some x
+get_some [] n x h e = absurd (omega (arith, h))
+get_some (y ∷ ys) zero x h e = ap Some (sym e)
+get_some (y ∷ ys) (suc n) x h e = get_some ys n x (omega (arith, h)) e
+
+pub turn_of : (r : Result (Unit {0}) OutOfMemory) (desk : Ask → Grant) (n : ℕ) (c : CastState) (x : ConnState) (port' : SoleState) (y : ConnState)
+    → n < length c.sessions → x ≡ get_or c.sessions n x → OnOk r (SessionTurn x.ended desk c.port x port' y)
+    → OnOk r (TurnOf desk n c (record { port = port'; sessions = slice_set c.sessions n y; recorders = c.recorders }))
+turn_of (Ok v) desk n c x port' y h e turn = record {
+  old = x;
+  new = y;
+  there = get_some c.sessions n x h e;
+  turn = turn;
+  sessions = refl;
+  recorders = refl;
+}
+turn_of (Err e) desk n c x port' y h same turn = tt
+
+-- ---- one step more
+
+pub times_more : {A : Type 0} → (k : ℕ) (step : A → A → Type 0) (c m d : A) → Times k step c m → step m d → Times (k + 1) step c d
+times_more k step c m d before one =
+    let same : suc k ≡ k + 1 = omega arith in
+    subst (λ (n : ℕ). Times n step c d) same (m, (before, one))
+
+pub each_more : {A : Type 0} → (k : ℕ) (step : ℕ → A → A → Type 0) (c m d : A) → Each k step c m → step k m d → Each (k + 1) step c d
+each_more k step c m d before one =
+    let same : suc k ≡ k + 1 = omega arith in
+    subst (λ (n : ℕ). Each n step c d) same (m, (before, one))

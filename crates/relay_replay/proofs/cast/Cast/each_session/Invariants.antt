@@ -1,0 +1,13 @@
+use Rattle.std.proofs.Common.{◌≡◌, length}
+use Rattle.relay_session.specs.Grants.{granted_from}
+use Rattle.relay_replay.specs.Cast.{Each, TurnOf}
+use Rattle.relay_replay.specs.Scenes.{Sits}
+use Rattle.relay_replay.proofs.cast.Cast.each_session.Given as goal
+
+abbrev pub invariant-loop-n : goal.invariant-loop-n
+invariant-loop-n g l = record {
+  sits : Sits (length l.desk.list.now) (length l.fn.self.recorders) l.self;
+  count : length l.self.sessions ≡ length l.fn.self.sessions;
+  files : length l.self.recorders ≡ length l.fn.self.recorders;
+  turns : Each l.n (TurnOf (granted_from 0 l.desk.list.now)) l.fn.self l.self;
+}

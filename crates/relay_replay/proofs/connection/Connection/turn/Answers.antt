@@ -1,0 +1,16 @@
+use Rattle.std.proofs.Common.{rules}
+use Rattle.relay_session.specs.Grants.{granted_from}
+use Rattle.relay_replay.specs.Cast.{ConnState}
+use Rattle.relay_replay.proofs.Keep.{turned}
+use Rattle.relay_replay.proofs.connection.Connection.turn.Goals as goal
+
+pub returns-clause-turn : goal.returns-clause-turn
+returns-clause-turn g c =
+    let i = c.self.inside in
+    let old : ConnState = record { session = i.session; link = i.link; ended = i.ended } in
+    let new : ConnState = record { session = c.after.new.session; link = c.turn-answer.new.link; ended = c.after.new.ended } in
+    rw (← c.self.view_is) (turned c.after.result (granted_from 0 c.args.desk.now.list.now) c.args.port.now c.turn-answer.new.port c.after.new.port old new
+    c.turn-answer.new.self c.turn-answer.result (search rules) c.turn-answer.ensures.turn c.after.ensures.leads)
+
+pub returns-clause-fits : goal.returns-clause-fits
+returns-clause-fits g c = λ q p h. c.after.ensures.fits q p (c.turn-answer.ensures.goes_on.passes q p h)

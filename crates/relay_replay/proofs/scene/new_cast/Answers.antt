@@ -1,0 +1,13 @@
+use Rattle.std.proofs.Common.{◌≡◌, [], length, map, subst, sym, rules}
+use Rattle.relay_replay.specs.Scenes.{Sits, name_of}
+use Rattle.relay_replay.proofs.New.{new_sits}
+use Rattle.relay_replay.proofs.scene.new_cast.Goals as goal
+
+pub returns-clause-sits : goal.returns-clause-sits
+returns-clause-sits c =
+    let port = c.in_ok-port.port in
+    let rs = c.in_ok-recorders.recorders.items in
+    let names : port.rules.names ≡ map name_of c.args.places.now = search rules in
+    let made : c.new-2.result ≡ record { port = port; sessions = []; recorders = rs } = search rules in
+    subst (Sits (length c.args.places.now) (length c.args.recorders.now)) (sym made)
+    (new_sits c.args.places.now c.args.recorders.now port rs names c.in_ok-recorders.ensures c.requires.spots)

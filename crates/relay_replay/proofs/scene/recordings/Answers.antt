@@ -1,0 +1,15 @@
+use Rattle.std.proofs.Common.{◌≡◌, ◌<◌, ◌+◌, ◌++◌, ◌∷◌, [], List, length, take, sym, subst, rules}
+use Rattle.relay_replay.specs.Cast.{RecState}
+use Rattle.relay_replay.specs.Scenes.{AreNew}
+use Rattle.relay_replay.proofs.New.{more}
+use Rattle.relay_replay.proofs.scene.recordings.Goals as goal
+
+pub loop-i-preserved : goal.loop-i-preserved
+loop-i-preserved c =
+    let r = c.in_ok-recording_at.field-0 in
+    let items : c.push.new.self.items ≡ c.loop-i.list.items ++ r ∷ [] = search rules in
+    let there : c.loop-i.i < length c.args.places.now = search rules in
+    record {
+      made = subst (λ (l : List RecState). AreNew 0 (take (c.loop-i.i + 1) c.args.places.now) l) (sym items)
+          (more c.args.places.now c.loop-i.i c.loop-i.list.items r there c.loop-i.invariant.made c.in_ok-recording_at.ensures);
+    }

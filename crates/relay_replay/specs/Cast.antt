@@ -1,0 +1,130 @@
+-- What runs in a replay, and a turn of each of its parts.
+use Rattle.std.specs.Prelude.{◌≡◌, ℕ, zero, suc, List, length, slice_get, slice_set, Option, None, Some}
+use Rattle.command_dialog.specs.declared.types.Ask.{Ask}
+use Rattle.command_dialog.specs.declared.types.Grant.{Grant}
+use Rattle.relay_outside.specs.MemLinks.{MemLinkState, MemHears, MemSays}
+use Rattle.stream_registry.specs.Books.{SoleState, SeenState, FitsSole, journal_at, sole_rules}
+use Rattle.relay_session.specs.Places.{Asked}
+use Rattle.relay_session.specs.SeatState.{GoOn, LeavesFrom, place_of}
+use Rattle.relay_session.specs.SessionState.{SessionState, end_or_quit, gone_but_kept, life_at}
+use Rattle.relay_session.specs.Turns.{EndedBy}
+use Rattle.relay_session.specs.declared.end.End.{End}
+use Rattle.relay_session.specs.declared.end.End.TheVariants as end
+use Rattle.relay_session.specs.declared.seat_answers.Leaving.{Leaving}
+use Rattle.relay_session.specs.declared.turn.Turn.{Turn}
+use Rattle.relay_session.specs.declared.turn.Turn.TheVariants.{Moved, Idle, Ended}
+use Rattle.media_recorder.specs.Turns.{RecorderState, Turns}
+use Rattle.media_recorder.specs.declared.turn.RecEnd.{RecEnd}
+use Rattle.media_recorder.specs.declared.turn.RecEnd.TheVariants as rec_end
+use Rattle.media_recorder.specs.declared.turn.RecTurn.{RecTurn}
+use Rattle.media_recorder.specs.declared.turn.RecTurn.TheVariants as rec
+use Rattle.relay_replay.specs.Files.{FileState, FileTakes}
+
+-- a session with its link
+pub record ConnState : Type 0 where
+  pub session : SessionState SeenState
+  pub link : MemLinkState
+  -- why it has ended, if it has
+  pub ended : Option End
+
+-- a recorder with its file
+pub record RecState : Type 0 where
+  pub recorder : RecorderState SeenState
+  pub file : FileState
+  pub ended : Option RecEnd
+
+pub record CastState : Type 0 where
+  -- the streams
+  pub port : SoleState
+  pub sessions : List ConnState
+  pub recorders : List RecState
+
+-- ---- a session's turn
+
+-- it didn't end for want of memory
+abbrev pub HasMemory : End → Type 0
+HasMemory end.OutOfMemory = ⊥
+HasMemory _ = Unit {0}
+
+-- it was closed: its last calls were made, and it has left
+pub record IsClosed (port : SoleState) (s : SessionState SeenState) (port' : SoleState) (s' : SessionState SeenState) : Type 0 where
+  pub leaving : Leaving
+  pub leaves : LeavesFrom (place_of s.seat.spot) s.parts.who s.parts.fed s.parts.kept s.seat.active s.seat.visits leaving s'.parts.kept s'.seat.active s'.seat.visits
+  pub away : place_of s'.seat.spot ≡ None
+  pub roots : GoOn (journal_at port.books) (journal_at port'.books)
+  pub fixed : sole_rules port'.rules ≡ sole_rules port.rules
+  pub ended : s'.ended ≡ Some (end_or_quit s.ended)
+  pub gone : gone_but_kept s'.parts ≡ gone_but_kept s.parts
+
+-- what a turn's answer leads to: one that ends is closed at once
+abbrev pub AfterTurn : Turn → SessionState SeenState → SoleState → SessionState SeenState → Option End → SoleState → Type 0
+AfterTurn Moved s port s' ended port' = (s' ≡ s) × (port' ≡ port) × (ended ≡ None)
+AfterTurn Idle s port s' ended port' = (s' ≡ s) × (port' ≡ port) × (ended ≡ None)
+AfterTurn (Ended e) s port s' ended port' = HasMemory e × (ended ≡ Some e) × IsClosed port s port' s'
+
+-- a turn of a session at these streams: the one of `Session::turn`, with a link in memory
+pub record Turned (desk : Ask → Grant) (port : SoleState) (c : ConnState) (port' : SoleState) (d : ConnState) : Type 0 where
+  pub answer : Turn
+  pub between : SoleState
+  pub mid : SessionState SeenState
+  pub turn : EndedBy (Asked FitsSole (λ s. sole_rules s.rules) (λ s. journal_at s.books) (λ p. p.seen) (λ p. length p.seen) (λ _. Unit {0}) (λ _. 0)) desk
+      MemHears MemSays c.session.ended c.session.quit (life_at c.session port) c.link answer (life_at mid between) d.link
+  pub leads : AfterTurn answer mid between d.session d.ended port'
+
+-- one that has ended does nothing
+abbrev pub SessionTurn : Option End → (Ask → Grant) → SoleState → ConnState → SoleState → ConnState → Type 0
+SessionTurn (Some e) desk port c port' d = (d ≡ c) × (port' ≡ port)
+SessionTurn None desk port c port' d = Turned desk port c port' d
+
+-- ---- a recorder's turn
+
+-- it didn't end for want of memory
+abbrev pub HasRecMemory : RecEnd → Type 0
+HasRecMemory rec_end.OutOfMemory = ⊥
+HasRecMemory _ = Unit {0}
+
+abbrev pub AfterRecTurn : RecTurn → Option RecEnd → Option RecEnd → Type 0
+AfterRecTurn rec.Moved ended ended' = ended' ≡ ended
+AfterRecTurn rec.Idle ended ended' = ended' ≡ ended
+AfterRecTurn rec.Busy ended ended' = ended' ≡ ended
+AfterRecTurn (rec.Ended e) ended ended' = HasRecMemory e × (ended' ≡ Some e)
+
+pub record RecorderTurn (port : SoleState) (c : RecState) (port' : SoleState) (d : RecState) : Type 0 where
+  pub answer : RecTurn
+  pub turn : Turns (λ (s : SoleState). sole_rules s.rules) (λ s. journal_at s.books) (λ _. 0) (λ (p : SeenState). p.seen) (λ p. p.mine) (λ p. length p.seen) FileTakes
+      c.recorder.end port port' c.file d.file c.recorder answer d.recorder
+  pub leads : AfterRecTurn answer c.ended d.ended
+
+-- ---- turns in the cast
+
+pub record TurnOf (desk : Ask → Grant) (n : ℕ) (c d : CastState) : Type 0 where
+  pub old : ConnState
+  pub new : ConnState
+  pub there : slice_get c.sessions n ≡ Some old
+  pub turn : SessionTurn old.ended desk c.port old d.port new
+  pub sessions : d.sessions ≡ slice_set c.sessions n new
+  pub recorders : d.recorders ≡ c.recorders
+
+pub record RecTurnOf (n : ℕ) (c d : CastState) : Type 0 where
+  pub old : RecState
+  pub new : RecState
+  pub there : slice_get c.recorders n ≡ Some old
+  pub turn : RecorderTurn c.port old d.port new
+  pub recorders : d.recorders ≡ slice_set c.recorders n new
+  pub sessions : d.sessions ≡ c.sessions
+
+-- so many steps, one after another
+abbrev pub Times : {A : Type 0} → ℕ → (A → A → Type 0) → A → A → Type 0
+Times zero step c d = d ≡ c
+Times {A} (suc k) step c d = (m : A) × (Times k step c m × step m d)
+
+-- the steps of the first so many, in order
+abbrev pub Each : {A : Type 0} → ℕ → (ℕ → A → A → Type 0) → A → A → Type 0
+Each zero step c d = d ≡ c
+Each {A} (suc k) step c d = (m : A) × (Each k step c m × step k m d)
+
+-- a round: a turn of each session, then of each recorder
+pub record Round (desk : Ask → Grant) (c d : CastState) : Type 0 where
+  pub between : CastState
+  pub sessions : Each (length c.sessions) (TurnOf desk) c between
+  pub recorders : Each (length between.recorders) RecTurnOf between d

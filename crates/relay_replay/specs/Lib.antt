@@ -1,0 +1,6 @@
+pub mod Files
+pub mod Stand
+pub mod Cast
+pub mod Plays
+pub mod Scenes
+pub mod Prints

@@ -1,0 +1,158 @@
+-- A replay between two lines of its script.
+use Rattle.std.specs.Prelude.{◌≡◌, ℕ, ◌+◌, ◌^◌, ◌<◌, ◌≤◌, Bool, true, false, List, [], ◌∷◌, length, map, All, Option, None, Some}
+use Rattle.std.specs.Option.{option_map}
+use Rattle.relay_base.specs.declared.limits.Limits.{Limits as AllLimits}
+use Rattle.relay_config.specs.declared.config.PlaceRule.{PlaceRule}
+use Rattle.flv_tags.specs.Text.{flv_text}
+use Rattle.media_recorder.specs.Ports.{FitsIf}
+use Rattle.stream_model.specs.declared.calls.StreamLimits.{StreamLimits}
+use Rattle.stream_registry.specs.Books.{SoleState, SeenState, FitsSole, journal_at, sole_rules}
+use Rattle.stream_registry.specs.declared.names.Name.{Name}
+use Rattle.relay_session.specs.Grants.{granted_from}
+use Rattle.relay_session.specs.Places.{IsAt}
+use Rattle.relay_session.specs.SessionState.{SessionState}
+use Rattle.relay_session.specs.declared.end.End.{End}
+use Rattle.relay_script.specs.declared.replay.ReplayLine.{ReplayLine}
+use Rattle.relay_script.specs.declared.replay.ReplayLine.TheVariants.{Nothing, Limits, Stream, Guard, Recorder, Session, Piece, Eof, Room, FailRecv, FailSend}
+use Rattle.relay_script.specs.declared.replay.ReplayLine.TheVariants.{FailPut, Turn, Rec, Quit}
+use Rattle.relay_replay.specs.Stand.{Stand, defaults, after}
+use Rattle.relay_replay.specs.Cast.{ConnState, RecState, CastState}
+use Rattle.relay_replay.specs.Plays.{Plays}
+
+pub record SceneState : Type 0 where
+  -- no line has done something
+  pub fresh : Bool
+  pub limits : AllLimits
+  pub places : List PlaceRule
+  -- the stream of each recorder
+  pub recorders : List ℕ
+  -- what runs, once a line has acted
+  pub cast : Option CastState
+
+abbrev pub start : SceneState
+start = record { fresh = true; limits = defaults; places = []; recorders = []; cast = None }
+
+-- what its lines have said
+abbrev pub stand_of : SceneState → Stand
+stand_of s = record {
+  fresh = s.fresh;
+  limits = s.limits;
+  places = s.places;
+  recorders = s.recorders;
+  sessions = option_map (λ c. length c.sessions) s.cast;
+}
+
+-- ---- what runs at first
+
+abbrev pub stream_limits : AllLimits → StreamLimits
+stream_limits l = record { bytes = l.ring_bytes; items = l.ring_items; players = l.players }
+
+abbrev pub name_of : PlaceRule → Name
+name_of p = record { app = p.app; name = p.name }
+
+-- a recorder of that name at that place, which has made no call. The text of no items is pending
+pub record IsNewRecorder (who place : ℕ) (r : RecState) : Type 0 where
+  pub seat : r.recorder.seat ≡ record { who = who; place = place; pass = None; calls = [] }
+  pub player : r.recorder.player ≡ None
+  pub tape : (r.recorder.tape.items ≡ []) × (r.recorder.tape.sent ≡ []) × (r.recorder.tape.pending ≡ flv_text [])
+  pub live : r.recorder.end ≡ None
+  pub file : r.file ≡ record { bytes = []; put_fails = false; faults = 0 }
+  pub ended : r.ended ≡ None
+
+-- a recorder at each of these places, named by its number from n on
+abbrev pub AreNew : ℕ → List ℕ → List RecState → Type 0
+AreNew n [] [] = Unit {0}
+AreNew n [] (r ∷ rs) = ⊥
+AreNew n (p ∷ ps) [] = ⊥
+AreNew n (p ∷ ps) (r ∷ rs) = IsNewRecorder (2 ^ 60 + n) p r × AreNew (n + 1) ps rs
+
+-- EMPTY HISTORIES, no session, and a fresh recorder for each that was named
+pub record IsNewCast (s : SceneState) (c : CastState) : Type 0 where
+  pub names : c.port.rules.names ≡ map name_of s.places
+  pub limits : c.port.rules.limits ≡ stream_limits s.limits
+  pub empty : (q : ℕ) → journal_at c.port.books q ≡ []
+  pub sessions : c.sessions ≡ []
+  pub recorders : AreNew 0 s.recorders c.recorders
+
+abbrev pub IsOpen : Option CastState → SceneState → CastState → Type 0
+IsOpen None s c = IsNewCast s c
+IsOpen (Some d) s c = c ≡ d
+
+-- ---- one line
+
+-- whether it acts, and doesn't only say what is to run
+abbrev pub is_acting : ReplayLine → Bool
+is_acting Nothing = false
+is_acting (Limits message bytes items players window) = false
+is_acting (Stream app name) = false
+is_acting (Guard n side mode key) = false
+is_acting (Recorder n form) = false
+is_acting _ = true
+
+pub record Acts (line : ReplayLine) (s t : SceneState) : Type 0 where
+  pub before : CastState
+  pub opened : IsOpen s.cast s before
+  pub now : CastState
+  pub plays : Plays s.limits (granted_from 0 s.places) line before now
+  pub cast : t.cast ≡ Some now
+
+abbrev pub CastBy : Bool → ReplayLine → SceneState → SceneState → Type 0
+CastBy false line s t = t.cast ≡ s.cast
+CastBy true line s t = Acts line s t
+
+-- WHAT A LINE DOES
+pub record Does (line : ReplayLine) (s t : SceneState) : Type 0 where
+  pub stand : stand_of t ≡ after line (stand_of s)
+  pub cast : CastBy (is_acting line) line s t
+
+-- ---- what stays true
+
+-- a session that lives belongs to the streams
+abbrev pub ReadyBy : Option End → SoleState → SessionState SeenState → Type 0
+ReadyBy None port s = IsAt (FitsSole port) (length (sole_rules port.rules).names) s.parts s.seat
+ReadyBy (Some e) port s = Unit {0}
+
+abbrev pub Ready : SoleState → ConnState → Type 0
+Ready port c = ReadyBy c.ended port c.session
+
+-- and so does a recorder
+abbrev pub Fits : SoleState → RecState → Type 0
+Fits port r = (r.recorder.seat.place < length (sole_rules port.rules).names) × FitsIf (FitsSole port r.recorder.seat.place) r.recorder.seat.pass
+
+-- of so many streams and recorders
+pub record Sits (streams files : ℕ) (c : CastState) : Type 0 where
+  pub names : length (sole_rules c.port.rules).names ≡ streams
+  pub few : length c.sessions ≤ 64
+  pub sessions : All (Ready c.port) c.sessions
+  pub count : length c.recorders ≡ files
+  pub recorders : All (Fits c.port) c.recorders
+
+abbrev pub SitsIf : ℕ → ℕ → Option CastState → Type 0
+SitsIf streams recorders None = Unit {0}
+SitsIf streams recorders (Some c) = Sits streams recorders c
+
+pub record IsSound (s : SceneState) : Type 0 where
+  pub message : s.limits.max_message ≤ 4194304
+  pub ring : s.limits.ring_bytes ≤ 268435456
+  pub few : length s.places ≤ 64
+  pub recorders : All (λ p. p < length s.places) s.recorders
+  pub cast : SitsIf (length s.places) (length s.recorders) s.cast
+
+-- the session or recorder that it names is there, and a session more finds room
+abbrev pub IsThere : ReplayLine → CastState → Type 0
+IsThere Session c = length c.sessions < 64
+IsThere (Piece n bytes) c = n < length c.sessions
+IsThere (Eof n) c = n < length c.sessions
+IsThere (Room n left) c = n < length c.sessions
+IsThere (FailRecv n) c = n < length c.sessions
+IsThere (FailSend n) c = n < length c.sessions
+IsThere (FailPut n) c = n < length c.recorders
+IsThere (Turn n k) c = n < length c.sessions
+IsThere (Rec n k) c = n < length c.recorders
+IsThere (Quit n) c = n < length c.sessions
+IsThere _ c = Unit {0}
+
+-- how many sessions are open after a line
+abbrev pub opened_by : ReplayLine → ℕ → ℕ
+opened_by Session n = n + 1
+opened_by _ n = n

@@ -1,0 +1,136 @@
+-- Where in a script a line may stand, and what the lines before the first that acts say.
+use Rattle.std.specs.Prelude.{ℕ, ◌+◌, Bool, true, false, not, ◌&&◌, ◌||◌, if◌then◌else◌, nat_eq, nat_le, nat_lt, List, [], ◌∷◌, ◌++◌, length, slice_get, slice_set, None, Some}
+use Rattle.std.specs.declared.option.Option.{Option}
+use Rattle.std.specs.List.{list_any}
+use Rattle.std.specs.Cmp.Lexicographic.{pointwise}
+use Rattle.key_guard.specs.declared.check.Grants.{Grants}
+use Rattle.key_guard.specs.declared.check.Grants.TheVariants.{Open, Keys}
+use Rattle.key_guard.specs.declared.check.Mode.{Mode}
+use Rattle.key_guard.specs.declared.check.Mode.TheVariants.{Plain, Digest}
+use Rattle.relay_base.specs.declared.limits.Limits.{Limits as AllLimits}
+use Rattle.relay_config.specs.declared.config.PlaceRule.{PlaceRule}
+use Rattle.relay_script.specs.declared.replay.Side.{Side}
+use Rattle.relay_script.specs.declared.replay.Side.TheVariants.{Publish, Play}
+use Rattle.relay_script.specs.declared.replay.ReplayLine.{ReplayLine}
+use Rattle.relay_script.specs.declared.replay.ReplayLine.TheVariants.{Nothing, Limits, Stream, Guard, Recorder, Session, Piece, Eof, Room, FailRecv, FailSend}
+use Rattle.relay_script.specs.declared.replay.ReplayLine.TheVariants.{FailPut, Turn, Rec, All, Quit}
+
+-- what the lines so far have said
+pub record Stand : Type 0 where
+  -- no line has done something
+  pub fresh : Bool
+  pub limits : AllLimits
+  -- the streams with their keys
+  pub places : List PlaceRule
+  -- the stream of each recorder
+  pub recorders : List ℕ
+  -- how many sessions were opened, once a line has acted
+  pub sessions : Option ℕ
+
+-- the limits of a relay of which the script says none
+abbrev pub defaults : AllLimits
+defaults = record { max_message = 4194304; ring_bytes = 33554432; ring_items = 16384; players = 256; window = 2500000 }
+
+-- no line has acted
+abbrev pub is_setting : Option ℕ → Bool
+is_setting None = true
+is_setting (Some n) = false
+
+abbrev pub count : Option ℕ → ℕ
+count None = 0
+count (Some n) = n
+
+-- ---- streams and their keys
+
+abbrev pub is_pair : List ℕ → List ℕ → PlaceRule → Bool
+is_pair app name p = pointwise nat_eq p.app app && pointwise nat_eq p.name name
+
+-- a stream that takes every key
+abbrev pub open_place : List ℕ → List ℕ → PlaceRule
+open_place app name = record { app = app; name = name; publish = Open; play = Open; mode = Plain; flv = None; ts = None }
+
+abbrev pub same_mode : Mode → Mode → Bool
+same_mode Plain Plain = true
+same_mode Plain Digest = false
+same_mode Digest Plain = false
+same_mode Digest Digest = true
+
+abbrev pub is_open : Grants → Bool
+is_open Open = true
+is_open (Keys keys) = false
+
+-- all keys of a stream have one mode
+abbrev pub takes_mode : PlaceRule → Mode → Bool
+takes_mode p mode = same_mode p.mode mode || (is_open p.publish && is_open p.play)
+
+abbrev pub takes_at : Option PlaceRule → Mode → Bool
+takes_at None mode = false
+takes_at (Some p) mode = takes_mode p mode
+
+abbrev pub with_key : Grants → List ℕ → Grants
+with_key Open key = Keys (key ∷ [])
+with_key (Keys keys) key = Keys (keys ++ key ∷ [])
+
+-- a stream with one key more
+abbrev pub keyed : PlaceRule → Side → Mode → List ℕ → PlaceRule
+keyed p Publish mode key = record { app = p.app; name = p.name; publish = with_key p.publish key; play = p.play; mode = mode; flv = p.flv; ts = p.ts }
+keyed p Play mode key = record { app = p.app; name = p.name; publish = p.publish; play = with_key p.play key; mode = mode; flv = p.flv; ts = p.ts }
+
+abbrev pub keyed_at : List PlaceRule → ℕ → Option PlaceRule → Side → Mode → List ℕ → List PlaceRule
+keyed_at places n None side mode key = places
+keyed_at places n (Some p) side mode key = slice_set places n (keyed p side mode key)
+
+-- ---- where a line may stand
+
+abbrev pub has_session : ℕ → Stand → Bool
+has_session n s = nat_lt n (count s.sessions)
+
+abbrev pub has_recorder : ℕ → Stand → Bool
+has_recorder n s = nat_lt n (length s.recorders)
+
+abbrev pub allows : ReplayLine → Stand → Bool
+allows Nothing s = true
+allows (Limits message bytes items players window) s = s.fresh && (nat_le message 4194304 && nat_le bytes 268435456)
+allows (Stream app name) s = is_setting s.sessions && (nat_lt (length s.places) 64 && not (list_any (is_pair app name) s.places))
+allows (Guard n side mode key) s = is_setting s.sessions && takes_at (slice_get s.places n) mode
+allows (Recorder n form) s = is_setting s.sessions && nat_lt n (length s.places)
+allows Session s = nat_lt (count s.sessions) 64
+allows (Piece n bytes) s = has_session n s
+allows (Eof n) s = has_session n s
+allows (Room n left) s = has_session n s
+allows (FailRecv n) s = has_session n s
+allows (FailSend n) s = has_session n s
+allows (FailPut n) s = has_recorder n s
+allows (Turn n k) s = has_session n s
+allows (Rec n k) s = has_recorder n s
+allows (All k) s = true
+allows (Quit n) s = has_session n s
+
+-- ---- what a line says
+
+-- a line has acted, and so many sessions are open
+abbrev pub acted : ℕ → Stand → Stand
+acted n s = record { fresh = false; limits = s.limits; places = s.places; recorders = s.recorders; sessions = Some n }
+
+abbrev pub with_places : List PlaceRule → Stand → Stand
+with_places places s = record { fresh = false; limits = s.limits; places = places; recorders = s.recorders; sessions = s.sessions }
+
+abbrev pub after : ReplayLine → Stand → Stand
+after Nothing s = s
+after (Limits message bytes items players window) s = record {
+  fresh = false;
+  limits = record { max_message = message; ring_bytes = bytes; ring_items = items; players = players; window = window };
+  places = s.places;
+  recorders = s.recorders;
+  sessions = s.sessions;
+}
+after (Stream app name) s = with_places (s.places ++ open_place app name ∷ []) s
+after (Guard n side mode key) s = with_places (keyed_at s.places n (slice_get s.places n) side mode key) s
+after (Recorder n form) s = record { fresh = false; limits = s.limits; places = s.places; recorders = s.recorders ++ n ∷ []; sessions = s.sessions }
+after Session s = acted (count s.sessions + 1) s
+after _ s = acted (count s.sessions) s
+
+-- the same of a line that may be outside the grammar by itself
+abbrev pub after_line : Option ReplayLine → Stand → Option Stand
+after_line None s = None
+after_line (Some line) s = if allows line s then Some (after line s) else None

@@ -1,0 +1,196 @@
+ghost use Rattle.std.specs.Prelude.{◌≡◌, ◌<◌, ◌≤◌, [], length, OnOk};
+ghost use Rattle.relay_session.specs.Grants.{granted_from};
+ghost use Rattle.relay_replay.specs.Cast.{Each, Round, RecTurnOf, Times, TurnOf};
+ghost use Rattle.relay_replay.specs.Plays.{Opens, PutFails, Told};
+ghost use Rattle.relay_replay.specs.Scenes.{Sits};
+
+use crate::connection::Connection;
+use crate::recording::Recording;
+use av_unit::OutOfMemory;
+use relay_base::Limits;
+use relay_script::ReplayLine;
+use relay_session::PlaceDesk;
+use std::alloc::Global;
+use std::marker::Model;
+use stream_registry::Sole;
+
+/// All that runs in a replay.
+#[derive(Drop)]
+pub(crate) struct Cast {
+    alloc: Global,
+    port: Sole,
+    sessions: Vec<Connection>,
+    recorders: Vec<Recording>,
+}
+
+impl Model for Cast {
+    ghost use Rattle.relay_replay.specs.Cast.{CastState};
+
+    ghost Value = { CastState };
+
+    ghost view = { λ c. record { port = c.port; sessions = c.sessions.items; recorders = c.recorders.items } };
+}
+
+impl Cast {
+    // These streams and recorders, and no session.
+    pub(crate) fn new(alloc: Global, port: Sole, recorders: Vec<Recording>) -> Cast
+        ensures { result ≡ record { port = port; sessions = []; recorders = recorders.items } }
+    {
+        Cast {
+            alloc,
+            port,
+            sessions: Vec::new(alloc),
+            recorders,
+        }
+    }
+
+    pub(crate) fn sessions(&self) -> &[Connection]
+        ensures { result.now ≡ self.now.sessions }
+    {
+        &self.sessions
+    }
+
+    pub(crate) fn recorders(&self) -> &[Recording]
+        ensures { result.now ≡ self.now.recorders }
+    {
+        &self.recorders
+    }
+
+    pub(crate) fn port(&self) -> &Sole
+        ensures { result.now ≡ self.now.port }
+    {
+        &self.port
+    }
+
+    // Opens a session, named by its number.
+    pub(crate) fn open(&mut self, limits: Limits) -> Result<(), OutOfMemory>
+        requires { limits.max_message ≤ 4194304 }
+        ensures { OnOk result (Opens limits self.old self.new) }
+    {
+        let who = self.sessions.len() as u64;
+        let new = Connection::new(self.alloc, who, limits);
+        self.sessions.push(new)?;
+        Ok(())
+    }
+
+    // Does what a line says of a session.
+    pub(crate) fn tell(&mut self, n: u32, line: ReplayLine) -> Result<(), OutOfMemory>
+        requires { n < length self.old.sessions }
+        ensures { OnOk result (Told line n self.old self.new) }
+    {
+        self.sessions[n as usize].take(line)
+    }
+
+    // Lets the next put of a recorder fail.
+    pub(crate) fn fail_put(&mut self, n: u32)
+        requires { n < length self.old.recorders }
+        ensures { PutFails n self.old self.new }
+    {
+        self.recorders[n as usize].fail_put();
+    }
+
+    // One turn of a session.
+    fn turn(&mut self, n: usize, desk: &PlaceDesk<'_>) -> Result<(), OutOfMemory>
+        requires there { n < length self.old.sessions }
+        requires sits { Sits (length desk.now.list.now) (length self.old.recorders) self.old }
+        ensures turn { OnOk result (TurnOf (granted_from 0 desk.now.list.now) n self.old self.new) }
+        ensures sits { OnOk result (Sits (length desk.now.list.now) (length self.old.recorders) self.new) }
+        ensures count { OnOk result (length self.new.sessions ≡ length self.old.sessions) }
+    {
+        self.sessions[n].turn(self.alloc, &mut self.port, desk)
+    }
+
+    // One turn of a recorder.
+    fn rec(&mut self, n: usize, streams: usize) -> Result<(), OutOfMemory>
+        requires there { n < length self.old.recorders }
+        requires sits { Sits streams (length self.old.recorders) self.old }
+        ensures turn { OnOk result (RecTurnOf n self.old self.new) }
+        ensures sits { OnOk result (Sits streams (length self.old.recorders) self.new) }
+        ensures count { OnOk result (length self.new.sessions ≡ length self.old.sessions) }
+    {
+        self.recorders[n].turn(&mut self.port)
+    }
+
+    // So many turns of a session.
+    pub(crate) fn turns(
+        &mut self,
+        n: u32,
+        count: u32,
+        desk: &PlaceDesk<'_>,
+    ) -> Result<(), OutOfMemory>
+        requires there { n < length self.old.sessions }
+        requires sits { Sits (length desk.now.list.now) (length self.old.recorders) self.old }
+        ensures turns { OnOk result (Times count (TurnOf (granted_from 0 desk.now.list.now) n) self.old self.new) }
+        ensures sits { OnOk result (Sits (length desk.now.list.now) (length self.old.recorders) self.new) }
+        ensures count { OnOk result (length self.new.sessions ≡ length self.old.sessions) }
+    {
+        for _ in 0..count {
+            self.turn(n as usize, desk)?;
+        }
+        Ok(())
+    }
+
+    // So many turns of a recorder, where there are so many streams.
+    pub(crate) fn recs(&mut self, n: u32, count: u32, streams: usize) -> Result<(), OutOfMemory>
+        requires there { n < length self.old.recorders }
+        requires sits { Sits streams (length self.old.recorders) self.old }
+        ensures turns { OnOk result (Times count (RecTurnOf n) self.old self.new) }
+        ensures sits { OnOk result (Sits streams (length self.old.recorders) self.new) }
+        ensures count { OnOk result (length self.new.sessions ≡ length self.old.sessions) }
+    {
+        for _ in 0..count {
+            self.rec(n as usize, streams)?;
+        }
+        Ok(())
+    }
+
+    // A turn of each session.
+    fn each_session(&mut self, desk: &PlaceDesk<'_>) -> Result<(), OutOfMemory>
+        requires sits { Sits (length desk.now.list.now) (length self.old.recorders) self.old }
+        ensures turns { OnOk result (Each (length self.old.sessions) (TurnOf (granted_from 0 desk.now.list.now)) self.old self.new) }
+        ensures sits { OnOk result (Sits (length desk.now.list.now) (length self.old.recorders) self.new) }
+        ensures count { OnOk result (length self.new.sessions ≡ length self.old.sessions) }
+    {
+        for n in 0..self.sessions.len() {
+            self.turn(n, desk)?;
+        }
+        Ok(())
+    }
+
+    // A turn of each recorder.
+    fn each_recorder(&mut self, streams: usize) -> Result<(), OutOfMemory>
+        requires sits { Sits streams (length self.old.recorders) self.old }
+        ensures turns { OnOk result (Each (length self.old.recorders) RecTurnOf self.old self.new) }
+        ensures sits { OnOk result (Sits streams (length self.old.recorders) self.new) }
+        ensures count { OnOk result (length self.new.sessions ≡ length self.old.sessions) }
+    {
+        for n in 0..self.recorders.len() {
+            self.rec(n, streams)?;
+        }
+        Ok(())
+    }
+
+    // A round: a turn of each session, then one of each recorder.
+    fn round(&mut self, desk: &PlaceDesk<'_>) -> Result<(), OutOfMemory>
+        requires sits { Sits (length desk.now.list.now) (length self.old.recorders) self.old }
+        ensures round { OnOk result (Round (granted_from 0 desk.now.list.now) self.old self.new) }
+        ensures sits { OnOk result (Sits (length desk.now.list.now) (length self.old.recorders) self.new) }
+        ensures count { OnOk result (length self.new.sessions ≡ length self.old.sessions) }
+    {
+        self.each_session(desk)?;
+        self.each_recorder(desk.list.len())
+    }
+
+    // So many rounds.
+    pub(crate) fn rounds(&mut self, count: u32, desk: &PlaceDesk<'_>) -> Result<(), OutOfMemory>
+        requires sits { Sits (length desk.now.list.now) (length self.old.recorders) self.old }
+        ensures rounds { OnOk result (Times count (Round (granted_from 0 desk.now.list.now)) self.old self.new) }
+        ensures sits { OnOk result (Sits (length desk.now.list.now) (length self.old.recorders) self.new) }
+        ensures count { OnOk result (length self.new.sessions ≡ length self.old.sessions) }
+    {
+        for _ in 0..count {
+            self.round(desk)?;
+        }
+        Ok(())
+    }
+}

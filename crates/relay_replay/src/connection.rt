@@ -1,0 +1,155 @@
+ghost use Rattle.std.specs.Prelude.{◌≡◌, ◌≤◌, ℕ, [], length, OnOk, Some, None};
+ghost use Rattle.relay_session.specs.Grants.{granted_from};
+ghost use Rattle.relay_session.specs.Places.{IsAt, IsOffered};
+ghost use Rattle.relay_session.specs.SeatState.{HasFit};
+ghost use Rattle.stream_registry.specs.Books.{FitsSole, SeenState, sole_rules};
+ghost use Rattle.relay_replay.specs.Cast.{SessionTurn, AfterTurn, IsClosed};
+ghost use Rattle.relay_replay.specs.Prints.{Holds};
+ghost use Rattle.relay_replay.specs.Plays.{IsNewSession, told_of};
+ghost use Rattle.relay_replay.specs.Scenes.{Ready, ReadyBy};
+
+use av_unit::OutOfMemory;
+use relay_base::Limits;
+use relay_outside::MemLink;
+use relay_script::ReplayLine;
+use relay_session::{End, Leaving, PlaceDesk, Session, Turn};
+use std::alloc::Global;
+use std::marker::Model;
+use stream_registry::Sole;
+
+/// A session with its link.
+#[derive(Drop)]
+pub(crate) struct Connection {
+    session: Session<Sole>,
+    link: MemLink,
+    ended: Option<End>,
+}
+
+impl Model for Connection {
+    ghost use Rattle.relay_replay.specs.Cast.{ConnState};
+
+    ghost Value = { ConnState };
+
+    ghost view = { λ c. record { session = c.session; link = c.link; ended = c.ended } };
+}
+
+impl Connection {
+    // A session of that name, with room for all.
+    pub(crate) fn new(alloc: Global, who: u64, limits: Limits) -> Connection
+        requires { limits.max_message ≤ 4194304 }
+        ensures { IsNewSession limits who result }
+    {
+        Connection {
+            session: Session::new(alloc, who, limits),
+            link: MemLink::new(alloc),
+            ended: None,
+        }
+    }
+
+    pub(crate) fn sent(&self) -> &[u8]
+        ensures { result.now ≡ self.now.link.sent }
+    {
+        self.link.sent()
+    }
+
+    pub(crate) fn ended(&self) -> Option<End>
+        ensures { result ≡ self.now.ended }
+    {
+        self.ended
+    }
+
+    // What it holds, in bytes: nothing, where it has ended.
+    pub(crate) fn held(&self) -> u64
+        ensures { Holds self.now result }
+    {
+        match self.ended {
+            None => self.session.held(),
+            Some(_) => 0,
+        }
+    }
+
+    // Does what a line says of the session.
+    pub(crate) fn take(&mut self, line: ReplayLine) -> Result<(), OutOfMemory>
+        ensures { OnOk result (self.new ≡ told_of line self.old) }
+    {
+        match line {
+            ReplayLine::Piece { session: _, bytes } => {
+                let Ok(()) = self.link.give(bytes.into_vec()) else {
+                    return Err(OutOfMemory);
+                };
+            }
+            ReplayLine::Eof(_) => self.link.end(),
+            ReplayLine::Room { session: _, left } => self.link.room(left),
+            ReplayLine::FailRecv(_) => self.link.fail_recv(),
+            ReplayLine::FailSend(_) => self.link.fail_send(),
+            ReplayLine::Quit(_) => self.session.quit(),
+            _ => {}
+        }
+        Ok(())
+    }
+
+    // One turn, unless it has ended. One that ends is closed at once.
+    pub(crate) fn turn(
+        &mut self,
+        alloc: Global,
+        port: &mut Sole,
+        desk: &PlaceDesk<'_>,
+    ) -> Result<(), OutOfMemory>
+        requires ready { Ready port.old self.old }
+        requires offered { IsOffered (granted_from 0 desk.now.list.now) (length (sole_rules port.old.rules).names) }
+        ensures turn { OnOk result (SessionTurn self.old.ended (granted_from 0 desk.now.list.now) port.old self.old port.new self.new) }
+        ensures ready { OnOk result (Ready port.new self.new) }
+        ensures fixed { sole_rules port.new.rules ≡ sole_rules port.old.rules }
+        ensures fits { (q : ℕ) (p : SeenState) → FitsSole port.old q p → FitsSole port.new q p }
+    {
+        if self.ended.is_some() {
+            return Ok(());
+        }
+        let answer = self.session.turn(alloc, port, &mut self.link, desk);
+        after(&mut self.session, &mut self.ended, port, answer)
+    }
+}
+
+// What a turn's answer leads to.
+fn after(
+    session: &mut Session<Sole>,
+    ended: &mut Option<End>,
+    port: &mut Sole,
+    answer: Turn,
+) -> Result<(), OutOfMemory>
+    requires at { IsAt (FitsSole port.old) (length (sole_rules port.old.rules).names) session.old.parts session.old.seat }
+    requires live { ended.old ≡ None }
+    ensures leads { OnOk result (AfterTurn answer session.old port.old session.new ended.new port.new) }
+    ensures ready { OnOk result (ReadyBy ended.new port.new session.new) }
+    ensures fixed { sole_rules port.new.rules ≡ sole_rules port.old.rules }
+    ensures fits { (q : ℕ) (p : SeenState) → FitsSole port.old q p → FitsSole port.new q p }
+{
+    match answer {
+        Turn::Moved => Ok(()),
+        Turn::Idle => Ok(()),
+        Turn::Ended(End::OutOfMemory) => Err(OutOfMemory),
+        Turn::Ended(end) => close(session, ended, port, end),
+    }
+}
+
+// Closes a session that has ended so. Where the streams don't let it leave there was no memory for its calls.
+fn close(
+    session: &mut Session<Sole>,
+    ended: &mut Option<End>,
+    port: &mut Sole,
+    end: End,
+) -> Result<(), OutOfMemory>
+    requires { HasFit (FitsSole port.old) session.old.seat.spot }
+    ensures closed { OnOk result (IsClosed port.old session.old port.new session.new) }
+    ensures ended { ended.new ≡ Some end }
+    ensures fixed { sole_rules port.new.rules ≡ sole_rules port.old.rules }
+    ensures fits { (q : ℕ) (p : SeenState) → FitsSole port.old q p → FitsSole port.new q p }
+{
+    *ended = Some(end);
+    match session.close(port) {
+        Leaving::Done => Ok(()),
+        Leaving::Worn => Ok(()),
+        Leaving::Busy => Err(OutOfMemory),
+        Leaving::OutOfMemory => Err(OutOfMemory),
+    }
+}

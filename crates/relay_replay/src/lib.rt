@@ -1,0 +1,15 @@
+//! What the script of a replay does: its streams with their keys, its recorders and its sessions, and what is printed of them at
+//! its end.
+//!
+//! A [`Scene`] takes the lines of a script one after another. Links and files are in memory, and the streams are those of one
+//! thread, so what is printed follows from the script alone.
+#![tactic(auto)]
+
+mod cast;
+mod connection;
+mod file;
+mod recording;
+mod report;
+mod scene;
+
+pub use scene::Scene;

@@ -1,0 +1,239 @@
+ghost use Rattle.std.specs.Prelude.{◌≡◌, ◌+◌, ◌++◌, ◌≤◌, ◌<◌, length, IfOk, OnOk, string_bytes};
+ghost use Rattle.relay_replay.specs.Scenes.{SceneState};
+ghost use Rattle.relay_replay.specs.Prints.{cause_text, end_text, rec_end_text, hex_text, session_lines, recorder_lines, stream_line, held_line};
+ghost use Rattle.relay_replay.specs.Prints.{sessions_text, recorders_text, streams_text, IsReport, IsTotal, SessionsHold, recorders_hold, streams_hold};
+
+use crate::cast::Cast;
+use crate::connection::Connection;
+use crate::recording::Recording;
+use av_unit::{Bytes, OutOfMemory};
+use chunk_reader::ReadCause;
+use media_recorder::RecEnd;
+use relay_base::Limits;
+use relay_config::sum_of;
+use relay_session::End;
+use std::alloc::Global;
+use stream_registry::Sole;
+
+fn cause_text(cause: ReadCause) -> &'static str
+    ensures { result.now ≡ cause_text cause }
+{
+    match cause {
+        ReadCause::NoHead { id: _ } => "nohead",
+        ReadCause::TooManyIds => "toomanyids",
+        ReadCause::TooLong { length: _ } => "toolong",
+        ReadCause::TooMuch => "toomuch",
+        ReadCause::BadChunkSize { value: _ } => "badchunksize",
+        ReadCause::OutOfMemory => "outofmemory",
+        ReadCause::TooFar => "toofar",
+    }
+}
+
+fn bad_chunk_text(alloc: Global, cause: ReadCause, at: u64) -> Result<String, OutOfMemory>
+    ensures { IfOk result (λ text. string_bytes text ≡ end_text (Some (End.BadChunk cause at))) }
+{
+    let cause = cause_text(cause);
+    Ok(format!(in alloc; "badchunk {cause} {at}")?)
+}
+
+// How a session ended.
+fn end_text(alloc: Global, end: Option<End>) -> Result<String, OutOfMemory>
+    ensures { IfOk result (λ text. string_bytes text ≡ end_text end) }
+{
+    match end {
+        None => Ok(format!(in alloc; "none")?),
+        Some(End::PeerClosed) => Ok(format!(in alloc; "peerclosed")?),
+        Some(End::LinkFault) => Ok(format!(in alloc; "linkfault")?),
+        Some(End::BadVersion { at }) => Ok(format!(in alloc; "badversion {at}")?),
+        Some(End::BadChunk { cause, at }) => bad_chunk_text(alloc, cause, at),
+        Some(End::BadControl { at }) => Ok(format!(in alloc; "badcontrol {at}")?),
+        Some(End::BadCommand { at }) => Ok(format!(in alloc; "badcommand {at}")?),
+        Some(End::TooManyStreams { at }) => Ok(format!(in alloc; "toomanystreams {at}")?),
+        Some(End::Quit) => Ok(format!(in alloc; "quit")?),
+        Some(End::Worn) => Ok(format!(in alloc; "worn")?),
+        Some(End::OutOfMemory) => Ok(format!(in alloc; "outofmemory")?),
+    }
+}
+
+// How a recorder ended.
+fn rec_end_text(alloc: Global, end: Option<RecEnd>) -> Result<String, OutOfMemory>
+    ensures { IfOk result (λ text. string_bytes text ≡ rec_end_text end) }
+{
+    match end {
+        None => Ok(format!(in alloc; "none")?),
+        Some(RecEnd::SinkFault) => Ok(format!(in alloc; "sinkfault")?),
+        Some(RecEnd::Full) => Ok(format!(in alloc; "full")?),
+        Some(RecEnd::Worn) => Ok(format!(in alloc; "worn")?),
+        Some(RecEnd::OutOfMemory) => Ok(format!(in alloc; "outofmemory")?),
+    }
+}
+
+// Bytes as digits, or `-` for none.
+fn hex_text(alloc: Global, bytes: &[u8]) -> Result<String, OutOfMemory>
+    ensures { IfOk result (λ text. string_bytes text ≡ hex_text bytes.now) }
+{
+    if bytes.is_empty() {
+        return Ok(format!(in alloc; "-")?);
+    }
+    Ok(hex::encode(alloc, bytes)?)
+}
+
+fn session_text(alloc: Global, n: u64, sent: &[u8], end: Option<End>) -> Result<String, OutOfMemory>
+    ensures { IfOk result (λ text. string_bytes text ≡ session_lines n sent.now end) }
+{
+    let sent = hex_text(alloc, sent)?;
+    let end = end_text(alloc, end)?;
+    Ok(format!(in alloc; "session {n} sent {sent}\nsession {n} end {end}\n")?)
+}
+
+fn recorder_text(
+    alloc: Global,
+    n: u64,
+    bytes: &[u8],
+    end: Option<RecEnd>,
+) -> Result<String, OutOfMemory>
+    ensures { IfOk result (λ text. string_bytes text ≡ recorder_lines n bytes.now end) }
+{
+    let bytes = hex_text(alloc, bytes)?;
+    let end = rec_end_text(alloc, end)?;
+    Ok(format!(in alloc; "recorder {n} file {bytes}\nrecorder {n} end {end}\n")?)
+}
+
+fn stream_text(alloc: Global, n: u32, held: u64) -> Result<String, OutOfMemory>
+    ensures { IfOk result (λ text. string_bytes text ≡ stream_line n held) }
+{
+    Ok(format!(in alloc; "stream {n} held {held}\n")?)
+}
+
+fn held_text(alloc: Global, total: u64, sum: u64) -> Result<String, OutOfMemory>
+    ensures { IfOk result (λ text. string_bytes text ≡ held_line total sum) }
+{
+    Ok(format!(in alloc; "held {total} sum {sum}\n")?)
+}
+
+// Adds the lines of all sessions.
+fn all_sessions(alloc: Global, sessions: &[Connection], out: &mut Bytes) -> Result<(), OutOfMemory>
+    ensures { OnOk result (out.new ≡ out.old ++ sessions_text 0 sessions.now) }
+{
+    let mut n: u64 = 0;
+    let mut left = sessions;
+    while let [session, rest @ ..] = left {
+        let text = session_text(alloc, n, session.sent(), session.ended())?;
+        out.append(text.as_str().as_bytes())?;
+        n += 1;
+        left = rest;
+    }
+    Ok(())
+}
+
+// Adds the lines of all recorders.
+fn all_recorders(alloc: Global, recorders: &[Recording], out: &mut Bytes) -> Result<(), OutOfMemory>
+    ensures { OnOk result (out.new ≡ out.old ++ recorders_text 0 recorders.now) }
+{
+    let mut n: u64 = 0;
+    let mut left = recorders;
+    while let [recorder, rest @ ..] = left {
+        let text = recorder_text(alloc, n, recorder.bytes(), recorder.ended())?;
+        out.append(text.as_str().as_bytes())?;
+        n += 1;
+        left = rest;
+    }
+    Ok(())
+}
+
+// Adds the lines of so many streams.
+fn all_streams(alloc: Global, streams: u32, port: &Sole, out: &mut Bytes) -> Result<(), OutOfMemory>
+    requires { streams ≤ length port.now.rules.names }
+    ensures { OnOk result (out.new ≡ out.old ++ streams_text port.now streams) }
+{
+    for n in 0..streams {
+        let text = stream_text(alloc, n, port.held(n))?;
+        out.append(text.as_str().as_bytes())?;
+    }
+    Ok(())
+}
+
+// A number more. No memory holds as many bytes as it can count.
+fn more(total: u64, n: u64) -> Result<u64, OutOfMemory>
+    ensures { IfOk result (λ sum. sum ≡ total + n) }
+{
+    match total.checked_add(n) {
+        Some(sum) => Ok(sum),
+        None => Err(OutOfMemory),
+    }
+}
+
+// What the sessions hold that are open.
+fn sessions_hold(sessions: &[Connection]) -> Result<u64, OutOfMemory>
+    ensures { IfOk result (λ n. SessionsHold sessions.now n) }
+{
+    let mut total: u64 = 0;
+    for i in 0..sessions.len() {
+        total = more(total, sessions[i].held())?;
+    }
+    Ok(total)
+}
+
+// What the recorders hold.
+fn recorders_hold(recorders: &[Recording]) -> Result<u64, OutOfMemory>
+    ensures { IfOk result (λ n. n ≡ recorders_hold recorders.now) }
+{
+    let mut total: u64 = 0;
+    let mut left = recorders;
+    while let [recorder, rest @ ..] = left {
+        total = more(total, recorder.held())?;
+        left = rest;
+    }
+    Ok(total)
+}
+
+// What so many streams hold.
+fn streams_hold(streams: u32, port: &Sole) -> Result<u64, OutOfMemory>
+    requires { streams ≤ length port.now.rules.names }
+    ensures { IfOk result (λ n. n ≡ streams_hold port.now streams) }
+{
+    let mut total: u64 = 0;
+    for n in 0..streams {
+        total = more(total, port.held(n))?;
+    }
+    Ok(total)
+}
+
+// What all hold together.
+fn total_of(streams: u32, cast: &Cast) -> Result<u64, OutOfMemory>
+    requires { streams ≤ length cast.now.port.rules.names }
+    ensures { IfOk result (λ n. IsTotal streams cast.now n) }
+{
+    let sessions = sessions_hold(cast.sessions())?;
+    let recorders = recorders_hold(cast.recorders())?;
+    let streams = streams_hold(streams, cast.port())?;
+    more(more(sessions, recorders)?, streams)
+}
+
+// What is printed of so many streams, of the sessions and of the recorders.
+pub(crate) fn report(
+    alloc: Global,
+    limits: &Limits,
+    streams: usize,
+    cast: &Cast,
+) -> Result<Bytes, OutOfMemory>
+    requires ring { limits.now.ring_bytes ≤ 268435456 }
+    requires message { limits.now.max_message ≤ 4194304 }
+    requires names { length cast.now.port.rules.names ≡ streams }
+    requires few { streams ≤ 64 }
+    requires sessions { length cast.now.sessions ≤ 64 }
+    ensures { IfOk result (λ text. IsReport limits.now streams cast.now text) }
+{
+    let Ok(recorders) = u32::try_from(cast.recorders().len()) else {
+        return Err(OutOfMemory);
+    };
+    let streams = streams as u32;
+    let mut out = Bytes::new(alloc);
+    all_sessions(alloc, cast.sessions(), &mut out)?;
+    all_recorders(alloc, cast.recorders(), &mut out)?;
+    all_streams(alloc, streams, cast.port(), &mut out)?;
+    let sum = sum_of(limits, streams, cast.sessions().len() as u32, recorders);
+    let text = held_text(alloc, total_of(streams, cast)?, sum)?;
+    out.append(text.as_str().as_bytes())?;
+    Ok(out)
+}
