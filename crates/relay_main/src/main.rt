@@ -1,11 +1,14 @@
 //! The relay's program: the words of the command line, standard input and output, and the exit code.
 #![tactic(auto)]
 
+ghost use Rattle.std.specs.Prelude.{◌≡◌};
+ghost use Rattle.key_guard.specs.Allowed.{is_allowed};
+
 mod adapters;
 mod texts;
 
 use adapters::{Reading, Writing};
-use key_guard::{Guard, Guards, Mode, by_digest, by_name};
+use key_guard::{Grants, Guard, Guards, Mode, by_digest, by_name};
 use relay_base::Status;
 use relay_program::{Command, command_of, run};
 use std::alloc::{AllocError, Global};
@@ -77,10 +80,24 @@ fn tell_refusal(rt: &HostRuntime, words: &[Vec<u8>], place: u64) {
     };
 }
 
+// Whether the grants allow the key in mode `Plain`.
+fn is_named(grants: &Grants, key: &[u8]) -> bool
+    ensures { result ≡ is_allowed Mode.Plain grants.now key.now }
+{
+    by_name(grants, key)
+}
+
+// Whether the grants allow the key in mode `Digest`.
+fn is_digested(grants: &Grants, key: &[u8]) -> bool
+    ensures { result ≡ is_allowed Mode.Digest grants.now key.now }
+{
+    by_digest(grants, key)
+}
+
 // What judges keys.
 fn guards(alloc: Global) -> Result<Guards, AllocError> {
-    let plain = Guard::new(Mode::Plain, Box::new(alloc, by_name)?);
-    let digest = Guard::new(Mode::Digest, Box::new(alloc, by_digest)?);
+    let plain = Guard::new(Mode::Plain, Box::new(alloc, is_named)?);
+    let digest = Guard::new(Mode::Digest, Box::new(alloc, is_digested)?);
     Ok(Guards::new(plain, digest))
 }
 

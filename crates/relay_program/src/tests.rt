@@ -1,8 +1,9 @@
-ghost use Rattle.std.specs.Prelude.{None};
+ghost use Rattle.std.specs.Prelude.{◌≡◌, None};
+ghost use Rattle.key_guard.specs.Allowed.{is_allowed};
 ghost use Rattle.relay_outside.specs.Put.{PutStep};
 
 use crate::{drill, run};
-use key_guard::{Guard, Guards, Mode, by_digest, by_name};
+use key_guard::{Grants, Guard, Guards, Mode, by_digest, by_name};
 use relay_base::Status;
 use relay_outside::{MemSink, MemSource, Put, Sink};
 use std::alloc::{AllocError, Global};
@@ -24,9 +25,23 @@ fn source(
     Ok(MemSource::new(pieces, fails))
 }
 
+// Whether the grants allow the key in mode `Plain`.
+fn is_named(grants: &Grants, key: &[u8]) -> bool
+    ensures { result ≡ is_allowed Mode.Plain grants.now key.now }
+{
+    by_name(grants, key)
+}
+
+// Whether the grants allow the key in mode `Digest`.
+fn is_digested(grants: &Grants, key: &[u8]) -> bool
+    ensures { result ≡ is_allowed Mode.Digest grants.now key.now }
+{
+    by_digest(grants, key)
+}
+
 fn guards(alloc: Global) -> Result<Guards, Fail> {
-    let plain = Guard::new(Mode::Plain, Box::new(alloc, by_name)?);
-    let digest = Guard::new(Mode::Digest, Box::new(alloc, by_digest)?);
+    let plain = Guard::new(Mode::Plain, Box::new(alloc, is_named)?);
+    let digest = Guard::new(Mode::Digest, Box::new(alloc, is_digested)?);
     Ok(Guards::new(plain, digest))
 }
 
