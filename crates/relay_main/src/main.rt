@@ -11,7 +11,6 @@ use adapters::{Reading, Writing};
 use key_guard::{Grants, Guard, Guards, Mode, by_digest, by_name};
 use relay_base::Status;
 use relay_program::{Command, command_of, run};
-use std::alloc::{AllocError, Global};
 use std::process::ExitCode;
 use std::{env, io};
 use texts::{HELP, USAGE, VERSION};
@@ -94,21 +93,20 @@ fn is_digested(grants: &Grants, key: &[u8]) -> bool
     by_digest(grants, key)
 }
 
-// What judges keys.
-fn guards(alloc: Global) -> Result<Guards, AllocError> {
-    let plain = Guard::new(Mode::Plain, Box::new(alloc, is_named)?);
-    let digest = Guard::new(Mode::Digest, Box::new(alloc, is_digested)?);
-    Ok(Guards::new(plain, digest))
-}
-
 // Runs the command that the words name, and says why it didn't do all of it.
 fn command(rt: &HostRuntime, words: &[Vec<u8>]) -> Status {
-    let Ok(guards) = guards(rt.alloc()) else {
+    let alloc = rt.alloc();
+    let Ok(named) = Box::new(alloc, is_named) else {
         return status(NO_MEMORY);
     };
+    let Ok(digested) = Box::new(alloc, is_digested) else {
+        return status(NO_MEMORY);
+    };
+    let plain = Guard::new(Mode::Plain, named);
+    let guards = Guards::new(plain, Guard::new(Mode::Digest, digested));
     let mut input = Reading::new(rt.reader());
     let mut out = Writing::new(io::writer(rt));
-    let ended = run(rt.alloc(), words, &guards, &mut input, &mut out);
+    let ended = run(alloc, words, &guards, &mut input, &mut out);
     let place = ended.place;
     match ended.code {
         READ_FAULT => tell_fault(rt, "standard input", input.error()),
