@@ -1,3 +1,4 @@
+pub mod Crossing
 pub mod Slabs
 pub mod Sounding
 pub mod Turning

@@ -1,5 +1,5 @@
 -- Workers that run
-use Rattle.std.specs.Prelude.{◌≡◌, ℕ, map}
+use Rattle.std.specs.Prelude.{◌≡◌, ◌<◌, ℕ, List, length, map, slice_index_or}
 use Rattle.slab.specs.Slab.{slab_len}
 use Rattle.relay_outside.specs.Doors.{DoorTold, IsDone}
 use Rattle.stream_registry.specs.Names.{PortRules}
@@ -34,3 +34,7 @@ pub record KeepsOn {P D K Q L : Type 0} (fits : P → ℕ → Q → Type 0) (rul
 pub record HasRun {P D K Q L : Type 0} (doors : D → DoorTold) (w : WorkerState P D K Q L) : Type 0 where
   pub none : slab_len w.bench.sessions ≡ 0
   pub done : IsDone (doors w.bench.door)
+
+-- each element of a list, as a loop over it reads it
+abbrev pub Each : {X : Type 0} → (X → Type 0) → List X → Type 0
+Each {X} P xs = (i : ℕ) (x : X) → i < length xs → x ≡ slice_index_or xs i x → P x

@@ -5,9 +5,11 @@
 mod bench;
 mod recorder;
 mod round;
+mod running;
 mod worker;
 
 pub use bench::{Bench, Seated, Terms};
 pub use recorder::{Parted, Recorder};
 pub use round::Round;
+pub use running::run_all;
 pub use worker::{Finished, Worker};
