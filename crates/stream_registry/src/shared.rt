@@ -187,7 +187,8 @@ impl StreamPort for Shared<Desk> {
         self.ways.detach(place as usize, pass);
     }
 
-    /// As the trait says, and by what the pass then knows of the gate: `Busy` comes exactly where its swap found the turn held.
+    /// As the trait says. The root learns nothing by it. And by what the pass then knows of the gate: `Busy` comes exactly where its
+    /// swap found the turn held.
     fn call(&mut self, place: u32, pass: &mut Pass<Desk>, entry: Entry) -> Result<Reply, PortFail>
         requires { slice_get (gates self.old.roots) place ≡ Some pass.old.gate }
         ensures pass { (slice_get (gates self.new.roots) place ≡ Some pass.new.gate)
@@ -207,6 +208,7 @@ impl StreamPort for Shared<Desk> {
         ensures fixed { shared_rules self.new ≡ shared_rules self.old }
         ensures fits { (q : ℕ) (p : PassKnown Site Attempt) → slice_get (gates self.old.roots) q ≡ Some p.gate
             → slice_get (gates self.new.roots) q ≡ Some p.gate }
+        ensures roots { self.new.roots ≡ self.old.roots }
         ensures free { IfOk result (λ _. pass.new.met ≡ pass.old.met) }
         ensures refused { IfErr result (λ e. IsRefused pass.old entry e pass.new) }
     {
