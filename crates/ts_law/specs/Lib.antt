@@ -1,0 +1,4 @@
+pub mod Packets
+pub mod Leads
+pub mod Pes
+pub mod Bridge

@@ -1,0 +1,9 @@
+//! What is written as a transport stream is read back.
+#![tactic(auto)]
+
+mod laws;
+
+pub use laws::{
+    a_header_is_read, a_packet_is_read, a_pes_packet_is_read, tables_are_read,
+    what_is_written_is_read,
+};
