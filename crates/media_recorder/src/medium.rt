@@ -17,9 +17,10 @@ pub trait Medium: Drop {
     // How many bytes it keeps, beside those that it appended.
     ghost kept: { Self → ℕ };
 
-    /// Appends the text of no items.
+    /// Appends the text of no items. A refusal appends nothing.
     fn begin(alloc: Global, out: &mut Bytes) -> Result<Self, OutOfMemory>
-        ensures { IfOk result (λ m. Begun text out.old out.new (written m) (kept m)) };
+        ensures ok { IfOk result (λ m. Begun text out.old out.new (written m) (kept m)) }
+        ensures err { OnErr result (out.new ≡ out.old) };
 
     /// Appends what the text grows by with this item. A refusal appends nothing.
     fn write(&mut self, item: &Item, out: &mut Bytes) -> Result<(), OutOfMemory>

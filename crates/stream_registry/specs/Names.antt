@@ -11,13 +11,16 @@ use Rattle.stream_registry.specs.declared.names.NotFound.{NotFound}
 abbrev pub IsNamed : Name → List ℕ → List ℕ → Type 0
 IsNamed n app name = (n.app ≡ app) × (n.name ≡ name)
 
+abbrev pub IsNamedAt : List Name → ℕ → List ℕ → List ℕ → Type 0
+IsNamedAt names place app name = (n : Name) × (slice_get names place ≡ Some n) × IsNamed n app name
+
 -- none of the first k has that pair
 abbrev pub NoneNamed : List Name → ℕ → List ℕ → List ℕ → Type 0
 NoneNamed names k app name = (q : ℕ) (n : Name) → q < k → slice_get names q ≡ Some n → IsNamed n app name → ⊥
 
--- a place that has that pair, or none has it
+-- the first place that has that pair, or none has it
 abbrev pub IsPlaceOf : List Name → List ℕ → List ℕ → Result ℕ NotFound → Type 0
-IsPlaceOf names app name (Ok place) = (place < length names) × ((n : Name) × (slice_get names place ≡ Some n) × IsNamed n app name)
+IsPlaceOf names app name (Ok place) = (place < length names) × IsNamedAt names place app name × NoneNamed names place app name
 IsPlaceOf names app name (Err e) = NoneNamed names (length names) app name
 
 -- what never changes of a port

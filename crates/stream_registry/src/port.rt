@@ -52,7 +52,7 @@ pub trait StreamPort: Drop {
     // Whether there may be no memory for this call.
     ghost wants: { Entry → Type 0 };
 
-    /// The place that has a stream of that name. `NotFound` comes exactly where none has it.
+    /// The first place that has a stream of that name. `NotFound` comes exactly where none has it.
     fn find(&self, app: &[u8], name: &[u8]) -> Result<u32, NotFound>
         ensures { IsPlaceOf (rules self.now).names app.now name.now result };
 
