@@ -8,6 +8,10 @@ use std::io;
 use std::io::{Read, Write};
 use std::marker::Model;
 
+mod config_file;
+
+pub use config_file::ConfigFile;
+
 /// A source over a reader, which keeps the last error. Contracts see how often it has failed.
 #[derive(Drop)]
 pub struct Reading<R: Read + Drop> {

@@ -5,14 +5,20 @@ ghost use Rattle.std.specs.Prelude.{◌≡◌};
 ghost use Rattle.key_guard.specs.Allowed.{is_allowed};
 
 mod adapters;
+mod serve;
 mod texts;
 
 use adapters::{Reading, Writing};
 use key_guard::{Grants, Guard, Guards, Mode, by_digest, by_name};
 use relay_base::Status;
 use relay_program::{Command, command_of, run};
+use std::fs::{File, Files};
+use std::io::Eprint;
+use std::net::Net;
 use std::process::ExitCode;
-use std::{env, io};
+use std::sync::Wait;
+use std::thread::Threads;
+use std::{env, io, net};
 use texts::{HELP, USAGE, VERSION};
 
 /// The exit code of a faulty command line.
@@ -93,20 +99,11 @@ fn is_digested(grants: &Grants, key: &[u8]) -> bool
     by_digest(grants, key)
 }
 
-// Runs the command that the words name, and says why it didn't do all of it.
-fn command(rt: &HostRuntime, words: &[Vec<u8>]) -> Status {
-    let alloc = rt.alloc();
-    let Ok(named) = Box::new(alloc, is_named) else {
-        return status(NO_MEMORY);
-    };
-    let Ok(digested) = Box::new(alloc, is_digested) else {
-        return status(NO_MEMORY);
-    };
-    let plain = Guard::new(Mode::Plain, named);
-    let guards = Guards::new(plain, Guard::new(Mode::Digest, digested));
+// Runs the command that the words name from standard input to standard output, and says why it didn't do all of it.
+fn command(rt: &HostRuntime, words: &[Vec<u8>], guards: &Guards) -> Status {
     let mut input = Reading::new(rt.reader());
     let mut out = Writing::new(io::writer(rt));
-    let ended = run(alloc, words, &guards, &mut input, &mut out);
+    let ended = run(rt.alloc(), words, guards, &mut input, &mut out);
     let place = ended.place;
     match ended.code {
         READ_FAULT => tell_fault(rt, "standard input", input.error()),
@@ -123,22 +120,50 @@ fn command(rt: &HostRuntime, words: &[Vec<u8>]) -> Status {
     ended
 }
 
+// Whether the first of the words is `serve`.
+fn is_serve(words: &[Vec<u8>]) -> bool {
+    match words {
+        [word, ..] => word.as_slice() == b"serve".as_slice(),
+        [] => false,
+    }
+}
+
 // Answers the words that ask about the program, and runs the command that others name.
-fn answer(rt: &HostRuntime, words: &[Vec<u8>]) -> Status {
+fn answer<
+    T: Threads
+        + Wait
+        + Sync
+        + Eprint
+        + Files<File = File>
+        + Net<Listener = net::TcpListener, Stream = net::TcpStream>,
+>(host: &HostRuntime, rt: &T, words: &[Vec<u8>]) -> Status {
     if let [word] = words {
         if word.as_slice() == b"--help".as_slice() {
-            return tell(rt, HELP);
+            return tell(host, HELP);
         }
         if word.as_slice() == b"--version".as_slice() {
-            return tell(rt, VERSION);
+            return tell(host, VERSION);
         }
     }
-    command(rt, words)
+    let alloc = host.alloc();
+    let Ok(named) = Box::new(alloc, is_named) else {
+        return status(NO_MEMORY);
+    };
+    let Ok(digested) = Box::new(alloc, is_digested) else {
+        return status(NO_MEMORY);
+    };
+    let plain = Guard::new(Mode::Plain, named);
+    let guards = Guards::new(plain, Guard::new(Mode::Digest, digested));
+    if is_serve(words) {
+        serve::command(host, rt, words, &guards)
+    } else {
+        command(host, words, &guards)
+    }
 }
 
 fn main(rt: HostRuntime) -> ExitCode {
     let Status { code, place } = match words(&rt) {
-        Ok(words) => answer(&rt, &words),
+        Ok(words) => answer(&rt, &rt, &words),
         Err(error) if error.kind() == io::ErrorKind::InvalidData => status(BAD_WORDS),
         Err(_) => status(NO_MEMORY),
     };

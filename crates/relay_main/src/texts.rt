@@ -2,7 +2,8 @@
 
 pub const VERSION: &str = "relay 0.1.0\n";
 
-pub const USAGE: &str = "usage: relay drill < SCRIPT
+pub const USAGE: &str = "usage: relay serve FILE
+       relay drill < SCRIPT
        relay replay < SCRIPT
        relay remux < FLV > TS
        relay check < TS
@@ -12,12 +13,18 @@ pub const USAGE: &str = "usage: relay drill < SCRIPT
 
 pub const HELP: &str = "relay: a live video relay, whose rules are proved
 
-usage: relay drill < SCRIPT
+usage: relay serve FILE
+       relay drill < SCRIPT
        relay replay < SCRIPT
        relay remux < FLV > TS
        relay check < TS
        relay --help
        relay --version
+
+relay serve listens as the configuration in FILE says: encoders publish to it
+over RTMP, players pull from it, and recorders write files. It says on standard
+error where it listens. With a bound on its links it ends when the last is gone,
+and prints a line for each stream; else it serves until it is killed.
 
 relay drill reads a script of calls at one stream on standard input, makes
 each call, and prints its reply on standard output as it goes.
@@ -138,14 +145,16 @@ of a unit's bytes.
 A file has at most 68719476736 bytes.
 
 Exit status:
-  0  the input was read to its end
+  0  the input was read to its end; by serve, all were served
   2  the command line is none of the above; nothing was read or written
-  3  standard input failed
+  3  standard input failed, or the FILE of a configuration
   4  a line of the script is none of the above, or may not stand there; or the
      file is none, or none any more from a byte on. What the lines or the units
-     before give is written, but by replay nothing
+     before give is written, but by replay nothing. By serve, the configuration
+     is refused, and standard output has the first test that it fails
   5  standard output failed
   6  there was too little memory
+  7  the address or a file couldn't be had; nobody was served
   8  the file was read to its end, and a unit of sound or pictures was left out
 Where it isn't 0, the last line on standard error is 'relay: status CODE at
 PLACE'. With code 4 PLACE is the number of the script's line, the first being 1,

@@ -18,7 +18,6 @@ use Rattle.relay_session.specs.contracts.end.End as End
 use Rattle.relay_session.specs.contracts.input.Input as Input
 use Rattle.relay_session.specs.contracts.seat.Seat as Seat
 use Rattle.relay_session.specs.contracts.session.Session as Session
-
 use Rattle.std_heap.specs.contracts.Global as Heap
 use Rattle.std_heap.specs.contracts.GlobalAllocator.TheImpl.{ghosts as heap}
 use Rattle.relay_outside.specs.declared.door.Door.{Ghosts as DoorGhosts}

@@ -19,13 +19,16 @@ returns-clause-keeps g c = λ i d l. let t = (c.for_each_mut.ensures i d l).1 in
 
 pub for_each_mut-requires-clause-accepts : goal.for_each_mut-requires-clause-accepts
 for_each_mut-requires-clause-accepts g c κs within = λ i p l e.
-    let b = c.type_bounds in
-    (c.requires.offered i p.now l e, (
-      record { owned = b.send-P.owned; leaving = λ k. Quiet-if (k (of_param 1)) unseen unseen (λ x w. tt) (λ x w. tt) },
-      record { owned = b.send-D.owned; leaving = λ k. Quiet-if (k (of_param 2)) unseen unseen (λ x w. tt) (λ x w. tt) },
-      record { owned = b.send-R.owned; leaving = λ k. Quiet-if (k (of_param 3)) unseen unseen (λ x w. tt) (λ x w. tt) },
-      record { owned = b.send-K.owned; leaving = λ k. Quiet-if (k (of_param 4)) unseen unseen (λ x w. tt) (λ x w. tt) },
-      record { owned = b.send-P-Pass.owned; leaving = λ k. Quiet-if (k (of_param 6)) unseen unseen (λ x w. tt) (λ x w. tt) },
-      record { owned = b.send-D-Link.owned; leaving = λ k. Quiet-if (k (of_param 7)) unseen unseen (λ x w. tt) (λ x w. tt) },
-      record { shared = b.sync-T.shared },
-      record { shared = b.sync-G.shared }))
+    let b = c.type_bounds in (
+      c.requires.offered i p.now l e,
+      (
+        record { owned = b.send-P.owned; leaving = λ k. Quiet-if (k (of_param 1)) unseen unseen (λ x w. tt) (λ x w. tt) },
+        record { owned = b.send-D.owned; leaving = λ k. Quiet-if (k (of_param 2)) unseen unseen (λ x w. tt) (λ x w. tt) },
+        record { owned = b.send-R.owned; leaving = λ k. Quiet-if (k (of_param 3)) unseen unseen (λ x w. tt) (λ x w. tt) },
+        record { owned = b.send-K.owned; leaving = λ k. Quiet-if (k (of_param 4)) unseen unseen (λ x w. tt) (λ x w. tt) },
+        record { owned = b.send-P-Pass.owned; leaving = λ k. Quiet-if (k (of_param 6)) unseen unseen (λ x w. tt) (λ x w. tt) },
+        record { owned = b.send-D-Link.owned; leaving = λ k. Quiet-if (k (of_param 7)) unseen unseen (λ x w. tt) (λ x w. tt) },
+        record { shared = b.sync-T.shared },
+        record { shared = b.sync-G.shared },
+      ),
+    )

@@ -1,0 +1,63 @@
+//! `relay serve`: the file of the configuration, the real house, and what is said on standard error.
+
+use crate::adapters::{ConfigFile, Reading, Writing};
+use crate::{BAD_INPUT, NO_MEMORY, READ_FAULT, WRITE_FAULT, status, tell_fault};
+use key_guard::Guards;
+use relay_base::Status;
+use relay_edge::RealHouse;
+use relay_serve::serve;
+use std::fs::{File, Files};
+use std::io::Eprint;
+use std::net::Net;
+use std::sync::Wait;
+use std::thread::Threads;
+use std::{io, net, str};
+
+// The name of the configuration's file.
+fn file_name(words: &[Vec<u8>]) -> &str {
+    match words {
+        [_, name] => str::from_utf8(name.as_slice()).unwrap_or(""),
+        _ => "",
+    }
+}
+
+/// Serves by the configuration in the file that the words name, and says why where it didn't.
+pub fn command<
+    T: Threads
+        + Wait
+        + Sync
+        + Eprint
+        + Files<File = File>
+        + Net<Listener = net::TcpListener, Stream = net::TcpStream>,
+>(host: &HostRuntime, rt: &T, words: &[Vec<u8>], guards: &Guards) -> Status {
+    let alloc = host.alloc();
+    let name = file_name(words);
+    let mut config = Reading::new(ConfigFile::open(rt, name));
+    let mut report = Writing::new(io::writer(host));
+    let Ok(mut house) = RealHouse::new(rt, alloc) else {
+        return status(NO_MEMORY);
+    };
+    let ended = serve(
+        rt,
+        alloc,
+        words,
+        guards,
+        &mut config,
+        &mut house,
+        &mut report,
+    );
+    match ended.code {
+        READ_FAULT => tell_fault(host, name, config.error()),
+        BAD_INPUT => {
+            let _ = eprintln!(host;
+                "relay: {name} is no configuration of a relay; standard output has the first test that it fails"
+            );
+        }
+        WRITE_FAULT => tell_fault(host, "standard output", report.error()),
+        NO_MEMORY => {
+            let _ = eprintln!(host; "relay: there was too little memory");
+        }
+        _ => {}
+    }
+    ended
+}

@@ -1,0 +1,58 @@
+-- How it ends, by the parts
+use Rattle.std.proofs.Common.{◌≡◌, ◌≢◌, ◌⊎◌, ℕ, Bool, true, false, List, Option, Some, None, refl, ap, inl, inr}
+use Rattle.std.specs.Prelude.{MatchResult, Result, Ok, Err}
+use Rattle.relay_config.specs.declared.config.Config.{Config}
+use Rattle.relay_config.specs.declared.config.ConfigFail.{ConfigFail}
+use Rattle.relay_config.specs.declared.config.ConfigFail.TheVariants as fail
+use Rattle.relay_config.specs.Accepts.{Accepts, refusal}
+use Rattle.relay_serve.specs.declared.serving.Ending.{Ending}
+use Rattle.relay_serve.specs.declared.serving.Ending.TheVariants as end
+use Rattle.relay_serve.specs.declared.starting.OpenFail.{OpenFail}
+use Rattle.relay_serve.specs.declared.starting.OpenFail.TheVariants as opened
+use Rattle.relay_serve.specs.Ends.{Concludes, EndsAs, HouseCause, Outer, RefusesAs, RunsAs, Seen, outer, seen, unopened_as}
+use Rattle.relay_serve.specs.Places.{asks_ts}
+use Rattle.relay_serve.specs.Taking.{TakesText}
+use Rattle.relay_outside.specs.Houses.{HouseTold}
+
+pub runs_concluded : (config : Config) (held held' : Option (List ℕ)) (faults faults' : ℕ) (house house' : HouseTold) (ending : Ending) → asks_ts config.places ≡ false
+    → house'.faults ≡ house.faults → Concludes config held faults held' faults' ending → RunsAs config (seen held faults house) (seen held' faults' house') ending
+runs_concluded config held held' faults faults' house house' end.Served without h c = (without, c.0, c.1, h)
+runs_concluded config held held' faults faults' house house' end.SinkFault without h c = (without, c, h)
+runs_concluded config held held' faults faults' house house' end.OutOfMemory without h c = (c, h)
+runs_concluded config held held' faults faults' house house' end.HouseFault without h c = absurd c
+runs_concluded config held held' faults faults' house house' end.Transport without h c = absurd c
+runs_concluded config held held' faults faults' house house' end.BadWords without h c = absurd c
+runs_concluded config held held' faults faults' house house' end.SourceFault without h c = absurd c
+runs_concluded config held held' faults faults' house house' end.Refused without h c = absurd c
+
+pub runs_unopened : (config : Config) (held : Option (List ℕ)) (faults : ℕ) (house house' : HouseTold) (cause : OpenFail) → asks_ts config.places ≡ false
+    → HouseCause cause house house' → RunsAs config (seen held faults house) (seen held faults house') (unopened_as cause)
+runs_unopened config held faults house house' opened.HouseFault without h = (without, h, refl, refl)
+runs_unopened config held faults house house' opened.OutOfMemory without h = (refl, ap (λ (x : HouseTold). x.faults) h)
+
+pub ends_accepted : (old new : Outer) (ending : Ending) (bytes : List ℕ) (config : Config) → new.source_faults ≡ old.source_faults
+    → TakesText old.left new.left bytes → Accepts bytes config → RunsAs config old.out new.out ending → EndsAs true old new ending
+ends_accepted old new end.Served bytes config s t a r = (refl, s, record { bytes = bytes; taken = t; config = config; accepts = a; runs = r })
+ends_accepted old new end.SinkFault bytes config s t a r = (refl, s, record { bytes = bytes; taken = t; config = config; accepts = a; runs = r })
+ends_accepted old new end.HouseFault bytes config s t a r = (refl, s, record { bytes = bytes; taken = t; config = config; accepts = a; runs = r })
+ends_accepted old new end.Transport bytes config s t a r = (refl, s, record { bytes = bytes; taken = t; config = config; accepts = a; runs = r })
+ends_accepted old new end.OutOfMemory bytes config s t a r = (refl, s, r.0, r.1)
+ends_accepted old new end.BadWords bytes config s t a r = absurd r
+ends_accepted old new end.SourceFault bytes config s t a r = absurd r
+ends_accepted old new end.Refused bytes config s t a r = absurd r
+
+cause_is : (cause : ConfigFail) (bytes : List ℕ) → cause ≢ fail.OutOfMemory → (cause ≡ fail.OutOfMemory) ⊎ (refusal bytes ≡ Some cause) → refusal bytes ≡ Some cause
+cause_is cause bytes n (inl e) = absurd (n e)
+cause_is cause bytes n (inr e) = e
+
+pub ends_refused : (old new : Outer) (ending : Ending) (bytes : List ℕ) (cause : ConfigFail) → new.source_faults ≡ old.source_faults
+    → TakesText old.left new.left bytes → (cause ≡ fail.OutOfMemory) ⊎ (refusal bytes ≡ Some cause) → new.out.house ≡ old.out.house
+    → RefusesAs cause old.out.held old.out.sink_faults new.out.held new.out.sink_faults ending → EndsAs true old new ending
+ends_refused old new end.Refused bytes cause s t c h r = (refl, s, record { bytes = bytes; taken = t; cause = cause; refused = cause_is cause bytes r.0 c; reported = r.1; house = h })
+ends_refused old new end.OutOfMemory bytes cause s t c h r = (refl, s, r, ap (λ (x : HouseTold). x.faults) h)
+ends_refused old new end.Served bytes cause s t c h r = absurd r
+ends_refused old new end.SinkFault bytes cause s t c h r = absurd r
+ends_refused old new end.HouseFault bytes cause s t c h r = absurd r
+ends_refused old new end.Transport bytes cause s t c h r = absurd r
+ends_refused old new end.BadWords bytes cause s t c h r = absurd r
+ends_refused old new end.SourceFault bytes cause s t c h r = absurd r

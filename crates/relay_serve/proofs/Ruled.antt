@@ -1,0 +1,59 @@
+-- Recorders and passes by the rules of a port
+use Rattle.std.proofs.Common.{◌≡◌, ℕ, ◌<◌, ◌+◌, [], ◌∷◌, ◌++◌, length, length-append, take, sym, ap, ◌∙◌, subst, arith, Some, slice_get}
+use Rattle.std.proofs.lemmas.List.{take_all, take-append-le}
+use Rattle.turn_gate.specs.Known.{GateId}
+use Rattle.stream_registry.specs.declared.names.Name.{Name}
+use Rattle.stream_registry.specs.SharedState.{IsNewPort, limits_of}
+use Rattle.turn_gate.specs.Known.{PassKnown}
+use Rattle.media_recorder.specs.Ports.{FitsIf}
+use Rattle.stream_registry.specs.Names.{PortRules}
+use Rattle.stream_registry.specs.Pasts.{Attempt}
+use Rattle.stream_registry.specs.Roots.{gates}
+use Rattle.stream_registry.specs.SharedState.{Streams, shared_rules}
+use Rattle.stream_registry.specs.declared.desk.Site.{Site}
+use Rattle.relay_worker.specs.declared.recorder.Recorder.{Recorder}
+use Rattle.relay_worker.specs.Filed.{state_of}
+use Rattle.relay_worker.specs.Benches.{IsFiled}
+use Rattle.std.proofs.lemmas.List.Elements.{All-weaker}
+use Rattle.std.specs.Prelude.{All, List}
+use Rattle.relay_serve.specs.Starts.{HasRules, IsFiledBy}
+
+pub popped : {X : Type 0} (xs ys : List X) (x : X) → xs ≡ ys ++ x ∷ [] → length xs ≡ length ys + 1
+popped xs ys x e = ap length e ∙ length-append ys (x ∷ [])
+
+pub kept_all : {X : Type 0} (n : ℕ) (xs ys : List X) → length xs ≡ n → take n (xs ++ ys) ≡ xs
+kept_all {X} n xs ys l = take-append-le n xs ys (omega (arith, l)) ∙ take_all n xs (omega (arith, l))
+
+-- two new ports have the same rules
+pub same_rules : (names : List Name) (ids : List (GateId Site)) (p q : Streams) → IsNewPort names ids p → IsNewPort names ids q → shared_rules p ≡ shared_rules q
+same_rules names ids p q a b =
+    ap (λ (n : List Name). record { names = n; limits = λ place. limits_of (slice_get (gates p.roots) place); gates = gates p.roots }) (a.names_are ∙ sym b.names_are)
+    ∙ ap (λ (h : List (GateId Site)). record { names = q.names; limits = λ place. limits_of (slice_get h place); gates = h }) (a.gates_are ∙ sym b.gates_are)
+
+module _ {K : Type 0} where
+  pub there_at : (rules : PortRules) (port : Streams) (r : Recorder Streams K (PassKnown Site Attempt)) → HasRules rules port → IsFiledBy rules r
+      → (state_of r).seat.place < length (shared_rules port).names
+  there_at rules port r e f = subst (λ (q : PortRules). (state_of r).seat.place < length q.names) (sym e) f.there
+
+  pub fits_at : (rules : PortRules) (port : Streams) (r : Recorder Streams K (PassKnown Site Attempt)) → HasRules rules port → IsFiledBy rules r
+      → FitsIf (λ (p : PassKnown Site Attempt). slice_get (gates port.roots) (state_of r).seat.place ≡ Some p.gate) (state_of r).seat.pass
+  fits_at rules port r e f =
+      subst (λ (q : PortRules). FitsIf (λ (p : PassKnown Site Attempt). slice_get q.gates (state_of r).seat.place ≡ Some p.gate) (state_of r).seat.pass) (sym e) f.fit
+
+  pub filed_by : (rules : PortRules) (port : Streams) (r : Recorder Streams K (PassKnown Site Attempt)) → HasRules rules port
+      → (state_of r).seat.place < length (shared_rules port).names
+      → FitsIf (λ (p : PassKnown Site Attempt). slice_get (gates port.roots) (state_of r).seat.place ≡ Some p.gate) (state_of r).seat.pass → IsFiledBy rules r
+  filed_by rules port r e l f = record {
+    there = subst (λ (q : PortRules). (state_of r).seat.place < length q.names) e l;
+    fit = subst (λ (q : PortRules). FitsIf (λ (p : PassKnown Site Attempt). slice_get q.gates (state_of r).seat.place ≡ Some p.gate) (state_of r).seat.pass) e f;
+  }
+
+  -- by rules that are the same
+  pub filed_again : (rules rules' : PortRules) (rs : List (Recorder Streams K (PassKnown Site Attempt))) → rules ≡ rules' → All (IsFiledBy rules) rs → All (IsFiledBy rules') rs
+  filed_again rules rules' rs e all = subst (λ (q : PortRules). All (IsFiledBy q) rs) e all
+
+  pub filed_all : (rules : PortRules) (port : Streams) (rs : List (Recorder Streams K (PassKnown Site Attempt))) → HasRules rules port
+      → All (IsFiled (λ (place : ℕ) (p : PassKnown Site Attempt). slice_get (gates port.roots) place ≡ Some p.gate) (length (shared_rules port).names)) rs → All (IsFiledBy rules) rs
+  filed_all rules port rs e all =
+      All-weaker (IsFiled (λ (place : ℕ) (p : PassKnown Site Attempt). slice_get (gates port.roots) place ≡ Some p.gate) (length (shared_rules port).names)) (IsFiledBy rules)
+      (λ r f. filed_by rules port r e f.there f.fit) rs all

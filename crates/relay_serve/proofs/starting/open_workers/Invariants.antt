@@ -1,0 +1,17 @@
+use Rattle.std.proofs.Common.{◌≡◌, ◌<◌, ◌≤◌, ◌+◌, length}
+use Rattle.std.specs.Prelude.{All}
+use Rattle.stream_registry.specs.SharedState.{shared_rules}
+use Rattle.relay_serve.specs.Starts.{HasRules}
+use Rattle.relay_serve.proofs.starting.open_workers.Given as goal
+
+abbrev pub invariant-loop-port : goal.invariant-loop-port
+invariant-loop-port g l = record {
+  ports : All (HasRules (shared_rules l.first)) l.ports.items;
+  files : All (λ t. t.place < length (shared_rules l.first).names) l.files.items;
+  workers : All (λ x. HasRules (shared_rules l.first) x.bench.port) l.workers.items;
+  count : length l.workers.items + length l.ports.items ≡ length l.fn.ports.items;
+  house : g.H.House.told l.house ≡ g.H.House.told l.fn.house;
+}
+
+abbrev pub decreases-loop-port : goal.decreases-loop-port
+decreases-loop-port g l = length l.ports.items

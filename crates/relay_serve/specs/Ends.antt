@@ -1,0 +1,157 @@
+-- How `serve` ends
+use Rattle.std.specs.Prelude.{◌≡◌, ◌≢◌, ◌⊎◌, ◌↔◌, ℕ, Bool, true, false, List, Option, Some, None, length}
+use Rattle.std.specs.Io.KnownBytes.{append_known}
+use Rattle.relay_base.specs.declared.limits.Status.{Status}
+use Rattle.relay_config.specs.declared.config.Config.{Config}
+use Rattle.relay_config.specs.declared.config.ConfigFail.{ConfigFail}
+use Rattle.relay_config.specs.declared.config.ConfigFail.TheVariants as fail
+use Rattle.relay_config.specs.Accepts.{Accepts, refusal}
+use Rattle.relay_config.specs.Report.{report_text}
+use Rattle.relay_outside.specs.Counts.{Rose}
+use Rattle.relay_outside.specs.Houses.{HouseTold, Refuses}
+use Rattle.relay_serve.specs.declared.put.PutFail.{PutFail}
+use Rattle.relay_serve.specs.declared.put.PutFail.TheVariants as put
+use Rattle.relay_serve.specs.declared.reading.ReadFail.{ReadFail}
+use Rattle.relay_serve.specs.declared.reading.ReadFail.TheVariants as read
+use Rattle.relay_serve.specs.declared.starting.OpenFail.{OpenFail}
+use Rattle.relay_serve.specs.declared.starting.OpenFail.TheVariants as opened
+use Rattle.relay_serve.specs.declared.serving.Ending.{Ending}
+use Rattle.relay_serve.specs.declared.serving.Ending.TheVariants as end
+use Rattle.relay_serve.specs.Places.{asks_ts}
+use Rattle.relay_serve.specs.Taking.{TakesText}
+use Rattle.relay_serve.specs.Texts.{Counted, WritesPart, lines_from}
+
+-- ---- why a part fails
+
+abbrev pub PutFails : PutFail → List ℕ → Option (List ℕ) → Option (List ℕ) → Type 0
+PutFails put.SinkFault text before now = WritesPart text before now
+PutFails put.OutOfMemory text before now = WritesPart text before now
+
+abbrev pub SinkCause : PutFail → ℕ → ℕ → Type 0
+SinkCause put.SinkFault before now = Rose before now
+SinkCause put.OutOfMemory before now = now ≡ before
+
+abbrev pub SourceCause : ReadFail → ℕ → ℕ → Type 0
+SourceCause read.SourceFault before now = Rose before now
+SourceCause read.OutOfMemory before now = now ≡ before
+
+abbrev pub HouseCause : OpenFail → HouseTold → HouseTold → Type 0
+HouseCause opened.HouseFault before now = Refuses before now
+HouseCause opened.OutOfMemory before now = now ≡ before
+
+-- ---- the codes
+
+-- what is seen of a report and a house: what the report holds, where it tells it, its faults, and what the house tells
+pub record Seen : Type 0 where
+  pub held : Option (List ℕ)
+  pub sink_faults : ℕ
+  pub house : HouseTold
+
+abbrev pub seen : Option (List ℕ) → ℕ → HouseTold → Seen
+seen held sink_faults house = record { held = held; sink_faults = sink_faults; house = house }
+
+-- and of the configuration's file: what is left of it, where it tells that, and its faults
+pub record Outer : Type 0 where
+  pub left : Option (List ℕ)
+  pub source_faults : ℕ
+  pub out : Seen
+
+abbrev pub outer : Option (List ℕ) → ℕ → Seen → Outer
+outer left source_faults out = record { left = left; source_faults = source_faults; out = out }
+
+-- the line of a refused configuration is written, or a first part of it where the sink's faults rose
+abbrev pub WritesOrFails : List ℕ → Option (List ℕ) → ℕ → Option (List ℕ) → ℕ → Type 0
+WritesOrFails text held faults held' faults' = ((held' ≡ append_known held text) × (faults' ≡ faults))
+    ⊎ (WritesPart text held held' × Rose faults faults')
+
+-- the report has a line for each stream
+pub record Reports (config : Config) (held held' : Option (List ℕ)) : Type 0 where
+  pub counts : List (Option Counted)
+  pub each : length counts ≡ length config.places
+  pub written : held' ≡ append_known held (lines_from 0 counts)
+
+-- after the workers: what is written, and how it ends
+abbrev pub Concludes : Config → Option (List ℕ) → ℕ → Option (List ℕ) → ℕ → Ending → Type 0
+Concludes config held faults held' faults' end.Served = Reports config held held' × (faults' ≡ faults)
+Concludes config held faults held' faults' end.SinkFault = Rose faults faults'
+Concludes config held faults held' faults' end.OutOfMemory = faults' ≡ faults
+Concludes config held faults held' faults' end.HouseFault = ⊥
+Concludes config held faults held' faults' end.Transport = ⊥
+Concludes config held faults held' faults' end.BadWords = ⊥
+Concludes config held faults held' faults' end.SourceFault = ⊥
+Concludes config held faults held' faults' end.Refused = ⊥
+
+-- HOW A CONFIGURATION THAT IS ACCEPTED IS SERVED
+abbrev pub RunsAs : Config → Seen → Seen → Ending → Type 0
+RunsAs config old new end.Served = (asks_ts config.places ≡ false) × Reports config old.held new.held × (new.sink_faults ≡ old.sink_faults)
+    × (new.house.faults ≡ old.house.faults)
+RunsAs config old new end.SinkFault = (asks_ts config.places ≡ false) × Rose old.sink_faults new.sink_faults × (new.house.faults ≡ old.house.faults)
+RunsAs config old new end.HouseFault = (asks_ts config.places ≡ false) × Refuses old.house new.house × (new.held ≡ old.held)
+    × (new.sink_faults ≡ old.sink_faults)
+RunsAs config old new end.Transport = (asks_ts config.places ≡ true) × (new ≡ old)
+RunsAs config old new end.OutOfMemory = (new.sink_faults ≡ old.sink_faults) × (new.house.faults ≡ old.house.faults)
+RunsAs config old new end.BadWords = ⊥
+RunsAs config old new end.SourceFault = ⊥
+RunsAs config old new end.Refused = ⊥
+
+-- how it ends where nobody can be served
+abbrev pub unopened_as : OpenFail → Ending
+unopened_as opened.HouseFault = end.HouseFault
+unopened_as opened.OutOfMemory = end.OutOfMemory
+
+-- how a configuration that isn't is reported
+abbrev pub RefusesAs : ConfigFail → Option (List ℕ) → ℕ → Option (List ℕ) → ℕ → Ending → Type 0
+RefusesAs cause held faults held' faults' end.Refused = (cause ≢ fail.OutOfMemory) × WritesOrFails (report_text cause) held faults held' faults'
+RefusesAs cause held faults held' faults' end.OutOfMemory = faults' ≡ faults
+RefusesAs cause held faults held' faults' end.Served = ⊥
+RefusesAs cause held faults held' faults' end.SinkFault = ⊥
+RefusesAs cause held faults held' faults' end.HouseFault = ⊥
+RefusesAs cause held faults held' faults' end.Transport = ⊥
+RefusesAs cause held faults held' faults' end.BadWords = ⊥
+RefusesAs cause held faults held' faults' end.SourceFault = ⊥
+
+-- what was read is refused, for that cause
+pub record IsRefused (old new : Outer) : Type 0 where
+  pub bytes : List ℕ
+  pub taken : TakesText old.left new.left bytes
+  pub cause : ConfigFail
+  pub refused : refusal bytes ≡ Some cause
+  pub reported : WritesOrFails (report_text cause) old.out.held old.out.sink_faults new.out.held new.out.sink_faults
+  pub house : new.out.house ≡ old.out.house
+
+-- what was read is accepted, and served so
+pub record Accepted (old new : Outer) (ending : Ending) : Type 0 where
+  pub bytes : List ℕ
+  pub taken : TakesText old.left new.left bytes
+  pub config : Config
+  pub accepts : Accepts bytes config
+  pub runs : RunsAs config old.out new.out ending
+
+-- HOW `serve` ENDS, where `asked` says whether the words ask for it
+abbrev pub EndsAs : Bool → Outer → Outer → Ending → Type 0
+EndsAs asked old new end.BadWords = (asked ≡ false) × (new ≡ old)
+EndsAs asked old new end.SourceFault = (asked ≡ true) × Rose old.source_faults new.source_faults × (new.out ≡ old.out)
+EndsAs asked old new end.Refused = (asked ≡ true) × (new.source_faults ≡ old.source_faults) × IsRefused old new
+EndsAs asked old new end.OutOfMemory = (asked ≡ true) × (new.source_faults ≡ old.source_faults) × (new.out.sink_faults ≡ old.out.sink_faults)
+    × (new.out.house.faults ≡ old.out.house.faults)
+EndsAs asked old new end.Served = (asked ≡ true) × (new.source_faults ≡ old.source_faults) × Accepted old new end.Served
+EndsAs asked old new end.SinkFault = (asked ≡ true) × (new.source_faults ≡ old.source_faults) × Accepted old new end.SinkFault
+EndsAs asked old new end.HouseFault = (asked ≡ true) × (new.source_faults ≡ old.source_faults) × Accepted old new end.HouseFault
+EndsAs asked old new end.Transport = (asked ≡ true) × (new.source_faults ≡ old.source_faults) × Accepted old new end.Transport
+
+-- THE CODE of each way to end. No two have the same
+abbrev pub code_of : Ending → ℕ
+code_of end.Served = 0
+code_of end.BadWords = 2
+code_of end.SourceFault = 3
+code_of end.Refused = 4
+code_of end.SinkFault = 5
+code_of end.OutOfMemory = 6
+code_of end.HouseFault = 7
+code_of end.Transport = 9
+
+-- what a status says
+pub record Serves (asked : Bool) (old new : Outer) (status : Status) : Type 0 where
+  pub ending : Ending
+  pub status_is : status ≡ record { code = code_of ending; place = 0 }
+  pub ends : EndsAs asked old new ending

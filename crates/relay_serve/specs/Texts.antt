@@ -1,0 +1,42 @@
+-- What is written, and what is reported of a stream
+use Rattle.std.specs.Prelude.{◌≡◌, ℕ, ◌+◌, List, [], ◌∷◌, ◌++◌, codes, Option, Some, None}
+use Rattle.std.specs.Fmt.{decimal}
+use Rattle.std.specs.Io.KnownBytes.{append_known}
+use Rattle.stream_model.specs.declared.replies.Reply.{Reply}
+use Rattle.stream_model.specs.declared.replies.Reply.TheVariants as reply
+
+-- what is written of a text, and what is left of it
+pub record Writes (text left : List ℕ) (before now : Option (List ℕ)) : Type 0 where
+  pub wrote : List ℕ
+  pub parts : wrote ++ left ≡ text
+  pub grown : now ≡ append_known before wrote
+
+-- a first part of the text is written
+abbrev pub WritesPart : List ℕ → Option (List ℕ) → Option (List ℕ) → Type 0
+WritesPart text before now = (left : List ℕ) × Writes text left before now
+
+-- how many calls of a stream were answered so
+pub record Counted : Type 0 where
+  pub began : ℕ
+  pub pushed : ℕ
+  pub ended : ℕ
+  pub joined : ℕ
+  pub skips : ℕ
+
+abbrev pub counts_line : ℕ → ℕ → ℕ → ℕ → ℕ → List ℕ
+counts_line began pushed ended joined skips = codes " began " ++ decimal began ++ codes " pushed " ++ decimal pushed ++ codes " ended " ++ decimal ended
+    ++ codes " joined " ++ decimal joined ++ codes " skips " ++ decimal skips ++ codes "\n"
+
+-- of a stream whose history is full there are none
+abbrev pub told_line : Option Counted → List ℕ
+told_line None = codes " worn\n"
+told_line (Some c) = counts_line c.began c.pushed c.ended c.joined c.skips
+
+-- THE LINE of a stream at a place
+abbrev pub stream_line : ℕ → Option Counted → List ℕ
+stream_line place c = codes "stream " ++ decimal place ++ told_line c
+
+-- THE REPORT of the streams from a place on
+abbrev pub lines_from : ℕ → List (Option Counted) → List ℕ
+lines_from place [] = []
+lines_from place (c ∷ cs) = stream_line place c ++ lines_from (place + 1) cs

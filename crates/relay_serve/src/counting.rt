@@ -1,0 +1,152 @@
+//! The last call at each place, and the report.
+ghost use Rattle.std.specs.Prelude.{◌≡◌, ◌<◌, ◌≤◌, ◌+◌, ◌++◌, length, codes, string_bytes, vec_len, map, IfOk, OnOk};
+ghost use Rattle.std.specs.Fmt.{decimal};
+ghost use Rattle.stream_registry.specs.SharedState.{shared_rules};
+ghost use Rattle.relay_serve.specs.Texts.{counts_line, told_line, stream_line, lines_from};
+ghost use Rattle.relay_serve.specs.Counts.{counted_if};
+
+use av_unit::OutOfMemory;
+use std::alloc::Global;
+use std::sync::Wait;
+use stream_core::{Call, Entry, Reply};
+use stream_registry::{Desk, PortFail, Shared, StreamPort};
+
+/// The name with which the server counts.
+const COUNTER: u64 = 1 << 62;
+
+/// How many calls of a stream were answered so.
+#[derive(Clone, Copy, Debug, PartialEq, Eq)]
+pub(crate) struct Counts {
+    pub began: u64,
+    pub pushed: u64,
+    pub ended: u64,
+    pub joined: u64,
+    pub skips: u64,
+}
+
+// The Count of the stream at a place. None where its history is full.
+fn count_one<W: Wait>(
+    rt: &W,
+    port: &mut Shared<Desk>,
+    place: u32,
+) -> Result<Option<Counts>, OutOfMemory>
+    requires { place < length (shared_rules port.old).names }
+    ensures rules { shared_rules port.new ≡ shared_rules port.old }
+{
+    let mut pass = port.attach(place);
+    for _ in rt.forever() {
+        let entry = Entry {
+            who: COUNTER,
+            at: 0,
+            call: Call::Count,
+        };
+        match port.call(place, &mut pass, entry) {
+            Ok(
+                Reply::Counts {
+                    began,
+                    pushed,
+                    ended,
+                    joined,
+                    skips,
+                },
+            ) => {
+                port.detach(place, pass);
+                return Ok(Some(Counts {
+                    began,
+                    pushed,
+                    ended,
+                    joined,
+                    skips,
+                }));
+            }
+            Ok(_) => return Err(OutOfMemory),
+            Err(PortFail::Busy(_)) => {}
+            Err(PortFail::Worn(_)) => return Ok(None),
+            Err(PortFail::OutOfMemory(_)) => return Err(OutOfMemory),
+        }
+    }
+    unreachable!()
+}
+
+/// The Count of each stream, its last call.
+pub(crate) fn count_all<W: Wait>(
+    rt: &W,
+    alloc: Global,
+    port: &mut Shared<Desk>,
+    places: u32,
+) -> Result<Vec<Option<Counts>>, OutOfMemory>
+    requires { places ≤ length (shared_rules port.old).names }
+    ensures rules { shared_rules port.new ≡ shared_rules port.old }
+    ensures each { IfOk result (λ list. vec_len list ≡ places) }
+{
+    let mut list = Vec::new(alloc);
+    for place in 0..places {
+        let counts = count_one(rt, port, place)?;
+        if list.push(counts).is_err() {
+            return Err(OutOfMemory);
+        }
+    }
+    Ok(list)
+}
+
+// Adds a label and a number.
+fn append_number(alloc: Global, text: &mut Vec<u8>, label: &[u8], n: u64) -> Result<(), OutOfMemory>
+    ensures { OnOk result (text.new.items ≡ text.old.items ++ (label.now ++ decimal n)) }
+{
+    text.extend_from_slice(label)?;
+    text.extend_from_slice(number(alloc, n)?.as_bytes())?;
+    Ok(())
+}
+
+fn number(alloc: Global, n: u64) -> Result<String, OutOfMemory>
+    ensures { IfOk result (λ text. string_bytes text ≡ decimal n) }
+{
+    Ok(format!(in alloc; "{n}")?)
+}
+
+// Adds what was counted of a stream.
+fn append_counts(alloc: Global, text: &mut Vec<u8>, c: Counts) -> Result<(), OutOfMemory>
+    ensures { OnOk result (text.new.items ≡ text.old.items ++ counts_line c.began c.pushed c.ended c.joined c.skips) }
+{
+    append_number(alloc, text, b" began ", c.began)?;
+    append_number(alloc, text, b" pushed ", c.pushed)?;
+    append_number(alloc, text, b" ended ", c.ended)?;
+    append_number(alloc, text, b" joined ", c.joined)?;
+    append_number(alloc, text, b" skips ", c.skips)?;
+    text.push(b'\n')?;
+    Ok(())
+}
+
+// Adds what is told of a stream.
+fn append_told(alloc: Global, text: &mut Vec<u8>, counts: Option<Counts>) -> Result<(), OutOfMemory>
+    ensures { OnOk result (text.new.items ≡ text.old.items ++ told_line (counted_if counts)) }
+{
+    match counts {
+        Some(counts) => append_counts(alloc, text, counts),
+        None => Ok(text.extend_from_slice(b" worn\n")?),
+    }
+}
+
+// Adds the line of the stream at a place.
+fn append_line(
+    alloc: Global,
+    text: &mut Vec<u8>,
+    place: u64,
+    counts: Option<Counts>,
+) -> Result<(), OutOfMemory>
+    ensures { OnOk result (text.new.items ≡ text.old.items ++ stream_line place (counted_if counts)) }
+{
+    append_number(alloc, text, b"stream ", place)?;
+    append_told(alloc, text, counts)
+}
+
+/// The report: a line for each stream, by their places.
+pub(crate) fn report_of(alloc: Global, list: &[Option<Counts>]) -> Result<Vec<u8>, OutOfMemory>
+    ensures { IfOk result (λ text. text.items ≡ lines_from 0 (map counted_if list.now)) }
+{
+    let mut text = Vec::new(alloc);
+    for place in 0..list.len() {
+        append_line(alloc, &mut text, place as u64, list[place])?;
+    }
+    Ok(text)
+}

@@ -1,0 +1,301 @@
+//! `relay serve`.
+ghost use Rattle.std.specs.Prelude.{◌≡◌, ◌≤◌, length, map, vec_len, All, IfOk, MatchResult};
+ghost use Rattle.relay_config.specs.Accepts.{Lawful};
+ghost use Rattle.relay_worker.specs.Running.{HasRun};
+ghost use Rattle.stream_registry.specs.SharedState.{shared_rules};
+ghost use Rattle.relay_serve.specs.Ends.{Concludes, EndsAs, HouseCause, RefusesAs, RunsAs, Serves, code_of, outer, seen, unopened_as};
+ghost use Rattle.relay_serve.specs.Starts.{HasRules};
+ghost use Rattle.relay_serve.specs.Places.{asks_ts};
+ghost use Rattle.relay_serve.specs.Words.{is_serve};
+
+use crate::counting::{count_all, report_of};
+use crate::ending::{end_all, take_all_apart};
+use crate::put::{PutFail, put_all};
+use crate::reading::{ReadFail, read_text};
+use crate::starting::{OpenFail, ServeWorker, names_of, open_files, open_workers};
+use key_guard::Guards;
+use relay_base::Status;
+use relay_config::{Config, ConfigFail, PlaceList, PlaceRule, read_config, report};
+use relay_outside::{Door, House, Rest, Sink, Source};
+use relay_session::PlaceDesk;
+use relay_worker::run_all;
+use std::alloc::Global;
+use std::sync::Wait;
+use std::thread::Threads;
+use stream_core::StreamLimits;
+use stream_registry::{Desk, Shared, shared_ports};
+
+/// How `serve` ends.
+#[derive(Clone, Copy, Debug, PartialEq, Eq)]
+pub enum Ending {
+    /// The workers have run, and the report is written.
+    Served,
+    /// The words aren't those of `serve`.
+    BadWords,
+    /// The configuration couldn't be read.
+    SourceFault,
+    /// The configuration is refused.
+    Refused,
+    /// The report couldn't be written.
+    SinkFault,
+    /// There was too little memory.
+    OutOfMemory,
+    /// The house had no door, no rest or no file, and nobody was served.
+    HouseFault,
+    /// The configuration asks for a recording as a transport stream, which can't be had yet. Nobody was served.
+    Transport,
+}
+
+fn code_of(ending: Ending) -> u8
+    ensures { result ≡ code_of ending }
+{
+    match ending {
+        Ending::Served => 0,
+        Ending::BadWords => 2,
+        Ending::SourceFault => 3,
+        Ending::Refused => 4,
+        Ending::SinkFault => 5,
+        Ending::OutOfMemory => 6,
+        Ending::HouseFault => 7,
+        Ending::Transport => 9,
+    }
+}
+
+// Whether the words are `serve` and one more.
+fn is_serve(words: &[Vec<u8>]) -> bool
+    ensures { result ≡ is_serve (map (λ w. w.items) words.now) }
+{
+    match words {
+        [word, _] => word.as_slice() == b"serve".as_slice(),
+        _ => false,
+    }
+}
+
+// Whether some place asks for a recording as a transport stream.
+fn asks_ts(places: &[PlaceRule]) -> bool
+    ensures { result ≡ asks_ts places.now }
+{
+    places.iter().any(|place| place.ts.is_some())
+}
+
+// The limits of the streams.
+fn stream_limits(config: &Config) -> StreamLimits {
+    StreamLimits {
+        bytes: config.limits.ring_bytes,
+        items: config.limits.ring_items,
+        players: config.limits.players,
+    }
+}
+
+// Why nobody could be served.
+fn unopened(fail: OpenFail) -> Ending
+    ensures { result ≡ unopened_as fail }
+{
+    match fail {
+        OpenFail::HouseFault => Ending::HouseFault,
+        OpenFail::OutOfMemory => Ending::OutOfMemory,
+    }
+}
+
+// What is ready before the first worker runs: a port of the server's own, and the workers.
+#[derive(Drop)]
+struct Ready<D: Door, R: Rest, K: Sink> {
+    port: Shared<Desk>,
+    workers: Vec<ServeWorker<D, R, K>>,
+}
+
+// Asks the house for all files, doors and rests, and makes the workers.
+fn make_ready<H: House>(
+    alloc: Global,
+    config: &Config,
+    house: &mut H,
+) -> Result<Ready<H::Door, H::Rest, H::File>, OpenFail>
+    requires lawful { Lawful config.now }
+    ensures house { MatchResult result (λ _. H.told house.new ≡ H.told house.old) (λ fail. HouseCause fail (H.told house.old) (H.told house.new)) }
+    ensures few { IfOk result (λ ready. vec_len ready.workers ≤ 16) }
+    ensures places { IfOk result (λ ready. length config.now.places ≡ length (shared_rules ready.port).names) }
+    ensures rules { IfOk result (λ ready. All (λ x. HasRules (shared_rules ready.port) x.bench.port) ready.workers.items) }
+{
+    let places = config.places.as_slice();
+    let Ok(names) = names_of(alloc, places) else {
+        return Err(OpenFail::OutOfMemory);
+    };
+    let count = config.workers as usize + 1;
+    let Ok(mut ports) = shared_ports(alloc, names, stream_limits(config), count) else {
+        return Err(OpenFail::OutOfMemory);
+    };
+    let Some(port) = ports.pop() else {
+        return Err(OpenFail::OutOfMemory);
+    };
+    let files = open_files(alloc, house, places)?;
+    let workers = open_workers(alloc, house, config, &port, ports, files)?;
+    Ok(Ready { port, workers })
+}
+
+// What comes after the workers, the report last.
+fn conclude<W: Wait, H: House, K: Sink>(
+    rt: &W,
+    alloc: Global,
+    config: &Config,
+    house: &mut H,
+    out: &mut K,
+    ready: Ready<H::Door, H::Rest, H::File>,
+) -> Ending
+    requires lawful { Lawful config.now }
+    requires places { length config.now.places ≡ length (shared_rules ready.port).names }
+    requires few { vec_len ready.workers ≤ 16 }
+    requires run { All (λ x. HasRun H.Door.told x) ready.workers.items }
+    requires rules { All (λ x. HasRules (shared_rules ready.port) x.bench.port) ready.workers.items }
+    ensures concludes { Concludes config.now (K.holds out.old) (K.faults out.old) (K.holds out.new) (K.faults out.new) result }
+    ensures faults { (H.told house.new).faults ≡ (H.told house.old).faults }
+{
+    let Ready { mut port, workers } = ready;
+    let Ok(left) = take_all_apart(alloc, &mut port, workers) else {
+        return Ending::OutOfMemory;
+    };
+    let whole = end_all(rt, &mut port, house, config.places.as_slice(), left.list);
+    let Ok(counts) = count_all(rt, alloc, &mut port, config.places.len() as u32) else {
+        return Ending::OutOfMemory;
+    };
+    let Ok(text) = report_of(alloc, counts.as_slice()) else {
+        return Ending::OutOfMemory;
+    };
+    match put_all(out, text.as_slice()) {
+        Ok(()) if whole && !left.refused => Ending::Served,
+        Ok(()) => Ending::OutOfMemory,
+        Err(PutFail::SinkFault) => Ending::SinkFault,
+        Err(PutFail::OutOfMemory) => Ending::OutOfMemory,
+    }
+}
+
+// All workers run, each in a thread of its own, with the desk of these places.
+fn run_workers<T: Threads + Wait + Sync, D: Door + Send, R: Rest + Send, K: Sink + Send>(
+    rt: &T,
+    mut workers: Vec<ServeWorker<D, R, K>>,
+    port: &Shared<Desk>,
+    guards: &Guards,
+    list: &PlaceList,
+) -> Vec<ServeWorker<D, R, K>>
+where
+    D::Link: Send,
+    requires few { length list.now ≤ 64 }
+    requires places { length list.now ≡ length (shared_rules port.now).names }
+    requires rules { All (λ x. HasRules (shared_rules port.now) x.bench.port) workers.items }
+    ensures run { All (λ x. HasRun D.told x) result.items }
+    ensures rules { All (λ x. HasRules (shared_rules port.now) x.bench.port) result.items }
+    ensures each { vec_len result ≡ vec_len workers }
+{
+    let _ = port;
+    let desk = PlaceDesk::new(guards, list);
+    run_all(rt, workers.as_mut_slice(), &desk);
+    let PlaceDesk { guards: _, list: _ } = desk;
+    workers
+}
+
+// Serves a configuration that was accepted.
+fn run<T: Threads + Wait + Sync, H: House, K: Sink>(
+    rt: &T,
+    alloc: Global,
+    config: &Config,
+    guards: &Guards,
+    house: &mut H,
+    out: &mut K,
+) -> Ending
+    requires lawful { Lawful config.now }
+    ensures { RunsAs config.now (seen (K.holds out.old) (K.faults out.old) (H.told house.old)) (seen (K.holds out.new) (K.faults out.new) (H.told house.new)) result }
+{
+    if asks_ts(config.places.as_slice()) {
+        return Ending::Transport;
+    }
+    match make_ready(alloc, config, house) {
+        Ok(Ready { port, workers }) => {
+            let workers = run_workers(rt, workers, &port, guards, &config.places);
+            conclude(rt, alloc, config, house, out, Ready { port, workers })
+        }
+        Err(fail) => unopened(fail),
+    }
+}
+
+// Reports why a configuration is refused.
+fn refuse<K: Sink>(alloc: Global, fail: &ConfigFail, out: &mut K) -> Ending
+    ensures { RefusesAs fail.now (K.holds out.old) (K.faults out.old) (K.holds out.new) (K.faults out.new) result }
+{
+    if matches!(fail, ConfigFail::OutOfMemory) {
+        return Ending::OutOfMemory;
+    }
+    let Ok(line) = report(alloc, fail) else {
+        return Ending::OutOfMemory;
+    };
+    match put_all(out, line.as_slice()) {
+        Ok(()) => Ending::Refused,
+        Err(PutFail::SinkFault) => Ending::Refused,
+        Err(PutFail::OutOfMemory) => Ending::OutOfMemory,
+    }
+}
+
+fn end<T: Threads + Wait + Sync, H: House, S: Source, K: Sink>(
+    rt: &T,
+    alloc: Global,
+    words: &[Vec<u8>],
+    guards: &Guards,
+    config: &mut S,
+    house: &mut H,
+    out: &mut K,
+) -> Ending
+    ensures ends { EndsAs (is_serve (map (λ w. w.items) words.now)) (outer (S.left config.old) (S.faults config.old) (seen (K.holds out.old) (K.faults out.old) (H.told house.old)))
+        (outer (S.left config.new) (S.faults config.new) (seen (K.holds out.new) (K.faults out.new) (H.told house.new))) result }
+    ensures untouched { result ≡ Ending.BadWords → (config.new ≡ config.old) × (house.new ≡ house.old) × (out.new ≡ out.old) }
+{
+    if !is_serve(words) {
+        return Ending::BadWords;
+    }
+    let text = match read_text(alloc, config) {
+        Ok(text) => text,
+        Err(ReadFail::SourceFault) => return Ending::SourceFault,
+        Err(ReadFail::OutOfMemory) => return Ending::OutOfMemory,
+    };
+    match read_config(alloc, text.as_slice()) {
+        Ok(accepted) => run(rt, alloc, &accepted, guards, house, out),
+        Err(fail) => refuse(alloc, &fail, out),
+    }
+}
+
+/// Serves by a configuration: sessions over the house's links, and recorders to its files, until each door has closed and no
+/// session lives. It may wait.
+///
+/// The words are `serve` and the name of the file that `config` reads. The guards judge the keys of all sessions. Each worker
+/// has a thread, a port to the shared streams, and a door and a rest of the house. The report then has a line for each stream:
+/// how many of its calls were answered so, or that its history is full.
+///
+/// The code is
+///
+/// - 0 where all were served and the report is written;
+/// - 2 exactly where the words are others: nothing is read or written, and the house isn't asked;
+/// - 3 where the file couldn't be read, only where its faults rose;
+/// - 4 exactly where [`read_config`] refuses it, for another cause than memory: the report has the line of the refusal, or a
+///   beginning of it where the report's faults rose;
+/// - 5 where the report couldn't be written, only where its faults rose;
+/// - 6 where there was too little memory, also for a session or a recorder;
+/// - 7 where the house had no door, no rest or no file, only where its faults rose: no worker has run;
+/// - 9 exactly where the configuration asks for a transport stream recording, which can't be had yet: no worker has run.
+///
+/// `place` is 0.
+pub fn serve<T: Threads + Wait + Sync, H: House, S: Source, K: Sink>(
+    rt: &T,
+    alloc: Global,
+    words: &[Vec<u8>],
+    guards: &Guards,
+    config: &mut S,
+    house: &mut H,
+    report: &mut K,
+) -> Status
+    ensures serves { Serves (is_serve (map (λ w. w.items) words.now)) (outer (S.left config.old) (S.faults config.old) (seen (K.holds report.old) (K.faults report.old) (H.told house.old)))
+        (outer (S.left config.new) (S.faults config.new) (seen (K.holds report.new) (K.faults report.new) (H.told house.new))) result }
+    ensures untouched { result.code ≡ 2 → (config.new ≡ config.old) × (house.new ≡ house.old) × (report.new ≡ report.old) }
+{
+    let ending = end(rt, alloc, words, guards, config, house, report);
+    Status {
+        code: code_of(ending),
+        place: 0,
+    }
+}
