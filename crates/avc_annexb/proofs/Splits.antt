@@ -1,18 +1,18 @@
 -- Byte streams split into their units
-use Rattle.std.proofs.Common.{◌≡◌, ℕ, zero, suc, ◌+◌, ◌*◌, ◌-◌, ◌<◌, ◌≤◌, Bool, true, false, List, [], ◌∷◌, ◌++◌, length, take, drop, slice_index, Option, Some, None, Ok, Err, refl, sym, ap, ◌∙◌, subst, arith, append_assoc, length-drop, length-append}
+use Rattle.std.proofs.Common.{◌≡◌, ℕ, zero, suc, ◌+◌, ◌*◌, ◌-◌, ◌<◌, ◌≤◌, Bool, true, false, List, [], ◌∷◌, ◌++◌, length, take, drop, slice_index, Option, Some, None, Ok, Err, refl, sym, ap, ◌∙◌, subst, arith, length-drop, length-append}
 use Rattle.std.specs.Prelude.{◌==◌, ◌&&◌, nat_le, option_map, if◌then◌else◌}
 use Rattle.std.proofs.lemmas.Bool.Decides.{nat_tests}
 use Rattle.std.proofs.lemmas.List.{append-nil, take-append-drop, take_at, drop_at}
 use Rattle.relay_base.specs.Numbers.{be32_of}
 use Rattle.avc_annexb.specs.declared.fail.AvcFail.{AvcFail}
 use Rattle.avc_annexb.specs.declared.fail.AvcFail.TheVariants.{NoStart}
-use Rattle.avc_annexb.specs.Nal.{IsNal, AreNals, verdict, is_triple, triple_in, or_last, dirty_in}
-use Rattle.avc_annexb.specs.Prefixed.{Front, Units, before, then_units}
+use Rattle.avc_annexb.specs.Nal.{IsNal, AreNals, is_triple, triple_in, or_last, dirty_in}
+use Rattle.avc_annexb.specs.Prefixed.{Units, before}
 use Rattle.avc_annexb.specs.AnnexB.{started, annexb}
 use Rattle.avc_annexb.specs.Split.{is_start, start_in, or_all, end_in, started_at, started_front, split_in, split_of}
 use Rattle.avc_annexb.proofs.Units.{judged_ok, verdict_none, none_verdict, some_if, then_same, then_ok, then_err, before_more, before_none, nals_more}
 use Rattle.avc_annexb.proofs.Prefixes.{then_found}
-use Rattle.avc_annexb.proofs.Triples.{further}
+use Rattle.avc_annexb.specs.Nal.{further}
 
 -- starts that are searched
 start_long : (b : List ℕ) → is_start b ≡ true → 4 ≤ length b

@@ -14,6 +14,10 @@ unfoldable pub triple_in : List ℕ → Option ℕ
 triple_in [] = None
 triple_in (b ∷ bs) = if is_triple (b ∷ bs) then Some 0 else option_map (λ i. 1 + i) (triple_in bs)
 
+-- a place that many bytes further on
+abbrev pub further : ℕ → Option ℕ → Option ℕ
+further k o = option_map (λ i. k + i) o
+
 -- or of a last byte that is zero
 abbrev pub or_last : List ℕ → Option ℕ → Option ℕ
 or_last b (Some at) = Some at

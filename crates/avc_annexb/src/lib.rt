@@ -15,6 +15,7 @@ pub use annexb::to_annexb;
 pub use avcc::Avcc;
 pub use fail::AvcFail;
 pub use list::NalList;
+pub use nal::first_triple;
 pub use prefixed::{nals, put_nals};
 pub use split::split_annexb;
 

@@ -1,8 +1,9 @@
 //! One NAL unit: whether its bytes may be one.
-ghost use Rattle.std.specs.Prelude.{◌≡◌, ◌≤◌, length, drop};
-ghost use Rattle.avc_annexb.specs.Nal.{triple_in, dirty_in, verdict, refusal_of};
+ghost use Rattle.std.specs.Prelude.{◌≡◌, ◌<◌, ◌≤◌, ◌-◌, length, drop, IfSome};
+ghost use Rattle.avc_annexb.specs.Nal.{is_triple, triple_in, further, dirty_in, verdict, refusal_of};
 
 use crate::AvcFail;
+use memchr::memchr;
 
 /// What stands behind the first bytes.
 pub(crate) fn after(bytes: &[u8], count: usize) -> &[u8]
@@ -12,19 +13,39 @@ pub(crate) fn after(bytes: &[u8], count: usize) -> &[u8]
     &bytes[count..]
 }
 
-/// The place of the first three bytes that no unit has: 00 00, and one of at most 2.
-pub(crate) fn first_triple(bytes: &[u8]) -> Option<usize>
-    ensures { result ≡ triple_in bytes.now }
+/// What stands from the first zero byte on, if there is one.
+fn from_zero(bytes: &[u8]) -> &[u8]
+    ensures within { length result.now ≤ length bytes.now }
+    ensures place { further (length bytes.now - length result.now) (triple_in result.now) ≡ triple_in bytes.now }
 {
-    let mut left = bytes;
-    while let [first, second, third, ..] = left {
-        if *third > 2 {
-            left = after(left, 3);
-        } else if *first == 0 && *second == 0 {
+    match memchr(0, bytes) {
+        Some(at) => after(bytes, at),
+        None => &[],
+    }
+}
+
+/// Whether three bytes that no unit has stand at the front: 00 00, and one of at most 2.
+#[tactic(auto, using(std::proofs::lemmas::Bool::Decides::nat_tests))]
+fn begins_triple(bytes: &[u8]) -> bool
+    ensures { result ≡ is_triple bytes.now }
+{
+    match bytes {
+        [first, second, third, ..] => *first == 0 && *second == 0 && *third <= 2,
+        _ => false,
+    }
+}
+
+/// The place of the first three bytes that no unit has: 00 00, and one of at most 2.
+pub fn first_triple(bytes: &[u8]) -> Option<usize>
+    ensures value { result ≡ triple_in bytes.now }
+    ensures within { IfSome result (λ at. at < length bytes.now) }
+{
+    let mut left = from_zero(bytes);
+    while !left.is_empty() {
+        if begins_triple(left) {
             return Some(bytes.len() - left.len());
-        } else {
-            left = after(left, 1);
         }
+        left = from_zero(after(left, 1));
     }
     None
 }

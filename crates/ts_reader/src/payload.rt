@@ -3,6 +3,7 @@ ghost use Rattle.std.specs.Prelude.{◌≡◌, ◌<◌, ◌≤◌, length, drop,
 ghost use Rattle.ts_reader.specs.Payloads.{behind_unit, is_carried, is_stream, unit_length};
 
 use aac_adts::read_adts;
+use avc_annexb::first_triple;
 
 // What stands behind the first bytes.
 fn after(bytes: &[u8], count: usize) -> &[u8]
@@ -13,21 +14,15 @@ fn after(bytes: &[u8], count: usize) -> &[u8]
 }
 
 // How many bytes stand before the first 00 00 and a byte of at most 2.
+#[tactic(auto, unfolding(crate::specs::Payloads::unit_length))]
 fn unit_len(bytes: &[u8]) -> usize
     ensures value { result ≡ unit_length bytes.now }
     ensures within { result ≤ length bytes.now }
 {
-    let mut left = bytes;
-    while let [first, second, third, ..] = left {
-        if *third > 2 {
-            left = after(left, 3);
-        } else if *first == 0 && *second == 0 {
-            return bytes.len() - left.len();
-        } else {
-            left = after(left, 1);
-        }
+    match first_triple(bytes) {
+        Some(at) => at,
+        None => bytes.len(),
     }
-    bytes.len()
 }
 
 // What stands behind the NAL unit at the front, which has a start code before it.

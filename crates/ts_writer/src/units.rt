@@ -28,6 +28,9 @@ const MOST_RAW: usize = 8_184;
 // frame.
 const AHEAD: usize = 8 + 7;
 
+// Room for what a PES packet has before the bytes of its unit: both headers, a delimiter and a start code.
+const HEADS: usize = 32;
+
 // How many times fit in 33 bits.
 const TIMES: u64 = 1 << 33;
 
@@ -155,7 +158,7 @@ fn picture_by(
     let pts = shown_at(time, be24(after(body, 2)));
     let dts = clock_of(time);
     let mut pes = Bytes::new(alloc);
-    pes.reserve(body.len())?;
+    pes.reserve(body.len() + HEADS)?;
     pes_header(0xE0, pts, dts, 0, &mut pes)?;
     put_access_unit(config, key, after(body, 5), &mut pes)?;
     Ok(Framed {
@@ -200,6 +203,7 @@ fn sound_by(alloc: Global, asc: Asc, time: u32, raw: &[u8]) -> Result<Framed, St
     }
     let dts = clock_of(time);
     let mut pes = Bytes::new(alloc);
+    pes.reserve(raw.len() + HEADS)?;
     pes_header(0xC0, dts, dts, (AHEAD + raw.len()) as u16, &mut pes)?;
     adts(asc, raw, &mut pes)?;
     Ok(Framed {

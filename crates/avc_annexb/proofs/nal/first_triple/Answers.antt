@@ -1,37 +1,25 @@
-use Rattle.std.proofs.Common.{◌≡◌, ◌+◌, ◌-◌, length, drop, Some, ap, ◌∙◌, arith, length-drop}
-use Rattle.avc_annexb.specs.Nal.{triple_in}
-use Rattle.avc_annexb.proofs.Triples.{further, skip3, skip1, here, short, goes_on}
+use Rattle.std.proofs.Common.{◌≡◌, ◌-◌, length, Some, sym, ap, ◌∙◌, arith, length-drop}
+use Rattle.std.proofs.lemmas.Bool.Decides.{nat_tests}
+use Rattle.avc_annexb.specs.Nal.{triple_in, further}
+use Rattle.avc_annexb.proofs.Triples.{here, steps, ends}
 use Rattle.avc_annexb.proofs.nal.first_triple.Goals as goal
-use Rattle.avc_annexb.proofs.nal.first_triple.Goals.{else-first-eq0-via-then-first-eq0+else-second-eq0, else-first-eq0-via-else-first-eq0}
 
-pub loop-left-preserved-then-third-gt2 : goal.loop-left-preserved-then-third-gt2
-loop-left-preserved-then-third-gt2 c =
-    let rest : length c.after-left.result.now + 3 ≡ length c.loop-left.left.now = rw c.after-left.ensures (omega (arith, length-drop 3 c.loop-left.left.now)) in
-    record {
-      short = omega (arith, c.loop-left.invariant.short);
-      place = goes_on c.args.bytes.now c.loop-left.left.now c.after-left.result.now 3 c.loop-left.invariant.short rest c.loop-left.invariant.place
-          (rw c.after-left.ensures (skip3 c.loop-left.left.now c.in-len3-up.len_at_least c.if-third-gt2.true));
-    }
-
-pub returns-then-second-eq0 : goal.returns-then-second-eq0
-returns-then-second-eq0 c =
+pub returns-then-begins_triple-clause-value : goal.returns-then-begins_triple-clause-value
+returns-then-begins_triple-clause-value c =
     let at : further (length c.args.bytes.now - length c.loop-left.left.now) (Some 0) ≡ triple_in c.args.bytes.now =
-    rw (here c.loop-left.left.now c.in-len3-up.len_at_least c.if-third-gt2.false c.if-first-eq0.true c.if-second-eq0.true) at c.loop-left.invariant.place in
+    rw (here c.loop-left.left.now (sym c.begins_triple.ensures ∙ c.if-begins_triple.true)) at c.loop-left.invariant.place in
     ap Some (omega arith) ∙ at
 
 pub loop-left-preserved : goal.loop-left-preserved
 loop-left-preserved c =
-    let next = c.after-left-else-first-eq0 in
-    let rest : length next.result.now + 1 ≡ length c.loop-left.left.now = rw next.ensures (omega (arith, length-drop 1 c.loop-left.left.now)) in
-    let step : triple_in c.loop-left.left.now ≡ further 1 (triple_in (drop 1 c.loop-left.left.now)) =
-    elim c.else-first-eq0.branch [
-      | else-first-eq0-via-then-first-eq0+else-second-eq0 w ↦ skip1 c.loop-left.left.now c.in-len3-up.len_at_least c.if-third-gt2.false (λ a b. w.if-second-eq0.false b)
-      | else-first-eq0-via-else-first-eq0 w ↦ skip1 c.loop-left.left.now c.in-len3-up.len_at_least c.if-third-gt2.false (λ a b. w.if-first-eq0.false a)
-    ] in
+    let next = c.from_zero-left-in-loop-left in
     record {
-      short = omega (arith, c.loop-left.invariant.short);
-      place = goes_on c.args.bytes.now c.loop-left.left.now next.result.now 1 c.loop-left.invariant.short rest c.loop-left.invariant.place (rw next.ensures step);
+      short = omega (arith, c.loop-left.invariant.short, next.ensures.within, ap length c.after.ensures, length-drop 1 c.loop-left.left.now);
+      place = steps c.args.bytes.now c.loop-left.left.now c.after.result.now next.result.now c.loop-left.invariant.short c.loop-left.invariant.place
+          (sym c.begins_triple.ensures ∙ c.if-begins_triple.false) c.after.ensures next.ensures.within next.ensures.place;
     }
 
-pub returns : goal.returns
-returns c = rw (short c.loop-left.left.now c.in_default.len_below) at c.loop-left.invariant.place
+pub returns-clause-value : goal.returns-clause-value
+returns-clause-value c =
+    let none : length c.loop-left.left.now ≡ 0 = grind (arith, nat_tests) in
+    ends c.args.bytes.now c.loop-left.left.now none c.loop-left.invariant.place

@@ -1,6 +1,5 @@
 use Rattle.std.proofs.Common.{◌≡◌, ◌-◌, ◌≤◌, length}
-use Rattle.avc_annexb.specs.Nal.{triple_in}
-use Rattle.avc_annexb.proofs.Triples.{further}
+use Rattle.avc_annexb.specs.Nal.{triple_in, further}
 use Rattle.avc_annexb.proofs.nal.first_triple.Given as goal
 
 -- what is left has the place, if there is one

@@ -1,6 +1,6 @@
-use Rattle.std.proofs.Common.{◌≡◌, ◌+◌, ◌-◌, length, drop, Some, sym, ap, ◌∙◌, arith, length-drop}
+use Rattle.std.proofs.Common.{◌≡◌, ◌+◌, ◌-◌, length, Some, sym, ap, ◌∙◌, arith, length-drop}
 use Rattle.avc_annexb.specs.Split.{start_in}
-use Rattle.avc_annexb.proofs.Triples.{further}
+use Rattle.avc_annexb.specs.Nal.{further}
 use Rattle.avc_annexb.proofs.Splits.{skip4, skip1, here, short, goes_on}
 use Rattle.avc_annexb.proofs.split.first_start.Goals as goal
 

@@ -1,6 +1,6 @@
 use Rattle.std.proofs.Common.{◌≡◌, ◌-◌, ◌≤◌, length}
 use Rattle.avc_annexb.specs.Split.{start_in}
-use Rattle.avc_annexb.proofs.Triples.{further}
+use Rattle.avc_annexb.specs.Nal.{further}
 use Rattle.avc_annexb.proofs.split.first_start.Given as goal
 
 -- what is left has the place, if there is one

@@ -1,4 +1,4 @@
-use Rattle.std.proofs.Common.{sym, ◌∙◌}
+use Rattle.std.proofs.Common.{sym}
 use Rattle.avc_annexb.proofs.Splits.{start_within}
 use Rattle.avc_annexb.proofs.split.unit_end.Goals as goal
 
