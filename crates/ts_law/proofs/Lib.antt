@@ -5,3 +5,4 @@ pub mod Tables
 pub mod Pes
 pub mod Carried
 pub mod Items
+pub mod Worked

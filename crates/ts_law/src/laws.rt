@@ -1,9 +1,10 @@
-ghost use Rattle.std.specs.Prelude.{◌≡◌, ◌<◌, ◌^◌, ℕ, Bool, true, false, List, ◌++◌, Option, option_to_list};
+ghost use Rattle.std.specs.Prelude.{◌≡◌, ◌<◌, ◌+◌, ◌^◌, ℕ, Bool, true, false, List, ◌++◌, Option, option_to_list};
 ghost use Rattle.av_unit.specs.declared.item.Item.{Item};
 ghost use Rattle.pes_packets.specs.declared.flags.PesFlags.{PesFlags};
 ghost use Rattle.pes_packets.specs.Header.{header};
 ghost use Rattle.pes_packets.specs.Packet.{IsTime};
-ghost use Rattle.ts_writer.specs.Frames.{Frame};
+ghost use Rattle.ts_writer.specs.Examples.{sound_items};
+ghost use Rattle.ts_writer.specs.Frames.{Frame, clock, shown};
 ghost use Rattle.ts_writer.specs.Text.{ts_text};
 ghost use Rattle.ts_reader.specs.declared.unit.TsUnit.{TsUnit};
 ghost use Rattle.ts_reader.specs.declared.fail.TsFail.{TsFail};
@@ -13,6 +14,7 @@ ghost use Rattle.ts_law.specs.Packets.{IsRead, MayCarry};
 ghost use Rattle.ts_law.specs.Leads.{AreDue, AreTables};
 ghost use Rattle.ts_law.specs.Pes.{ArePackets, IsFrame, IsHeader, MayFollow};
 ghost use Rattle.ts_law.specs.Bridge.{IsReadBack, bridge};
+ghost use Rattle.ts_law.specs.Examples.{sound_units};
 
 /// A transport packet that is written (ISO/IEC 13818-1, 2.4.3.2 to 2.4.3.5) is read with its PID, counter and payload.
 pub fn a_packet_is_read()
@@ -44,4 +46,16 @@ pub fn what_is_written_is_read()
     ensures only { (items : List Item) (us : List TsUnit) (u : Option TsUnit) → Ends (ts_text items) us u → us ++ option_to_list u ≡ bridge items }
     ensures not_refused { (items : List Item) (us : List TsUnit) (n : ℕ) (e : TsFail) → Stops (ts_text items) n us e → ⊥ }
     ensures not_at_end { (items : List Item) (us : List TsUnit) (e : TsFail) → EndFails (ts_text items) us e → ⊥ }
+{}
+
+/// Where the milliseconds of units begin anew at 2^32, the times of a transport stream go on: 90 times 2^32 is 45 times 2^33.
+pub fn times_go_on()
+    ensures decoded { (time : ℕ) → clock (time + 2 ^ 32) ≡ clock time }
+    ensures presented { (time composition : ℕ) → shown (time + 2 ^ 32) composition ≡ shown time composition }
+{}
+
+/// A worked example of the definition: of an AAC configuration and a frame of sound one unit is bridged, with the 16 bytes of
+/// its ADTS frame.
+pub fn a_frame_of_sound_is_bridged()
+    ensures { bridge sound_items ≡ sound_units }
 {}

@@ -4,6 +4,6 @@
 mod laws;
 
 pub use laws::{
-    a_header_is_read, a_packet_is_read, a_pes_packet_is_read, tables_are_read,
-    what_is_written_is_read,
+    a_frame_of_sound_is_bridged, a_header_is_read, a_packet_is_read, a_pes_packet_is_read,
+    tables_are_read, times_go_on, what_is_written_is_read,
 };
