@@ -41,12 +41,14 @@ keep up, of units that were sent in the measured time), what was delivered, and 
 tests that the configurations come first, that units come in order from a keyframe on, whole and with their time, and that none is
 missing; of the slow one, that it goes on at a keyframe after each skip.
 
+On a machine that other work keeps busy, 'chrt -f 1 bench/load ..' runs it and the relay that it starts before all other work; else
+the times are those of the system's turns.
+
 Status: 0 where all of that held, 1 where it didn't, 2 for wrong words, 3 where there was nothing to measure.
 ";
 
 // ---------------------------------------------------------------------------------------------------------------- the words
 
-#[derive(Clone)]
 struct Words {
     serve: Option<String>,
     to: Option<String>,
@@ -680,11 +682,11 @@ impl Peer {
         Ok(())
     }
 
-    /// Ends its role, and waits until the server closes too, at most 2 s. So nothing that it sent is lost by a reset.
+    /// Ends its role, and waits until the server closes too, at most 10 s. So nothing that it sent is lost by a reset.
     fn leave(&mut self, run: &Run, room: &mut [u8]) -> Result<(), String> {
         self.command(0, &[text("deleteStream"), real(4.0), vec![NULL], real(self.stream.into())], self.chunk(run))?;
         self.link.shutdown(Shutdown::Write).map_err(|e| e.to_string())?;
-        let end = Instant::now() + Duration::from_secs(2);
+        let end = Instant::now() + Duration::from_secs(10);
         while self.stage != Stage::Over && Instant::now() < end {
             wait(&mut [Watch { fd: self.link.as_raw_fd(), events: IN, found: 0 }], 100);
             self.read(run, room, &mut Sight::default())?;
@@ -1039,6 +1041,8 @@ struct Measured {
     seconds: f64,
     delivered: u64,
     server: Option<f64>,
+    /// The most memory that the server had at once, in MB.
+    memory: Option<f64>,
     own: f64,
 }
 
@@ -1052,6 +1056,7 @@ fn meter<'a>(run: &'a Run, pids: &'a [u32]) -> impl FnOnce() -> Measured + 'a {
             seconds: (after.0 - before.0) as f64 / 1e9,
             delivered: after.1 - before.1,
             server: after.2.zip(before.2).map(|(a, b)| a - b),
+            memory: pids.iter().map(|&pid| memory(pid)).sum(),
             own: after.3 - before.3,
         }
     }
@@ -1120,7 +1125,7 @@ fn run_load(run: &Arc<Run>, pids: &[u32]) -> Result<Seen, String> {
 }
 
 /// Prints what was seen, and tells whether all held.
-fn report(seen: &Seen, words: &Words, pids: &[u32], load: &str) -> bool {
+fn report(seen: &Seen, words: &Words, load: &str) -> bool {
     let Seen { measured, published, keeping, slow } = seen;
     println!(
         "{} players{}, {} Mbit/s, {:.1} s; load of the machine {load} before, {} after",
@@ -1149,12 +1154,11 @@ fn report(seen: &Seen, words: &Words, pids: &[u32], load: &str) -> bool {
         ways.len()
     );
     if let Some(server) = measured.server {
-        let memories: Option<f64> = pids.iter().map(|&pid| memory(pid)).sum();
         println!(
             "server: {server:.3} s of processor time ({:.2} % of one processor), {:.2} s a delivered GB, at most {:.1} MB of memory",
             100.0 * server / measured.seconds,
             server * 1e9 / measured.delivered as f64,
-            memories.unwrap_or(f64::NAN)
+            measured.memory.unwrap_or(f64::NAN)
         );
     }
     if let Some((sight, bytes)) = slow {
@@ -1206,7 +1210,7 @@ fn main() {
     });
     let seen = run_load(&run, &pids);
     let held = match &seen {
-        Ok(seen) => report(seen, &run.words, &pids, &load),
+        Ok(seen) => report(seen, &run.words, &load),
         Err(fault) => {
             eprintln!("load: {fault}");
             false
