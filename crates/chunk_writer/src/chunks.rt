@@ -4,13 +4,9 @@ ghost use Rattle.chunk_writer.specs.Written.{IsBegun, extended_bytes, header_wit
 
 use crate::Begun;
 use crate::begun::EXTENDED;
+use crate::lengths::message_len;
 use av_unit::{Bytes, OutOfMemory};
 use chunk_wire::{Head, write_head};
-
-// The bytes of the longest message header (5.3.1.2.1), and of extended time.
-const MESSAGE_HEADER: usize = 11;
-
-const EXTENDED_TIME: usize = 4;
 
 // Appends the extended time of a message that has one.
 #[tactic(auto, unfolding(crate::specs::Written::extended_bytes))]
@@ -106,21 +102,6 @@ fn write_payload(
     out.append(left)
 }
 
-// How many bytes a message that is begun so has as chunks, or a few more.
-fn room_for(begun: &Begun, size: usize, length: usize) -> usize
-    requires size { 1 ≤ size }
-    requires length { length < 2 ^ 24 }
-    ensures { result < 2 ^ 32 }
-{
-    let basic = if begun.id < 64 { 1 } else { 3 };
-    let extended = if begun.terms.extended {
-        EXTENDED_TIME
-    } else {
-        0
-    };
-    basic + MESSAGE_HEADER + extended + length + length / size * (basic + extended)
-}
-
 /// Appends the message. A refusal leaves what `out` held as the beginning of what it holds.
 pub(crate) fn write_message(
     size: usize,
@@ -134,7 +115,7 @@ pub(crate) fn write_message(
     ensures ok { OnOk result (out.new ≡ out.old ++ message_bytes size begun.now body.now) }
     ensures err { OnErr result ((rest : List ℕ) × (out.new ≡ out.old ++ rest)) }
 {
-    out.reserve(room_for(begun, size, body.len()))?;
+    out.reserve(message_len(begun, size, body.len()))?;
     write_header(begun.format, begun, out)?;
     write_payload(begun, size, body, out)
 }

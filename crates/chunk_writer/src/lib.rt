@@ -8,6 +8,7 @@ mod chunks;
 mod heading;
 mod lasts;
 mod laws;
+mod lengths;
 mod rule;
 mod sending;
 mod writer;

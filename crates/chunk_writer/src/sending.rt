@@ -1,9 +1,10 @@
-ghost use Rattle.std.specs.Prelude.{◌≡◌, ◌≤◌, ◌<◌, ◌+◌, ◌++◌, [], false, if◌then◌else◌, length, IfOk, OnErr};
+ghost use Rattle.std.specs.Prelude.{◌≡◌, ◌≤◌, ◌<◌, ◌^◌, ◌+◌, ◌++◌, [], false, if◌then◌else◌, length, IfOk, OnErr};
 ghost use Rattle.chunk_writer.specs.Written.{IsBegun};
 ghost use Rattle.chunk_writer.specs.InHand.{after_chunk, chunk_of, format_of, has_more, in_hand, left_of, payload_of};
 
 use crate::Begun;
 use crate::chunks::write_chunk;
+use crate::lengths::{header_len, message_len, spread_len};
 use av_unit::{Bytes, OutOfMemory};
 use std::marker::Model;
 
@@ -66,6 +67,20 @@ impl Sending {
     {
         let left = &body[self.sent as usize..];
         &left[..left.len().min(self.size as usize)]
+    }
+
+    /// How many bytes are left of the message with this body: those of the chunks that are to be written.
+    pub fn left_len(&self, body: &[u8]) -> usize
+        requires { length body.now ≡ self.now.begun.terms.length }
+        ensures value { result ≡ length (left_of self.now body.now) }
+        ensures most { result < 2 ^ 29 }
+    {
+        let size = self.size as usize;
+        if self.fresh {
+            return message_len(&self.begun, size, body.len());
+        }
+        let left = body.len() - self.sent as usize;
+        spread_len(header_len(3, &self.begun), size, 0, left)
     }
 
     /// Appends the next chunk of the message with this body, and answers whether there was one. All together the

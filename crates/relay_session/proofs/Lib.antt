@@ -11,6 +11,7 @@ pub mod Answering
 pub mod Placing
 pub mod Living
 pub mod Stopping
+pub mod Unsent
 pub mod Going
 pub mod Turning
 pub mod Rounds

@@ -1,9 +1,10 @@
 -- What contracts see of a session
-use Rattle.std.specs.Prelude.{◌≡◌, ℕ, Bool, List, ◌++◌, drop, Option, Some, None}
+use Rattle.std.specs.Prelude.{◌≡◌, ℕ, Bool, List, ◌++◌, length, drop, Option, Some, None}
 use Rattle.chunk_reader.specs.Sound.{IsRead}
 use Rattle.chunk_wire.specs.declared.message.Message.{Message}
 use Rattle.command_dialog.specs.declared.types.Ask.{Ask}
 use Rattle.command_dialog.specs.declared.types.Grant.{Grant}
+use Rattle.session_owed.specs.Owed.{out}
 use Rattle.session_owed.specs.Published.{published, pushed_by, pushed_in}
 use Rattle.session_owed.specs.Talk.{hand_bytes}
 use Rattle.relay_session.specs.Keeping.{HasEnded, IsOver, IsSteady, StandsBefore}
@@ -44,6 +45,22 @@ StandsBy (Some e) desk c = IsOver desk c
 
 abbrev pub StandsFor : {Q : Type 0} → (Ask → Grant) → SessionState Q → Type 0
 StandsFor desk s = StandsBy s.ended desk s.parts
+
+-- WHAT WAS SENT, with these bytes more, IS WHAT IS OWED before this desk: for the bytes fed, the messages that they read as, and
+-- its calls with their replies
+pub record Owes (desk : Ask → Grant) (c : Core) (more : List ℕ) : Type 0 where
+  pub ms : List (ℕ × Message)
+  pub read : IsRead c.reader.max (drop hand_bytes c.x) ms
+  pub owes : c.sent ++ more ≡ out (session c.who c.window desk) c.x ms c.calls
+
+-- what was sent begins it
+abbrev pub BeginsOwed : (Ask → Grant) → Core → Type 0
+BeginsOwed desk c = (more : List ℕ) × Owes desk c more
+
+-- of one that lives, so many bytes more are owed
+abbrev pub IsUnsent : Option End → (Ask → Grant) → Core → ℕ → Type 0
+IsUnsent None desk c n = (more : List ℕ) × (Owes desk c more × (n ≡ length more))
+IsUnsent (Some e) desk c n = BeginsOwed desk c
 
 -- THE UNITS PUBLISHED by the messages of the bytes fed, as the dialogue makes calls of them, are those of its calls, and that of
 -- the call that waits: none is lost, and none published twice

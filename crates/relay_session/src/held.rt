@@ -1,6 +1,7 @@
-ghost use Rattle.std.specs.Prelude.{◌≡◌, ◌≤◌, ℕ};
+ghost use Rattle.std.specs.Prelude.{◌≡◌, ◌≤◌, ℕ, length};
 ghost use Rattle.relay_session.specs.Bounds.{HasRoom, IsLight, call_bytes, kept_bytes};
 ghost use Rattle.relay_session.specs.Holding.{IsHolding, most_held, unit_bytes};
+ghost use Rattle.relay_session.specs.Owing.{pending};
 
 use crate::Core;
 use crate::input::Input;
@@ -46,4 +47,12 @@ pub(crate) fn held_in(core: &Core, input: &Input) -> u64
     let parts = core.reader.held();
     let input = input.left().len() as u64;
     app + kept + unit + later + ready + parts + input
+}
+
+/// How many bytes a session is to send.
+pub(crate) fn pending_in(core: &Core) -> u64
+    requires { IsLight core.now.outgoing.others core.now.kept }
+    ensures { result ≡ length (pending core.now.outgoing) }
+{
+    core.outgoing.pending_len() as u64
 }

@@ -1,7 +1,8 @@
-ghost use Rattle.std.specs.Prelude.{◌≡◌, ◌≤◌, ◌+◌, ◌*◌, ◌⊎◌, ◌∷◌, ◌++◌, [], length, min, drop, OnErr, OnOk};
+ghost use Rattle.std.specs.Prelude.{◌≡◌, ◌≤◌, ◌<◌, ◌+◌, ◌*◌, ◌^◌, ◌⊎◌, ◌∷◌, ◌++◌, [], length, min, drop, OnErr, OnOk};
 ghost use Rattle.chunk_wire.specs.declared.message.Message.{Message};
 ghost use Rattle.chunk_writer.specs.Written.{after_all, written};
 ghost use Rattle.command_dialog.specs.Dialog.{unit_message};
+ghost use Rattle.session_owed.specs.Chunks.{rest_by};
 ghost use Rattle.relay_session.specs.Holding.{unit_bytes};
 ghost use Rattle.relay_session.specs.Owing.{AreWritable, IsSayable, IsSized, Says, Shows, cost_of, costs_of, nothing, pending};
 
@@ -55,6 +56,17 @@ fn write_all(writer: &mut Writer, messages: &[Message], out: &mut Bytes) -> Resu
         left = rest;
     }
     Ok(())
+}
+
+// How many bytes are left of the unit in hand, if there is one.
+fn hand_len(hand: &Option<UnitInHand>) -> usize
+    ensures value { result ≡ length (rest_by hand.now) }
+    ensures most { result < 2 ^ 29 }
+{
+    match hand {
+        None => 0,
+        Some(hand) => hand.left_len(),
+    }
 }
 
 impl Outgoing {
@@ -230,6 +242,17 @@ impl Outgoing {
         ensures most { length self.now.ready + length self.now.later ≤ self.now.others + 20498 }
     {
         &self.first.as_slice()[self.offset..]
+    }
+
+    /// How many bytes are pending. Those of the unit that is being sent are counted without encoding it.
+    pub fn pending_len(&self) -> usize
+        requires { self.now.others < 2 ^ 32 }
+        ensures { result ≡ length (pending self.now) }
+    {
+        let unit = hand_len(&self.hand);
+        let later = self.later().len();
+        let ready = self.ready().len();
+        ready + unit + later
     }
 
     /// The first bytes that are encoded were sent.

@@ -9,11 +9,11 @@ ghost use Rattle.relay_session.specs.Owing.{pending};
 ghost use Rattle.relay_session.specs.Onward.{GoesOn};
 ghost use Rattle.relay_session.specs.Places.{Asked, IsAt, IsOffered};
 ghost use Rattle.relay_session.specs.SeatState.{GoOn, HasFit, LeaveFails, LeavesFrom, StandsAt, left_at, place_of};
-ghost use Rattle.relay_session.specs.SessionState.{Publishes, StandsFor, end_or_quit, ended_by, gone_but_kept, life_at};
+ghost use Rattle.relay_session.specs.SessionState.{BeginsOwed, IsUnsent, Publishes, StandsFor, end_or_quit, ended_by, gone_but_kept, life_at};
 ghost use Rattle.relay_session.specs.Turns.{EndedBy};
 
 use crate::body::Body;
-use crate::held::held_in;
+use crate::held::{held_in, pending_in};
 use crate::input::Input;
 use crate::six_steps::kept_on;
 use crate::steps::new_core;
@@ -158,6 +158,21 @@ impl<P: StreamPort> Session<P> {
         ensures most { (m : ℕ) → unit_bytes self.now.parts.outgoing.hand ≤ m → result ≤ most_held self.now.parts.reader.max m }
     {
         held_in(&self.body.core, &self.body.input)
+    }
+
+    /// How many bytes it owes and hasn't sent; of one that has ended, those that it hadn't sent then.
+    pub fn pending(&self) -> u64
+        ensures value { result ≡ length (pending self.now.parts.outgoing) }
+        ensures owed { (desk : Ask → Grant) → StandsFor desk self.now → IsUnsent self.now.ended desk self.now.parts result }
+    {
+        pending_in(&self.body.core)
+    }
+
+    /// What it was sent begins what it owes before each desk for which it stands.
+    pub fn owed_law(&self)
+        ensures { (desk : Ask → Grant) → StandsFor desk self.now → BeginsOwed desk self.now.parts }
+    {
+        let _ = &self.ended;
     }
 
     /// How many bytes of its peer's it was fed; of one that a byte ended, those before it.

@@ -1,4 +1,4 @@
-ghost use Rattle.std.specs.Prelude.{◌≡◌, ◌≤◌, ◌<◌, ◌+◌, ◌-◌, ◌⊎◌, ℕ, [], length, IfOk, OnOk};
+ghost use Rattle.std.specs.Prelude.{◌≡◌, ◌≤◌, ◌<◌, ◌+◌, ◌-◌, ◌^◌, ◌⊎◌, ℕ, [], length, IfOk, OnOk};
 ghost use Rattle.chunk_writer.specs.Written.{after};
 ghost use Rattle.command_dialog.specs.Dialog.{unit_message};
 ghost use Rattle.session_owed.specs.Chunks.{hand_of};
@@ -49,6 +49,14 @@ impl UnitInHand {
         ensures most { result ≤ 4194304 }
     {
         self.unit.unit().body.len()
+    }
+
+    /// How many bytes the chunks have that are left of it.
+    pub(crate) fn left_len(&self) -> usize
+        ensures value { result ≡ length (left self.now) }
+        ensures most { result < 2 ^ 29 }
+    {
+        self.sending.left_len(self.unit.unit().body.as_slice())
     }
 
     /// Appends chunks, as long as there are more and `out` has fewer bytes from a place on than `most`.
