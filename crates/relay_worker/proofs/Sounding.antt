@@ -37,7 +37,7 @@ use Rattle.relay_worker.proofs.Slabs.{gone_cases, put_cases}
 no_calls : (c : List Own) (visits : List Visit) → c ≡ [] → visits ≡ [] → c ≡ calls_of visits
 no_calls c visits a b = a ∙ sym (ap calls_of b)
 
-named_more : (number had who : ℕ) → IsNamed number had who → IsNamed number (had + 1) who
+pub named_more : (number had who : ℕ) → IsNamed number had who → IsNamed number (had + 1) who
 named_more number had who n = record { from = n.from; to = let t = n.to in omega arith }
 
 module _ {Q : Type 0} where
@@ -129,7 +129,7 @@ filed_on fits rules x y rs g all =
 -- ---- each session has a name of its own
 
 module _ {P Q L : Type 0} where
-  abbrev Single : Slab (Seated P L Q) → Type 0
+  abbrev pub Single : Slab (Seated P L Q) → Type 0
   Single sessions = (j k : ℕ) (s u : Seated P L Q) → get sessions j ≡ Some s → get sessions k ≡ Some u → s.session.parts.who ≡ u.session.parts.who → j ≡ k
 
   pub single_put : (old new : Slab (Seated P L Q)) (key : ℕ) (s s' : Seated P L Q) → get old key ≡ Some s → Updates old new key (Some s') → s'.session.parts.who ≡ s.session.parts.who → Single old → Single new

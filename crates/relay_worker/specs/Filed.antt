@@ -11,6 +11,7 @@ use Rattle.media_recorder.specs.declared.turn.Leaving.TheVariants as leaving
 use Rattle.media_recorder.specs.Leaves.{Goes}
 use Rattle.media_recorder.specs.Ports.{Serves}
 use Rattle.media_recorder.specs.Says.{Says}
+use Rattle.media_recorder.specs.Transport.{recorded_text}
 use Rattle.media_recorder.specs.Turns.{RecorderState, Turns}
 use Rattle.relay_worker.specs.declared.recorder.Recorder.{Recorder}
 use Rattle.relay_worker.specs.declared.recorder.Recorder.TheVariants as recorder
@@ -20,19 +21,24 @@ use Rattle.relay_worker.specs.declared.recorder.Parted.TheVariants as parted
 -- how it writes
 pub data Form : Type 0 where
   AsFlv : Form
+  AsTs : Form
 
 abbrev pub form_of : {P K Q : Type 0} → Recorder P K Q → Form
 form_of (recorder.Flv r sink) = AsFlv
+form_of (recorder.Ts r sink) = AsTs
 
 abbrev pub state_of : {P K Q : Type 0} → Recorder P K Q → RecorderState Q
 state_of (recorder.Flv r sink) = r
+state_of (recorder.Ts r sink) = r
 
 abbrev pub sink_of : {P K Q : Type 0} → Recorder P K Q → K
 sink_of (recorder.Flv r sink) = sink
+sink_of (recorder.Ts r sink) = sink
 
 -- the text of items in that form
 abbrev pub text_in : Form → List Item → List ℕ
 text_in AsFlv items = flv_text items
+text_in AsTs items = recorded_text items
 
 abbrev pub text_of : {P K Q : Type 0} → Recorder P K Q → List Item → List ℕ
 text_of r = text_in (form_of r)

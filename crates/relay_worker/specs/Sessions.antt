@@ -10,6 +10,7 @@ use Rattle.stream_registry.specs.Told.{Step, Histories}
 use Rattle.session_owed.specs.Standing.{new_past}
 use Rattle.relay_session.specs.Keeping.{past_of}
 use Rattle.relay_session.specs.SeatState.{GoOn, HasFit, LeaveFails, LeavesFrom, SeatState, StandsAt, left_at, place_of}
+use Rattle.relay_session.specs.SeatVisits.{calls_of}
 use Rattle.relay_session.specs.SessionState.{SessionState, StandsFor, end_or_quit, ended_by, gone_but_kept, life_at}
 use Rattle.relay_session.specs.Turns.{EndedBy}
 use Rattle.relay_session.specs.declared.end.End.{End}
@@ -69,6 +70,7 @@ pub record TakesTurn {P Q L : Type 0} (asks : P → SeatState Q → ℕ → Entr
   pub who : s'.session.parts.who ≡ s.session.parts.who
   pub goes_on : goes port s.session.seat port' s'.session.seat
   pub stands : StandsFor desk s.session → StandsFor desk s'.session
+  pub calls : s'.session.parts.calls ≡ calls_of s'.session.seat.visits
 
 -- ONE CLOSE of a session that has ended
 pub record Closes {P Q : Type 0} (fits : P → ℕ → Q → Type 0) (rules : P → PortRules) (root : P → Histories) (seen : Q → List Step) (count : Q → ℕ) (wants : Entry → Type 0) (busies : P → ℕ)

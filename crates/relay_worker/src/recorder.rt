@@ -8,7 +8,7 @@ ghost use Rattle.media_recorder.specs.Taken.{taken};
 ghost use Rattle.media_recorder.specs.Turns.{Turns};
 ghost use Rattle.relay_worker.specs.Filed.{Leaves, form_of, sink_of, state_of, text_of};
 
-use media_recorder::{FlvRecorder, Leaving, RecEnd, RecTurn};
+use media_recorder::{FlvRecorder, Leaving, RecEnd, RecTurn, TsRecorder};
 use relay_outside::Sink;
 use stream_registry::StreamPort;
 
@@ -17,6 +17,8 @@ use stream_registry::StreamPort;
 pub enum Recorder<P: StreamPort, K: Sink> {
     /// It writes FLV.
     Flv(FlvRecorder<P>, K),
+    /// It writes a transport stream.
+    Ts(TsRecorder<P>, K),
 }
 
 /// What became of a recorder that was to leave.
@@ -44,6 +46,10 @@ impl<P: StreamPort, K: Sink> Recorder<P, K> {
                 recorder.law();
                 recorder.flv_law();
             }
+            Recorder::Ts(recorder, _) => {
+                recorder.law();
+                recorder.ts_law();
+            }
         }
     }
 
@@ -63,6 +69,7 @@ impl<P: StreamPort, K: Sink> Recorder<P, K> {
     {
         match self {
             Recorder::Flv(recorder, sink) => recorder.turn(port, sink),
+            Recorder::Ts(recorder, sink) => recorder.turn(port, sink),
         }
     }
 
@@ -81,6 +88,11 @@ impl<P: StreamPort, K: Sink> Recorder<P, K> {
                 Leaving::OutOfMemory(recorder) => Parted::OutOfMemory(Recorder::Flv(
                     recorder, sink,
                 )),
+            },
+            Recorder::Ts(recorder, sink) => match recorder.leave(port) {
+                Leaving::Done => Parted::Done(sink),
+                Leaving::Busy(recorder) => Parted::Busy(Recorder::Ts(recorder, sink)),
+                Leaving::OutOfMemory(recorder) => Parted::OutOfMemory(Recorder::Ts(recorder, sink)),
             },
         }
     }
