@@ -1,4 +1,6 @@
+pub mod Booking
 pub mod Crossing
+pub mod Moving
 pub mod Slabs
 pub mod Sounding
 pub mod Turning

@@ -1,6 +1,7 @@
 //! All workers at the same time.
 ghost use Rattle.std.specs.Prelude.{◌≡◌, ◌<◌, ℕ, All, length, slice_index_or};
 ghost use Rattle.relay_session.specs.Places.{IsOffered};
+ghost use Rattle.relay_worker.specs.Books.{HasBooks};
 ghost use Rattle.relay_worker.specs.Running.{Each, HasRun, KeepsOn};
 
 use crate::worker::Worker;
@@ -28,6 +29,9 @@ where
     ensures run { All (λ w. HasRun D.told w) workers.new }
     ensures keeps { (i : ℕ) (d : _) → i < length workers.old
         → KeepsOn P.fits P.rules P.root (slice_index_or workers.old i d) (slice_index_or workers.new i d) }
+    ensures books { (i : ℕ) (d : _) → i < length workers.old
+        → HasBooks P.rules P.root P.seen D.Link.told D.told (G.grants desk.now) (slice_index_or workers.old i d)
+        → HasBooks P.rules P.root P.seen D.Link.told D.told (G.grants desk.now) (slice_index_or workers.new i d) }
 {
     let count = workers.len().max(1);
     thread::for_each_mut(
@@ -36,7 +40,9 @@ where
         count,
         &|_, worker: &mut Worker<P, D, R, K>|
             requires { IsOffered (G.grants desk.now) (length (P.rules worker.old.bench.port).names) }
-            ensures { HasRun D.told worker.new × KeepsOn P.fits P.rules P.root worker.old worker.new }
+            ensures { HasRun D.told worker.new × KeepsOn P.fits P.rules P.root worker.old worker.new
+                × (HasBooks P.rules P.root P.seen D.Link.told D.told (G.grants desk.entry.now) worker.old
+                → HasBooks P.rules P.root P.seen D.Link.told D.told (G.grants desk.entry.now) worker.new) }
         { worker.run(rt, desk) },
     );
 }

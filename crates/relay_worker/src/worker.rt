@@ -1,11 +1,16 @@
 //! A worker.
-ghost use Rattle.std.specs.Prelude.{◌≡◌, ◌≤◌, ◌<◌, ◌^◌, [], ◌∷◌, ◌++◌, ℕ, length, false, IfOk, OnOk, OnErr};
+ghost use Rattle.std.specs.Prelude.{◌≡◌, ◌≤◌, ◌<◌, ◌^◌, [], ◌∷◌, ◌++◌, ℕ, List, length, false, IfOk, OnOk, OnErr};
 ghost use Rattle.command_dialog.specs.declared.types.Ask.{Ask};
+ghost use Rattle.command_dialog.specs.declared.types.Grant.{Grant};
 ghost use Rattle.slab.specs.Slab.{slab_len};
 ghost use Rattle.relay_outside.specs.Doors.{IsNewDoor};
+ghost use Rattle.relay_outside.specs.Heard.{Came, HearStep};
+ghost use Rattle.relay_outside.specs.Said.{SayStep};
+ghost use Rattle.relay_outside.specs.declared.link.Said.{Said};
 ghost use Rattle.relay_session.specs.Onward.{GoesOn};
 ghost use Rattle.relay_session.specs.Places.{Asked, IsOffered};
 ghost use Rattle.relay_worker.specs.Benches.{AreFiled, IsFiled, IsSound};
+ghost use Rattle.relay_worker.specs.Books.{HasBooks, Settled};
 ghost use Rattle.relay_worker.specs.Filed.{TakesTurn as FileTurn};
 ghost use Rattle.relay_worker.specs.Rounds.{Rounds};
 ghost use Rattle.relay_worker.specs.Running.{HasRun, KeepsOn};
@@ -16,7 +21,7 @@ use crate::recorder::Recorder;
 use crate::round::Round;
 use av_unit::OutOfMemory;
 use relay_base::Limits;
-use relay_outside::{Door, Rest, Sink};
+use relay_outside::{Door, Link, Rest, Sink};
 use relay_session::Desk;
 use slab::Slab;
 use std::alloc::Global;
@@ -75,6 +80,7 @@ impl<P: StreamPort, D: Door, R: Rest, K: Sink> Worker<P, D, R, K> {
         ensures door { IfOk result (λ w. w.bench.door ≡ door) }
         ensures none { IfOk result (λ w. (slab_len w.bench.sessions ≡ 0) × (w.recorders ≡ [])) }
         ensures whole { IfOk result (λ w. w.bench.refused ≡ false) }
+        ensures books { IfOk result (λ w. (desk : Ask → Grant) → HasBooks P.rules P.root P.seen D.Link.told D.told desk w) }
     {
         let Ok(sessions) = Slab::with_capacity(alloc, links as usize) else {
             return Err(OutOfMemory);
@@ -140,7 +146,10 @@ impl<P: StreamPort, D: Door, R: Rest, K: Sink> Worker<P, D, R, K> {
             (Closes P.fits P.rules P.root P.seen P.count P.wants P.busies)
             (FileTurn P.fits P.rules P.root P.busies P.seen P.mine P.count K.takes K.holds) self.old result self.new }
         ensures keeps { KeepsOn P.fits P.rules P.root self.old self.new }
+        ensures books { HasBooks P.rules P.root P.seen D.Link.told D.told (G.grants desk.now) self.old
+            → HasBooks P.rules P.root P.seen D.Link.told D.told (G.grants desk.now) self.new }
     {
+        link_law::<D::Link>();
         self.bench.moved = false;
         self.bench.dropped = false;
         self.bench.admit(self.alloc, &self.terms);
@@ -157,6 +166,8 @@ impl<P: StreamPort, D: Door, R: Rest, K: Sink> Worker<P, D, R, K> {
         requires offered { IsOffered (G.grants desk.now) (length (P.rules self.old.bench.port).names) }
         ensures keeps { KeepsOn P.fits P.rules P.root self.old self.new }
         ensures run { HasRun D.told self.new }
+        ensures books { HasBooks P.rules P.root P.seen D.Link.told D.told (G.grants desk.now) self.old
+            → HasBooks P.rules P.root P.seen D.Link.told D.told (G.grants desk.now) self.new }
     {
         for _ in rt.forever() {
             let round = self.round(desk);
@@ -179,6 +190,8 @@ impl<P: StreamPort, D: Door, R: Rest, K: Sink> Worker<P, D, R, K> {
         ensures recorders { result.recorders.items ≡ self.recorders }
         ensures filed { AreFiled P.fits P.rules result.port result.recorders.items }
         ensures refused { result.refused ≡ self.bench.refused }
+        ensures books { (desk : Ask → Grant) → HasBooks P.rules P.root P.seen D.Link.told D.told desk self
+            → Settled desk self.terms (P.rules result.port).limits (P.root result.port) (D.told result.door) result.refused }
     {
         let Worker {
             alloc: _,
@@ -207,3 +220,11 @@ impl<P: StreamPort, D: Door, R: Rest, K: Sink> Worker<P, D, R, K> {
         }
     }
 }
+
+// What the steps of a link mean.
+fn link_law<L: Link>()
+    ensures heard { (l : L) (room : ℕ) (answer : Came) (m : L) → 0 < room → L.hears l room answer m
+        → HearStep room (L.told l) (L.told m) (L.counts l) (L.counts m) answer }
+    ensures said { (l : L) (piece : List ℕ) (answer : Said) (m : L) → 0 < length piece → L.says l piece answer m
+        → SayStep piece (L.told l) (L.told m) (L.counts l) (L.counts m) answer }
+{}

@@ -1,6 +1,7 @@
 use Rattle.std.proofs.Common.{[], length, refl, rules}
 use Rattle.std.proofs.lemmas.List.Elements.{All-nil, All-same}
 use Rattle.relay_worker.specs.Benches.{IsFiled}
+use Rattle.relay_worker.proofs.Booking.{first_books}
 use Rattle.relay_worker.proofs.Sounding.{sound_new}
 use Rattle.relay_worker.proofs.worker.Worker.new.Goals as goal
 
@@ -9,3 +10,6 @@ invariant_of-result g c = (
   sound_new g.P.StreamPort.fits g.P.StreamPort.rules g.D.Door.told _ _ c.requires.number c.requires.short c.in-Ok.ensures.empty c.in-Ok.ensures.capacity refl refl c.requires.door.given c.requires.door.open_yet,
   All-same (IsFiled (g.P.StreamPort.fits c.args.port) (length (g.P.StreamPort.rules c.args.port).names)) c.new.result.items [] (search rules) (All-nil (IsFiled (g.P.StreamPort.fits c.args.port) (length (g.P.StreamPort.rules c.args.port).names))),
 )
+
+pub returns-clause-books : goal.returns-clause-books
+returns-clause-books g c = λ desk. first_books g.P.StreamPort.rules g.P.StreamPort.root g.P.StreamPort.seen g.D.Link.Link.told g.D.Link.Link.counts g.D.Door.told desk _ _ c.requires.door c.in-Ok.ensures.empty refl

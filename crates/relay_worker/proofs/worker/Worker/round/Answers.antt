@@ -1,8 +1,11 @@
-use Rattle.std.proofs.Common.{◌≡◌, ◌∙◌, ap, arith, length, map, refl}
+use Rattle.std.proofs.Common.{◌≡◌, ◌∙◌, ap, arith, length, map, refl, subst, sym}
 use Rattle.std.proofs.lemmas.List.Elements.{All-same}
-use Rattle.relay_worker.specs.Benches.{IsFiled}
+use Rattle.relay_worker.specs.Benches.{IsFiled, IsSound}
+use Rattle.relay_worker.specs.Books.{Works}
+use Rattle.relay_worker.specs.Filed.{TakesTurn, state_of}
 use Rattle.relay_worker.specs.Running.{label_of}
-use Rattle.relay_worker.proofs.Sounding.{ahead_trans, keeps_at, kept, records_at, rounds_at}
+use Rattle.relay_worker.proofs.Booking.{round_works}
+use Rattle.relay_worker.proofs.Sounding.{ahead_serves, ahead_trans, keeps_at, kept, records_at, rounds_at}
 use Rattle.relay_worker.proofs.worker.Worker.round.Goals as goal
 
 pub invariant_of-self : goal.invariant_of-self
@@ -47,3 +50,18 @@ returns-clause-keeps g c =
           (ahead_trans fits rules root c.turn_all.new.self.port c.close_all.new.self.port c.record_all.new.self.port c.close_all.ensures.ahead c.record_all.ensures.ahead));
       labels = ap (map label_of) (kept c.self.inside.recorders.len new items a c.self.inside.recorders.ok.0) ∙ (c.record_all.ensures.labels ∙ ap (map label_of) c.as_mut_slice.ensures.value);
     })
+
+pub returns-clause-books : goal.returns-clause-books
+returns-clause-books g c works =
+    let fits = g.P.StreamPort.fits in
+    let rules = g.P.StreamPort.rules in
+    let root = g.P.StreamPort.root in
+    let desk = g.G.Desk.grants c.args.desk.now in
+    let w = c.args.self.now in
+    let files = TakesTurn fits rules root g.P.StreamPort.busies g.P.StreamPort.seen g.P.StreamPort.mine g.P.StreamPort.count g.K.Sink.takes g.K.Sink.holds in
+    let r = returns-clause-rounds g c in
+    let sound = subst (λ v. IsSound fits rules g.D.Door.told v.terms v.bench) c.self.view_is c.self.invariant.0 in
+    subst (λ t. Works rules root g.P.StreamPort.seen g.D.Link.Link.told g.D.Door.told desk t c.record_all.new.self) (sym r.terms)
+    (round_works rules root g.P.StreamPort.seen g.D.Link.Link.told g.D.Link.Link.counts g.D.Door.told desk w.terms fits g.P.StreamPort.count g.P.StreamPort.wants g.P.StreamPort.busies files
+    (λ x q a y q' k. let s = ahead_serves fits rules root g.P.StreamPort.busies (state_of q).seat.place x y k.serves in (s.fixed, s.roots))
+    g.D.Link.Link.hears c.link_law.ensures.heard g.D.Link.Link.says c.link_law.ensures.said fits w _ c.round.result refl sound r works)

@@ -1,5 +1,6 @@
 use Rattle.std.proofs.Common.{ap, length, subst, sym}
 use Rattle.stream_registry.specs.Names.{PortRules}
+use Rattle.relay_worker.specs.Books.{HasBooks}
 use Rattle.relay_worker.specs.Running.{KeepsOn}
 use Rattle.relay_worker.proofs.Sounding.{has_run, keeps_trans, offered_on}
 use Rattle.relay_worker.proofs.worker.Worker.run.Goals as goal
@@ -17,6 +18,7 @@ loop-preserved g c =
     record {
       offered = offered_on (g.G.Desk.grants c.args.desk.now) (length (g.P.StreamPort.rules c.loop.self.bench.port).names) (length (g.P.StreamPort.rules c.round-round.new.self.bench.port).names) (ap (λ (r : PortRules). length r.names) e.port.fixed) c.loop.invariant.offered;
       keeps = keeps_trans g.P.StreamPort.fits g.P.StreamPort.rules g.P.StreamPort.root c.args.self.now c.loop.self c.round-round.new.self c.loop.invariant.keeps e;
+      books = λ b. c.round-round.ensures.books (c.loop.invariant.books b);
     }
 
 pub loop-preserved-then-not-round : goal.loop-preserved-then-not-round
@@ -27,4 +29,9 @@ loop-preserved-then-not-round g c =
           (offered_on (g.G.Desk.grants c.args.desk.now) (length (g.P.StreamPort.rules c.loop.self.bench.port).names) (length (g.P.StreamPort.rules c.round-round.new.self.bench.port).names) (ap (λ (r : PortRules). length r.names) e.port.fixed) c.loop.invariant.offered);
       keeps = subst (λ w. KeepsOn g.P.StreamPort.fits g.P.StreamPort.rules g.P.StreamPort.root c.args.self.now w) (sym c.pause.ensures)
           (keeps_trans g.P.StreamPort.fits g.P.StreamPort.rules g.P.StreamPort.root c.args.self.now c.loop.self c.round-round.new.self c.loop.invariant.keeps e);
+      books = λ b. subst (λ w. HasBooks g.P.StreamPort.rules g.P.StreamPort.root g.P.StreamPort.seen g.D.Link.Link.told g.D.Door.told (g.G.Desk.grants c.args.desk.now) w) (sym c.pause.ensures)
+          (c.round-round.ensures.books (c.loop.invariant.books b));
     }
+
+pub returns-then-round-eq0-clause-books : goal.returns-then-round-eq0-clause-books
+returns-then-round-eq0-clause-books g c b = c.round-round.ensures.books (c.loop.invariant.books b)
