@@ -110,14 +110,8 @@ fn part<K: Sink>(port: &mut Shared<Desk>, recorder: ServeRecorder<K>) -> Titled<
 {
     match recorder.leave(port) {
         Parted::Done(file) => file,
-        Parted::Busy(Recorder::Flv(recorder, file)) => {
-            drop(recorder);
-            file
-        }
-        Parted::OutOfMemory(Recorder::Flv(recorder, file)) => {
-            drop(recorder);
-            file
-        }
+        Parted::Busy(recorder) => recorder.into_file(),
+        Parted::OutOfMemory(recorder) => recorder.into_file(),
     }
 }
 

@@ -3,12 +3,14 @@
 #![tactic(auto)]
 
 mod bench;
+mod laws;
 mod recorder;
 mod round;
 mod running;
 mod worker;
 
 pub use bench::{Bench, Seated, Terms};
+pub use laws::settled_law;
 pub use recorder::{Parted, Recorder};
 pub use round::Round;
 pub use running::run_all;

@@ -96,4 +96,20 @@ impl<P: StreamPort, K: Sink> Recorder<P, K> {
             },
         }
     }
+
+    /// Its file alone. The recorder is dropped where it is.
+    pub fn into_file(self) -> K
+        ensures { result ≡ sink_of self }
+    {
+        match self {
+            Recorder::Flv(recorder, sink) => {
+                drop(recorder);
+                sink
+            }
+            Recorder::Ts(recorder, sink) => {
+                drop(recorder);
+                sink
+            }
+        }
+    }
 }

@@ -1,0 +1,16 @@
+//! Laws of what a worker leaves.
+ghost use Rattle.std.specs.Prelude.{ℕ, Bool};
+ghost use Rattle.command_dialog.specs.declared.types.Ask.{Ask};
+ghost use Rattle.command_dialog.specs.declared.types.Grant.{Grant};
+ghost use Rattle.relay_outside.specs.Doors.{DoorTold};
+ghost use Rattle.relay_session.specs.SeatState.{GoOn};
+ghost use Rattle.relay_worker.specs.Books.{Settled};
+ghost use Rattle.relay_worker.specs.declared.bench.Terms.{Terms};
+ghost use Rattle.stream_model.specs.declared.calls.StreamLimits.{StreamLimits};
+ghost use Rattle.stream_registry.specs.Told.{Histories};
+
+/// What is left of a worker's books still holds once the streams' histories have gone on.
+pub fn settled_law()
+    ensures { (desk : Ask → Grant) (terms : Terms) (limits : ℕ → StreamLimits) (histories later : Histories) (door : DoorTold) (refused : Bool)
+        → GoOn histories later → Settled desk terms limits histories door refused → Settled desk terms limits later door refused }
+{}
