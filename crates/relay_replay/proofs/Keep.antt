@@ -15,7 +15,7 @@ use Rattle.media_recorder.specs.Ports.{FitsIf}
 use Rattle.relay_session.specs.Grants.{granted_from, grants_for, is_named, judged}
 use Rattle.relay_session.specs.Places.{Asked, IsGrantThere, IsOffered, IsThere}
 use Rattle.relay_session.specs.SeatState.{HasFit}
-use Rattle.relay_session.specs.SessionState.{SessionState, life_at}
+use Rattle.relay_session.specs.SessionState.{BeginsOwed, SessionState, StandsFor, life_at}
 use Rattle.relay_session.specs.Turns.{EndedBy}
 use Rattle.relay_session.specs.declared.end.End.{End}
 use Rattle.relay_session.specs.declared.turn.Turn.{Turn}
@@ -117,10 +117,10 @@ pub turned : (r : Result (Unit {0}) OutOfMemory) (desk : Ask → Grant) (port be
     → is_some c.ended ≡ false
     → EndedBy (Asked FitsSole (λ s. sole_rules s.rules) (λ s. journal_at s.books) (λ p. p.seen) (λ p. length p.seen) (λ _. Unit {0}) (λ _. 0)) desk
     MemHears MemSays c.session.ended c.session.quit (life_at c.session port) c.link a (life_at mid between) d.link
-    → OnOk r (AfterTurn a mid between d.session d.ended port') → OnOk r (SessionTurn c.ended desk port c port' d)
-turned (Ok x) desk port between port' c d mid a lives turn leads =
-    turned_by c.ended desk port c port' d lives (record { answer = a; between = between; mid = mid; turn = turn; leads = leads })
-turned (Err e) desk port between port' c d mid a lives turn leads = tt
+    → (StandsFor desk c.session → StandsFor desk mid) → (StandsFor desk mid → BeginsOwed desk mid.parts) → OnOk r (AfterTurn a mid between d.session d.ended port') → OnOk r (SessionTurn c.ended desk port c port' d)
+turned (Ok x) desk port between port' c d mid a lives turn stands owed leads =
+    turned_by c.ended desk port c port' d lives (record { answer = a; between = between; mid = mid; turn = turn; stands = stands; owed = owed; leads = leads })
+turned (Err e) desk port between port' c d mid a lives turn stands owed leads = tt
 
 get_some : {A : Type 0} → (xs : List A) (n : ℕ) (x : A) → n < length xs → x ≡ get_or xs n x → slice_get xs n ≡ Some x
 get_some [] n x h e = absurd (omega (arith, h))

@@ -1,3 +1,5 @@
 pub mod Keep
 pub mod New
 pub mod Totals
+pub mod Taking
+pub mod Serving

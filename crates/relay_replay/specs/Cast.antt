@@ -6,7 +6,7 @@ use Rattle.relay_outside.specs.MemLinks.{MemLinkState, MemHears, MemSays}
 use Rattle.stream_registry.specs.Books.{SoleState, SeenState, FitsSole, journal_at, sole_rules}
 use Rattle.relay_session.specs.Places.{Asked}
 use Rattle.relay_session.specs.SeatState.{GoOn, LeavesFrom, place_of}
-use Rattle.relay_session.specs.SessionState.{SessionState, end_or_quit, gone_but_kept, life_at}
+use Rattle.relay_session.specs.SessionState.{BeginsOwed, SessionState, StandsFor, end_or_quit, gone_but_kept, life_at}
 use Rattle.relay_session.specs.Turns.{EndedBy}
 use Rattle.relay_session.specs.declared.end.End.{End}
 use Rattle.relay_session.specs.declared.end.End.TheVariants as end
@@ -62,13 +62,16 @@ AfterTurn Moved s port s' ended port' = (s' ≡ s) × (port' ≡ port) × (ended
 AfterTurn Idle s port s' ended port' = (s' ≡ s) × (port' ≡ port) × (ended ≡ None)
 AfterTurn (Ended e) s port s' ended port' = HasMemory e × (ended ≡ Some e) × IsClosed port s port' s'
 
--- a turn of a session at these streams: the one of `Session::turn`, with a link in memory
+-- a turn of a session at these streams: the one of `Session::turn`, with a link in memory. Where the session stood for what it was
+-- fed and its calls it does so after it, and what it sent begins what it owes
 pub record Turned (desk : Ask → Grant) (port : SoleState) (c : ConnState) (port' : SoleState) (d : ConnState) : Type 0 where
   pub answer : Turn
   pub between : SoleState
   pub mid : SessionState SeenState
   pub turn : EndedBy (Asked FitsSole (λ s. sole_rules s.rules) (λ s. journal_at s.books) (λ p. p.seen) (λ p. length p.seen) (λ _. Unit {0}) (λ _. 0)) desk
       MemHears MemSays c.session.ended c.session.quit (life_at c.session port) c.link answer (life_at mid between) d.link
+  pub stands : StandsFor desk c.session → StandsFor desk mid
+  pub owed : StandsFor desk mid → BeginsOwed desk mid.parts
   pub leads : AfterTurn answer mid between d.session d.ended port'
 
 -- one that has ended does nothing

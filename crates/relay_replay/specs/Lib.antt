@@ -3,4 +3,5 @@ pub mod Stand
 pub mod Cast
 pub mod Plays
 pub mod Scenes
+pub mod Served
 pub mod Prints

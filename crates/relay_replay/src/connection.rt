@@ -39,8 +39,10 @@ impl Connection {
         requires { limits.max_message ≤ 4194304 }
         ensures { IsNewSession limits who result }
     {
+        let session = Session::new(alloc, who, limits);
+        session.owed_law();
         Connection {
-            session: Session::new(alloc, who, limits),
+            session,
             link: MemLink::new(alloc),
             ended: None,
         }
@@ -106,6 +108,7 @@ impl Connection {
             return Ok(());
         }
         let answer = self.session.turn(alloc, port, &mut self.link, desk);
+        self.session.owed_law();
         after(&mut self.session, &mut self.ended, port, answer)
     }
 }

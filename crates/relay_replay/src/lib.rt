@@ -11,5 +11,7 @@ mod file;
 mod recording;
 mod report;
 mod scene;
+mod served;
 
 pub use scene::Scene;
+pub use served::what_was_sent_begins_what_is_owed;

@@ -1,0 +1,208 @@
+-- What each session of a replay was sent begins what it owes, after each line
+use Rattle.std.proofs.Common.{◌≡◌, ◌++◌, ℕ, zero, suc, Bool, true, ◌&&◌, List, [], ◌∷◌, length, drop, slice_get, All, Option, Some, None, refl, sym, ap, ◌∙◌, subst}
+use Rattle.std.specs.Option.{option_map}
+use Rattle.std.proofs.lemmas.List.Elements.{All-head, All-nil, All-push, All-set, All-tail}
+use Rattle.chunk_reader.specs.Sound.{IsRead}
+use Rattle.chunk_wire.specs.declared.message.Message.{Message}
+use Rattle.command_dialog.specs.declared.types.Ask.{Ask}
+use Rattle.command_dialog.specs.declared.types.Grant.{Grant}
+use Rattle.relay_base.specs.declared.limits.Limits.{Limits as AllLimits}
+use Rattle.relay_config.specs.declared.config.PlaceRule.{PlaceRule}
+use Rattle.session_owed.specs.Owed.{out}
+use Rattle.session_owed.specs.Talk.{hand_bytes}
+use Rattle.relay_outside.specs.MemLinks.{MemLinkState}
+use Rattle.session_owed.specs.Standing.{Past}
+use Rattle.stream_registry.specs.Books.{SoleState, SeenState, FitsSole, journal_at, sole_rules}
+use Rattle.relay_session.specs.Grants.{granted_from}
+use Rattle.relay_session.specs.Places.{Asked}
+use Rattle.relay_session.specs.Session.{session}
+use Rattle.relay_session.specs.SessionState.{BeginsOwed, SessionState, StandsFor, gone_but_kept, life_at}
+use Rattle.relay_session.specs.Turns.{Gone}
+use Rattle.relay_session.specs.declared.core_fields.Core.{Core}
+use Rattle.relay_session.specs.declared.end.End.{End}
+use Rattle.relay_session.specs.declared.turn.Turn.{Turn as TurnAnswer}
+use Rattle.relay_session.specs.declared.turn.Turn.TheVariants.{Moved, Idle, Ended}
+use Rattle.relay_script.specs.declared.replay.ReplayLine.{ReplayLine}
+use Rattle.relay_script.specs.declared.replay.ReplayLine.TheVariants.{Nothing, Limits, Stream, Guard, Recorder, Session, Piece, Eof, Room, FailRecv, FailSend, FailPut, Turn, Rec, All as Rounds, Quit}
+use Rattle.relay_replay.specs.Cast.{AfterTurn, CastState, ConnState, Each, RecTurnOf, Round, SessionTurn, Times, TurnOf}
+use Rattle.relay_replay.specs.Plays.{IsNewSession, Plays, ToldBy, told_of}
+use Rattle.relay_replay.specs.Scenes.{Acts, CastBy, Does, IsOpen, SceneState, is_acting, stand_of}
+use Rattle.relay_replay.specs.Served.{AreServed, IsServed, ServedIf, ServedIn, StandsIf}
+use Rattle.relay_replay.specs.Stand.{Stand, after, allows, is_setting}
+use Rattle.relay_replay.proofs.Taking.{turn_took}
+
+-- ---- what a close leaves
+
+abbrev GoneOwes : (Ask → Grant) → Gone → Type 0
+GoneOwes desk g = (more : List ℕ) × ((ms : List (ℕ × Message)) × (IsRead g.max (drop hand_bytes g.x) ms × (g.sent ++ more ≡ out (session g.who g.window desk) g.x ms g.calls)))
+
+gone_owes : (desk : Ask → Grant) (c : Core) → BeginsOwed desk c → GoneOwes desk (gone_but_kept c)
+gone_owes desk c b = (b.0, (b.1.ms, (b.1.read, b.1.owes)))
+
+owes_gone : (desk : Ask → Grant) (c : Core) → GoneOwes desk (gone_but_kept c) → BeginsOwed desk c
+owes_gone desk c g = (g.0, record { ms = g.1.0; read = g.1.1.0; owes = g.1.1.1 })
+
+closed_owes : (desk : Ask → Grant) (c d : Core) → gone_but_kept d ≡ gone_but_kept c → BeginsOwed desk c → BeginsOwed desk d
+closed_owes desk c d e b = owes_gone desk d (subst (GoneOwes desk) (sym e) (gone_owes desk c b))
+
+-- ---- a session's turn
+
+after_served : (a : TurnAnswer) (desk : Ask → Grant) (mid : SessionState SeenState) (port : SoleState) (d : ConnState) (port' : SoleState) → AfterTurn a mid port d.session d.ended port'
+    → StandsFor desk mid → BeginsOwed desk mid.parts → d.link.sent ≡ mid.parts.sent → IsServed desk d
+after_served Moved desk mid port d port' t st owed took = record {
+  stands = subst (λ (e : Option End). StandsIf e desk d.session) (sym t.2) (subst (λ (s : SessionState SeenState). StandsFor desk s) (sym t.0) st);
+  owed = subst (λ (s : SessionState SeenState). BeginsOwed desk s.parts) (sym t.0) owed;
+  took = took ∙ sym (ap (λ (s : SessionState SeenState). s.parts.sent) t.0);
+}
+after_served Idle desk mid port d port' t st owed took = record {
+  stands = subst (λ (e : Option End). StandsIf e desk d.session) (sym t.2) (subst (λ (s : SessionState SeenState). StandsFor desk s) (sym t.0) st);
+  owed = subst (λ (s : SessionState SeenState). BeginsOwed desk s.parts) (sym t.0) owed;
+  took = took ∙ sym (ap (λ (s : SessionState SeenState). s.parts.sent) t.0);
+}
+after_served (Ended e) desk mid port d port' t st owed took = record {
+  stands = subst (λ (o : Option End). StandsIf o desk d.session) (sym t.1) tt;
+  owed = closed_owes desk mid.parts d.session.parts t.2.gone owed;
+  took = took ∙ sym (ap (λ (g : Gone). g.sent) t.2.gone);
+}
+
+served_turn : (e : Option End) (desk : Ask → Grant) (port : SoleState) (c : ConnState) (port' : SoleState) (d : ConnState) → c.ended ≡ e → SessionTurn e desk port c port' d → IsServed desk c → IsServed desk d
+served_turn None desk port c port' d e t s =
+    let was = subst (λ (o : Option End). StandsIf o desk c.session) e s.stands in
+    let st = t.stands was in
+    let took = turn_took (Asked FitsSole (λ s. sole_rules s.rules) (λ s. journal_at s.books) (λ p. p.seen) (λ p. length p.seen) (λ _. Unit {0}) (λ _. 0)) desk
+    c.session.ended c.session.quit (life_at c.session port) c.link t.answer (life_at t.mid t.between) d.link t.turn s.took in
+    after_served t.answer desk t.mid t.between d port' t.leads st (t.owed st) took
+served_turn (Some x) desk port c port' d e t s = subst (IsServed desk) (sym t.0) s
+
+-- ---- lists
+
+all_at : {A : Type 0} (Q : A → Type 0) → (xs : List A) (n : ℕ) (x : A) → slice_get xs n ≡ Some x → All Q xs → Q x
+all_at Q [] n x e a = absurd (cc)
+all_at Q (y ∷ ys) zero x e a = let same : y ≡ x = cc in subst Q same (All-head Q y ys a)
+all_at Q (y ∷ ys) (suc n) x e a = all_at Q ys n x e (All-tail Q y ys a)
+
+served_of : (desk : Ask → Grant) (n : ℕ) (c d : CastState) → TurnOf desk n c d → ServedIn desk c → ServedIn desk d
+served_of desk n c d t s =
+    let new = served_turn t.old.ended desk c.port t.old d.port t.new refl t.turn (all_at (IsServed desk) c.sessions n t.old t.there s) in
+    subst (All (IsServed desk)) (sym t.sessions) (All-set (IsServed desk) c.sessions n t.new new s)
+
+served_rec : (desk : Ask → Grant) (n : ℕ) (c d : CastState) → RecTurnOf n c d → ServedIn desk c → ServedIn desk d
+served_rec desk n c d t s = subst (All (IsServed desk)) (sym t.sessions) s
+
+times_keep : {A : Type 0} (Q : A → Type 0) (step : A → A → Type 0) → ((c d : A) → step c d → Q c → Q d) → (k : ℕ) (c d : A) → Times k step c d → Q c → Q d
+times_keep Q step f zero c d t q = subst Q (sym t) q
+times_keep Q step f (suc k) c d t q = f t.0 d t.1.1 (times_keep Q step f k c t.0 t.1.0 q)
+
+each_keep : {A : Type 0} (Q : A → Type 0) (step : ℕ → A → A → Type 0) → ((n : ℕ) (c d : A) → step n c d → Q c → Q d) → (k : ℕ) (c d : A) → Each k step c d → Q c → Q d
+each_keep Q step f zero c d t q = subst Q (sym t) q
+each_keep Q step f (suc k) c d t q = f k t.0 d t.1.1 (each_keep Q step f k c t.0 t.1.0 q)
+
+served_round : (desk : Ask → Grant) (c d : CastState) → Round desk c d → ServedIn desk c → ServedIn desk d
+served_round desk c d r s =
+    each_keep (ServedIn desk) RecTurnOf (served_rec desk) (length r.between.recorders) r.between d r.recorders
+    (each_keep (ServedIn desk) (TurnOf desk) (served_of desk) (length c.sessions) c r.between r.sessions s)
+
+-- ---- lines
+
+told_served : (line : ReplayLine) (desk : Ask → Grant) (c : ConnState) → IsServed desk c → IsServed desk (told_of line c)
+told_served (Piece n bytes) desk c s = record { stands = s.stands; owed = s.owed; took = s.took }
+told_served (Eof n) desk c s = record { stands = s.stands; owed = s.owed; took = s.took }
+told_served (Room n left) desk c s = record { stands = s.stands; owed = s.owed; took = s.took }
+told_served (FailRecv n) desk c s = record { stands = s.stands; owed = s.owed; took = s.took }
+told_served (FailSend n) desk c s = record { stands = s.stands; owed = s.owed; took = s.took }
+told_served (Quit n) desk c s = record { stands = quit_stands c.ended desk c.session s.stands; owed = s.owed; took = s.took }
+  where
+    quit_stands : (e : Option End) (desk : Ask → Grant) (x : SessionState SeenState) → StandsIf e desk x → StandsIf e desk (record x { quit = true })
+    quit_stands None desk x h = h
+    quit_stands (Some e) desk x h = tt
+told_served Nothing desk c s = s
+told_served (Limits a b i q w) desk c s = s
+told_served (Stream app name) desk c s = s
+told_served (Guard n side mode key) desk c s = s
+told_served (Recorder n form) desk c s = s
+told_served Session desk c s = s
+told_served (FailPut n) desk c s = s
+told_served (Turn n k) desk c s = s
+told_served (Rec n k) desk c s = s
+told_served (Rounds k) desk c s = s
+
+told_by_served : (o : Option ℕ) (line : ReplayLine) (desk : Ask → Grant) (c d : CastState) → ToldBy o line c d → ServedIn desk c → ServedIn desk d
+told_by_served None line desk c d t s = subst (ServedIn desk) (sym t) s
+told_by_served (Some n) line desk c d t s =
+    let new = told_served line desk t.old (all_at (IsServed desk) c.sessions n t.old t.there s) in
+    subst (All (IsServed desk)) (sym t.sessions) (All-set (IsServed desk) c.sessions n (told_of line t.old) new s)
+
+new_served : (limits : AllLimits) (who : ℕ) (desk : Ask → Grant) (c : ConnState) → IsNewSession limits who c → IsServed desk c
+new_served limits who desk c n = record {
+  stands = subst (λ (e : Option End). StandsIf e desk c.session) (sym n.ended) (n.stands desk);
+  owed = n.owed desk;
+  took = ap (λ (l : MemLinkState). l.sent) n.link_is ∙ sym (ap (λ (p : Past). p.sent) n.past);
+}
+
+plays_served : (line : ReplayLine) (limits : AllLimits) (desk : Ask → Grant) (c d : CastState) → Plays limits desk line c d → ServedIn desk c → ServedIn desk d
+plays_served Session limits desk c d p s =
+    subst (All (IsServed desk)) (sym p.sessions) (All-push (IsServed desk) c.sessions p.new s (new_served limits (length c.sessions) desk p.new p.fresh))
+plays_served (FailPut n) limits desk c d p s = subst (All (IsServed desk)) (sym p.sessions) s
+plays_served (Turn n k) limits desk c d p s = times_keep (ServedIn desk) (TurnOf desk n) (served_of desk n) k c d p s
+plays_served (Rec n k) limits desk c d p s = times_keep (ServedIn desk) (RecTurnOf n) (served_rec desk n) k c d p s
+plays_served (Rounds k) limits desk c d p s = times_keep (ServedIn desk) (Round desk) (served_round desk) k c d p s
+plays_served (Piece n bytes) limits desk c d p s = told_by_served (Some n) (Piece n bytes) desk c d p s
+plays_served (Eof n) limits desk c d p s = told_by_served (Some n) (Eof n) desk c d p s
+plays_served (Room n left) limits desk c d p s = told_by_served (Some n) (Room n left) desk c d p s
+plays_served (FailRecv n) limits desk c d p s = told_by_served (Some n) (FailRecv n) desk c d p s
+plays_served (FailSend n) limits desk c d p s = told_by_served (Some n) (FailSend n) desk c d p s
+plays_served (Quit n) limits desk c d p s = told_by_served (Some n) (Quit n) desk c d p s
+plays_served Nothing limits desk c d p s = told_by_served None Nothing desk c d p s
+plays_served (Limits a b i q w) limits desk c d p s = told_by_served None (Limits a b i q w) desk c d p s
+plays_served (Stream app name) limits desk c d p s = told_by_served None (Stream app name) desk c d p s
+plays_served (Guard n side mode key) limits desk c d p s = told_by_served None (Guard n side mode key) desk c d p s
+plays_served (Recorder n form) limits desk c d p s = told_by_served None (Recorder n form) desk c d p s
+
+-- ---- a replay between two lines
+
+opened_served : (o : Option CastState) (s : SceneState) (desk : Ask → Grant) (c : CastState) → IsOpen o s c → ServedIf desk o → ServedIn desk c
+opened_served None s desk c new k = subst (All (IsServed desk)) (sym new.sessions) (All-nil (IsServed desk))
+opened_served (Some d) s desk c e k = subst (ServedIn desk) (sym e) k
+
+-- nothing changed that counts
+same_served : (s t : SceneState) → t.places ≡ s.places → t.cast ≡ s.cast → AreServed s → AreServed t
+same_served s t p c k =
+    subst (λ (l : List PlaceRule). ServedIf (granted_from 0 l) t.cast) (sym p) (subst (ServedIf (granted_from 0 s.places)) (sym c) k)
+
+-- nothing runs yet
+none_served : (s t : SceneState) (more : Bool) → (is_setting (option_map (λ (c : CastState). length c.sessions) s.cast) && more) ≡ true → t.cast ≡ s.cast → AreServed t
+none_served s t more e c = by_cast s.cast e c
+  where
+    by_cast : (o : Option CastState) → (is_setting (option_map (λ (c : CastState). length c.sessions) o) && more) ≡ true → t.cast ≡ o → AreServed t
+    by_cast None e c = subst (ServedIf (granted_from 0 t.places)) (sym c) tt
+    by_cast (Some x) e c = absurd (cc)
+
+acts_served : (line : ReplayLine) (s t : SceneState) → t.places ≡ s.places → Acts line s t → AreServed s → AreServed t
+acts_served line s t p a k =
+    let desk = granted_from 0 s.places in
+    let now = plays_served line s.limits desk a.before a.now a.plays (opened_served s.cast s desk a.before a.opened k) in
+    subst (λ (l : List PlaceRule). ServedIf (granted_from 0 l) t.cast) (sym p) (subst (ServedIf desk) (sym a.cast) now)
+
+line_served : (line : ReplayLine) (s t : SceneState) → allows line (stand_of s) ≡ true → stand_of t ≡ after line (stand_of s) → CastBy (is_acting line) line s t → AreServed s → AreServed t
+line_served Nothing s t e p c k = same_served s t (ap (λ (x : Stand). x.places) p) c k
+line_served (Limits a b i q w) s t e p c k = same_served s t (ap (λ (x : Stand). x.places) p) c k
+line_served (Recorder n form) s t e p c k = same_served s t (ap (λ (x : Stand). x.places) p) c k
+line_served (Stream app name) s t e p c k = none_served s t _ e c
+line_served (Guard n side mode key) s t e p c k = none_served s t _ e c
+line_served Session s t e p c k = acts_served Session s t (ap (λ (x : Stand). x.places) p) c k
+line_served (FailPut n) s t e p c k = acts_served (FailPut n) s t (ap (λ (x : Stand). x.places) p) c k
+line_served (Turn n m) s t e p c k = acts_served (Turn n m) s t (ap (λ (x : Stand). x.places) p) c k
+line_served (Rec n m) s t e p c k = acts_served (Rec n m) s t (ap (λ (x : Stand). x.places) p) c k
+line_served (Rounds m) s t e p c k = acts_served (Rounds m) s t (ap (λ (x : Stand). x.places) p) c k
+line_served (Piece n bytes) s t e p c k = acts_served (Piece n bytes) s t (ap (λ (x : Stand). x.places) p) c k
+line_served (Eof n) s t e p c k = acts_served (Eof n) s t (ap (λ (x : Stand). x.places) p) c k
+line_served (Room n left) s t e p c k = acts_served (Room n left) s t (ap (λ (x : Stand). x.places) p) c k
+line_served (FailRecv n) s t e p c k = acts_served (FailRecv n) s t (ap (λ (x : Stand). x.places) p) c k
+line_served (FailSend n) s t e p c k = acts_served (FailSend n) s t (ap (λ (x : Stand). x.places) p) c k
+line_served (Quit n) s t e p c k = acts_served (Quit n) s t (ap (λ (x : Stand). x.places) p) c k
+
+pub does_served : (line : ReplayLine) (s t : SceneState) → allows line (stand_of s) ≡ true → Does line s t → AreServed s → AreServed t
+does_served line s t e d k = line_served line s t e d.stand d.cast k
+
+pub cast_served : (s : SceneState) (c : CastState) → IsOpen s.cast s c → AreServed s → ServedIn (granted_from 0 s.places) c
+cast_served s c o k = opened_served s.cast s (granted_from 0 s.places) c o k

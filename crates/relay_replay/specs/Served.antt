@@ -1,0 +1,37 @@
+-- What the sessions of a replay were sent begins what they owe.
+use Rattle.std.specs.Prelude.{◌≡◌, All, Option, None, Some}
+use Rattle.command_dialog.specs.declared.types.Ask.{Ask}
+use Rattle.command_dialog.specs.declared.types.Grant.{Grant}
+use Rattle.stream_registry.specs.Books.{SeenState}
+use Rattle.relay_session.specs.Grants.{granted_from}
+use Rattle.relay_session.specs.SessionState.{BeginsOwed, SessionState, StandsFor}
+use Rattle.relay_session.specs.declared.end.End.{End}
+use Rattle.relay_replay.specs.Cast.{ConnState, CastState}
+use Rattle.relay_replay.specs.Scenes.{SceneState}
+
+-- one that lives stands for what it was fed and its calls
+abbrev pub StandsIf : Option End → (Ask → Grant) → SessionState SeenState → Type 0
+StandsIf None desk s = StandsFor desk s
+StandsIf (Some e) desk s = Unit {0}
+
+-- WHAT A SESSION WAS SENT BEGINS WHAT IT OWES before this desk: for the bytes that it was fed, the messages that they read as, and
+-- its calls with their replies. Its link took just that
+pub record IsServed (desk : Ask → Grant) (c : ConnState) : Type 0 where
+  pub stands : StandsIf c.ended desk c.session
+  pub owed : BeginsOwed desk c.session.parts
+  pub took : c.link.sent ≡ c.session.parts.sent
+
+abbrev pub ServedIn : (Ask → Grant) → CastState → Type 0
+ServedIn desk c = All (IsServed desk) c.sessions
+
+abbrev pub ServedIf : (Ask → Grant) → Option CastState → Type 0
+ServedIf desk None = Unit {0}
+ServedIf desk (Some c) = ServedIn desk c
+
+-- of a replay between two lines: before the desk of its streams
+abbrev pub AreServed : SceneState → Type 0
+AreServed s = ServedIf (granted_from 0 s.places) s.cast
+
+-- of what is printed of it
+abbrev pub IsServedIn : SceneState → CastState → Type 0
+IsServedIn s c = ServedIn (granted_from 0 s.places) c
