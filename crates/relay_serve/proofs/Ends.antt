@@ -1,6 +1,5 @@
 -- How it ends, by the parts
-use Rattle.std.proofs.Common.{◌≡◌, ◌≢◌, ◌⊎◌, ℕ, Bool, true, false, List, Option, Some, None, refl, ap, inl, inr}
-use Rattle.std.specs.Prelude.{MatchResult, Result, Ok, Err}
+use Rattle.std.proofs.Common.{◌≡◌, ◌≢◌, ◌⊎◌, ℕ, true, List, Option, Some, refl, ap, inl, inr}
 use Rattle.relay_config.specs.declared.config.Config.{Config}
 use Rattle.relay_config.specs.declared.config.ConfigFail.{ConfigFail}
 use Rattle.relay_config.specs.declared.config.ConfigFail.TheVariants as fail
@@ -9,33 +8,20 @@ use Rattle.relay_serve.specs.declared.serving.Ending.{Ending}
 use Rattle.relay_serve.specs.declared.serving.Ending.TheVariants as end
 use Rattle.relay_serve.specs.declared.starting.OpenFail.{OpenFail}
 use Rattle.relay_serve.specs.declared.starting.OpenFail.TheVariants as opened
-use Rattle.relay_serve.specs.Ends.{Concludes, EndsAs, HouseCause, Outer, RefusesAs, RunsAs, Seen, outer, seen, unopened_as}
-use Rattle.relay_serve.specs.Places.{asks_ts}
+use Rattle.relay_serve.specs.Ends.{EndsAs, HouseCause, Outer, RefusesAs, RunsAs, seen, unopened_as}
 use Rattle.relay_serve.specs.Taking.{TakesText}
 use Rattle.relay_outside.specs.Houses.{HouseTold}
 
-pub runs_concluded : (config : Config) (held held' : Option (List ℕ)) (faults faults' : ℕ) (house house' : HouseTold) (ending : Ending) → asks_ts config.places ≡ false
-    → house'.faults ≡ house.faults → Concludes config held faults held' faults' ending → RunsAs config (seen held faults house) (seen held' faults' house') ending
-runs_concluded config held held' faults faults' house house' end.Served without h c = (without, c.0, c.1, h)
-runs_concluded config held held' faults faults' house house' end.SinkFault without h c = (without, c, h)
-runs_concluded config held held' faults faults' house house' end.OutOfMemory without h c = (c, h)
-runs_concluded config held held' faults faults' house house' end.HouseFault without h c = absurd c
-runs_concluded config held held' faults faults' house house' end.Transport without h c = absurd c
-runs_concluded config held held' faults faults' house house' end.BadWords without h c = absurd c
-runs_concluded config held held' faults faults' house house' end.SourceFault without h c = absurd c
-runs_concluded config held held' faults faults' house house' end.Refused without h c = absurd c
-
-pub runs_unopened : (config : Config) (held : Option (List ℕ)) (faults : ℕ) (house house' : HouseTold) (cause : OpenFail) → asks_ts config.places ≡ false
+pub runs_unopened : (config : Config) (held : Option (List ℕ)) (faults : ℕ) (house house' : HouseTold) (cause : OpenFail)
     → HouseCause cause house house' → RunsAs config (seen held faults house) (seen held faults house') (unopened_as cause)
-runs_unopened config held faults house house' opened.HouseFault without h = (without, h, refl, refl)
-runs_unopened config held faults house house' opened.OutOfMemory without h = (refl, ap (λ (x : HouseTold). x.faults) h)
+runs_unopened config held faults house house' opened.HouseFault h = (h, refl, refl)
+runs_unopened config held faults house house' opened.OutOfMemory h = (refl, ap (λ (x : HouseTold). x.faults) h)
 
 pub ends_accepted : (old new : Outer) (ending : Ending) (bytes : List ℕ) (config : Config) → new.source_faults ≡ old.source_faults
     → TakesText old.left new.left bytes → Accepts bytes config → RunsAs config old.out new.out ending → EndsAs true old new ending
 ends_accepted old new end.Served bytes config s t a r = (refl, s, record { bytes = bytes; taken = t; config = config; accepts = a; runs = r })
 ends_accepted old new end.SinkFault bytes config s t a r = (refl, s, record { bytes = bytes; taken = t; config = config; accepts = a; runs = r })
 ends_accepted old new end.HouseFault bytes config s t a r = (refl, s, record { bytes = bytes; taken = t; config = config; accepts = a; runs = r })
-ends_accepted old new end.Transport bytes config s t a r = (refl, s, record { bytes = bytes; taken = t; config = config; accepts = a; runs = r })
 ends_accepted old new end.OutOfMemory bytes config s t a r = (refl, s, r.0, r.1)
 ends_accepted old new end.BadWords bytes config s t a r = absurd r
 ends_accepted old new end.SourceFault bytes config s t a r = absurd r
@@ -53,6 +39,5 @@ ends_refused old new end.OutOfMemory bytes cause s t c h r = (refl, s, r, ap (λ
 ends_refused old new end.Served bytes cause s t c h r = absurd r
 ends_refused old new end.SinkFault bytes cause s t c h r = absurd r
 ends_refused old new end.HouseFault bytes cause s t c h r = absurd r
-ends_refused old new end.Transport bytes cause s t c h r = absurd r
 ends_refused old new end.BadWords bytes cause s t c h r = absurd r
 ends_refused old new end.SourceFault bytes cause s t c h r = absurd r

@@ -4,3 +4,6 @@ pub mod Lines
 pub mod Ends
 pub mod Offering
 pub mod Crossing
+pub mod Counted
+pub mod Limited
+pub mod Settling

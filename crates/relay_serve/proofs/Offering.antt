@@ -1,10 +1,10 @@
 -- A desk grants none but its own places
-use Rattle.std.proofs.Common.{◌≡◌, ℕ, ◌+◌, ◌<◌, ◌≤◌, Bool, true, false, if◌then◌else◌, List, [], ◌∷◌, length, arith}
+use Rattle.std.proofs.Common.{ℕ, ◌+◌, ◌<◌, ◌≤◌, Bool, true, false, if◌then◌else◌, List, [], ◌∷◌, length, arith}
 use Rattle.key_guard.specs.Allowed.{is_allowed}
 use Rattle.relay_config.specs.declared.config.PlaceRule.{PlaceRule}
 use Rattle.command_dialog.specs.declared.types.Ask.{Ask}
 use Rattle.command_dialog.specs.declared.types.Grant.{Grant}
-use Rattle.command_dialog.specs.declared.types.Grant.TheVariants.{NoName, Refused, Place}
+use Rattle.command_dialog.specs.declared.types.Grant.TheVariants.{Refused, Place}
 use Rattle.relay_session.specs.Grants.{granted_from, grants_for, is_named, judged}
 use Rattle.relay_session.specs.Places.{IsGrantThere}
 

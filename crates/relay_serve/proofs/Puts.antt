@@ -2,7 +2,7 @@
 use Rattle.std.proofs.Common.{◌≡◌, ℕ, ◌-◌, ◌≤◌, List, [], ◌++◌, Option, None, Some, length, take, drop, refl, ap, sym, ◌∙◌, append_assoc, arith}
 use Rattle.std.proofs.lemmas.List.{take-append-drop, append-nil, take_all, length-drop}
 use Rattle.std.specs.Io.KnownBytes.{append_known}
-use Rattle.relay_serve.specs.Texts.{Writes, WritesPart}
+use Rattle.relay_serve.specs.Texts.{Writes}
 
 nothing_more : (known : Option (List ℕ)) → append_known known [] ≡ known
 nothing_more None = refl

@@ -1,5 +1,5 @@
 -- How `serve` ends
-use Rattle.std.specs.Prelude.{◌≡◌, ◌≢◌, ◌⊎◌, ◌↔◌, ℕ, Bool, true, false, List, Option, Some, None, length}
+use Rattle.std.specs.Prelude.{◌≡◌, ◌≢◌, ◌<◌, ◌⊎◌, ℕ, Bool, true, false, List, Option, Some, length, map}
 use Rattle.std.specs.Io.KnownBytes.{append_known}
 use Rattle.relay_base.specs.declared.limits.Status.{Status}
 use Rattle.relay_config.specs.declared.config.Config.{Config}
@@ -17,9 +17,16 @@ use Rattle.relay_serve.specs.declared.starting.OpenFail.{OpenFail}
 use Rattle.relay_serve.specs.declared.starting.OpenFail.TheVariants as opened
 use Rattle.relay_serve.specs.declared.serving.Ending.{Ending}
 use Rattle.relay_serve.specs.declared.serving.Ending.TheVariants as end
-use Rattle.relay_serve.specs.Places.{asks_ts}
 use Rattle.relay_serve.specs.Taking.{TakesText}
-use Rattle.relay_serve.specs.Texts.{Counted, WritesPart, lines_from}
+use Rattle.relay_serve.specs.Texts.{WritesPart, lines_from}
+use Rattle.relay_serve.specs.Counts.{counted_if}
+use Rattle.relay_serve.specs.Lasts.{AllEnd}
+use Rattle.relay_serve.specs.Settling.{IsShut, ShutsMore}
+use Rattle.relay_session.specs.Grants.{granted_from}
+use Rattle.stream_model.specs.declared.calls.StreamLimits.{StreamLimits}
+use Rattle.relay_serve.specs.Places.{limits_in}
+use Rattle.relay_serve.specs.declared.counting.Counts.{Counts}
+use Rattle.stream_registry.specs.Told.{Histories}
 
 -- ---- why a part fails
 
@@ -64,31 +71,26 @@ abbrev pub WritesOrFails : List ℕ → Option (List ℕ) → ℕ → Option (Li
 WritesOrFails text held faults held' faults' = ((held' ≡ append_known held text) × (faults' ≡ faults))
     ⊎ (WritesPart text held held' × Rose faults faults')
 
--- the report has a line for each stream
-pub record Reports (config : Config) (held held' : Option (List ℕ)) : Type 0 where
-  pub counts : List (Option Counted)
+-- the report has a line for each stream, which tells what the last call of its history was answered: the server's own Count.
+-- Each reply of that history is the one that the rules give after the calls before it
+pub record Reports (config : Config) (old new : Seen) : Type 0 where
+  pub counts : List (Option Counts)
   pub each : length counts ≡ length config.places
-  pub written : held' ≡ append_known held (lines_from 0 counts)
-
--- after the workers: what is written, and how it ends
-abbrev pub Concludes : Config → Option (List ℕ) → ℕ → Option (List ℕ) → ℕ → Ending → Type 0
-Concludes config held faults held' faults' end.Served = Reports config held held' × (faults' ≡ faults)
-Concludes config held faults held' faults' end.SinkFault = Rose faults faults'
-Concludes config held faults held' faults' end.OutOfMemory = faults' ≡ faults
-Concludes config held faults held' faults' end.HouseFault = ⊥
-Concludes config held faults held' faults' end.Transport = ⊥
-Concludes config held faults held' faults' end.BadWords = ⊥
-Concludes config held faults held' faults' end.SourceFault = ⊥
-Concludes config held faults held' faults' end.Refused = ⊥
+  pub written : new.held ≡ append_known old.held (lines_from 0 (map counted_if counts))
+  pub streams : ℕ → StreamLimits
+  pub limited : (place : ℕ) → place < length config.places → streams place ≡ limits_in config
+  pub histories : Histories
+  pub last : AllEnd streams counts histories
+  -- each worker's door was shut, and what its links were sent is what they were owed
+  pub shut : ShutsMore (IsShut (granted_from 0 config.places) config.limits streams histories) config.workers old.house.shut new.house.shut
 
 -- HOW A CONFIGURATION THAT IS ACCEPTED IS SERVED
 abbrev pub RunsAs : Config → Seen → Seen → Ending → Type 0
-RunsAs config old new end.Served = (asks_ts config.places ≡ false) × Reports config old.held new.held × (new.sink_faults ≡ old.sink_faults)
+RunsAs config old new end.Served = Reports config old new × (new.sink_faults ≡ old.sink_faults)
     × (new.house.faults ≡ old.house.faults)
-RunsAs config old new end.SinkFault = (asks_ts config.places ≡ false) × Rose old.sink_faults new.sink_faults × (new.house.faults ≡ old.house.faults)
-RunsAs config old new end.HouseFault = (asks_ts config.places ≡ false) × Refuses old.house new.house × (new.held ≡ old.held)
+RunsAs config old new end.SinkFault = Rose old.sink_faults new.sink_faults × (new.house.faults ≡ old.house.faults)
+RunsAs config old new end.HouseFault = Refuses old.house new.house × (new.held ≡ old.held)
     × (new.sink_faults ≡ old.sink_faults)
-RunsAs config old new end.Transport = (asks_ts config.places ≡ true) × (new ≡ old)
 RunsAs config old new end.OutOfMemory = (new.sink_faults ≡ old.sink_faults) × (new.house.faults ≡ old.house.faults)
 RunsAs config old new end.BadWords = ⊥
 RunsAs config old new end.SourceFault = ⊥
@@ -106,7 +108,6 @@ RefusesAs cause held faults held' faults' end.OutOfMemory = faults' ≡ faults
 RefusesAs cause held faults held' faults' end.Served = ⊥
 RefusesAs cause held faults held' faults' end.SinkFault = ⊥
 RefusesAs cause held faults held' faults' end.HouseFault = ⊥
-RefusesAs cause held faults held' faults' end.Transport = ⊥
 RefusesAs cause held faults held' faults' end.BadWords = ⊥
 RefusesAs cause held faults held' faults' end.SourceFault = ⊥
 
@@ -137,7 +138,6 @@ EndsAs asked old new end.OutOfMemory = (asked ≡ true) × (new.source_faults �
 EndsAs asked old new end.Served = (asked ≡ true) × (new.source_faults ≡ old.source_faults) × Accepted old new end.Served
 EndsAs asked old new end.SinkFault = (asked ≡ true) × (new.source_faults ≡ old.source_faults) × Accepted old new end.SinkFault
 EndsAs asked old new end.HouseFault = (asked ≡ true) × (new.source_faults ≡ old.source_faults) × Accepted old new end.HouseFault
-EndsAs asked old new end.Transport = (asked ≡ true) × (new.source_faults ≡ old.source_faults) × Accepted old new end.Transport
 
 -- THE CODE of each way to end. No two have the same
 abbrev pub code_of : Ending → ℕ
@@ -148,7 +148,6 @@ code_of end.Refused = 4
 code_of end.SinkFault = 5
 code_of end.OutOfMemory = 6
 code_of end.HouseFault = 7
-code_of end.Transport = 9
 
 -- what a status says
 pub record Serves (asked : Bool) (old new : Outer) (status : Status) : Type 0 where

@@ -4,4 +4,6 @@ pub mod Taking
 pub mod Places
 pub mod Starts
 pub mod Counts
+pub mod Lasts
+pub mod Settling
 pub mod Ends

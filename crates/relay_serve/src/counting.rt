@@ -1,9 +1,13 @@
 //! The last call at each place, and the report.
-ghost use Rattle.std.specs.Prelude.{◌≡◌, ◌<◌, ◌≤◌, ◌+◌, ◌++◌, length, codes, string_bytes, vec_len, map, IfOk, OnOk};
+ghost use Rattle.std.specs.Prelude.{◌≡◌, ◌≢◌, ◌<◌, ◌≤◌, ◌+◌, ◌++◌, ℕ, length, codes, string_bytes, vec_len, map, IfOk, OnOk};
 ghost use Rattle.std.specs.Fmt.{decimal};
+ghost use Rattle.turn_gate.specs.Histories.{Begins};
+ghost use Rattle.stream_registry.specs.Gates.{told_at};
+ghost use Rattle.stream_registry.specs.Roots.{Later};
 ghost use Rattle.stream_registry.specs.SharedState.{shared_rules};
 ghost use Rattle.relay_serve.specs.Texts.{counts_line, told_line, stream_line, lines_from};
 ghost use Rattle.relay_serve.specs.Counts.{counted_if};
+ghost use Rattle.relay_serve.specs.Lasts.{AllEnd, EndsIf};
 
 use av_unit::OutOfMemory;
 use std::alloc::Global;
@@ -32,6 +36,9 @@ fn count_one<W: Wait>(
 ) -> Result<Option<Counts>, OutOfMemory>
     requires { place < length (shared_rules port.old).names }
     ensures rules { shared_rules port.new ≡ shared_rules port.old }
+    ensures last { IfOk result (λ counts. EndsIf ((shared_rules port.old).limits place) counts (told_at port.new.roots place)) }
+    ensures grown { Begins (told_at port.old.roots place) (told_at port.new.roots place) }
+    ensures others { (q : ℕ) → q ≢ place → told_at port.new.roots q ≡ told_at port.old.roots q }
 {
     let mut pass = port.attach(place);
     for _ in rt.forever() {
@@ -78,6 +85,8 @@ pub(crate) fn count_all<W: Wait>(
     requires { places ≤ length (shared_rules port.old).names }
     ensures rules { shared_rules port.new ≡ shared_rules port.old }
     ensures each { IfOk result (λ list. vec_len list ≡ places) }
+    ensures last { IfOk result (λ list. AllEnd (shared_rules port.old).limits list.items (told_at port.new.roots)) }
+    ensures grown { Later (told_at port.old.roots) (told_at port.new.roots) }
 {
     let mut list = Vec::new(alloc);
     for place in 0..places {

@@ -1,12 +1,19 @@
 //! What comes after the workers: ports are gathered, recorders take what is left and leave, files are kept and doors shut.
-ghost use Rattle.std.specs.Prelude.{◌≡◌, ◌≤◌, All, vec_len, IfOk};
-ghost use Rattle.relay_outside.specs.Doors.{IsDone};
+ghost use Rattle.std.specs.Prelude.{◌≡◌, ◌≤◌, true, false, All, vec_len, IfOk};
+ghost use Rattle.command_dialog.specs.declared.types.Ask.{Ask};
+ghost use Rattle.command_dialog.specs.declared.types.Grant.{Grant};
+ghost use Rattle.relay_base.specs.declared.limits.Limits.{Limits};
+ghost use Rattle.relay_outside.specs.Doors.{IsDone, with_one};
+ghost use Rattle.relay_outside.specs.Houses.{shut_door};
 ghost use Rattle.relay_worker.specs.Running.{HasRun};
+ghost use Rattle.relay_serve.specs.Settling.{AreNumbered, IsBalanced, IsKept, IsShut, ShutsMore};
 ghost use Rattle.relay_serve.specs.Starts.{HasRules, IsFiledBy};
+ghost use Rattle.stream_registry.specs.Gates.{told_at};
+ghost use Rattle.stream_registry.specs.Roots.{Later};
 ghost use Rattle.stream_registry.specs.SharedState.{shared_rules};
 
 use crate::starting::ServeWorker;
-use crate::titled::Titled;
+use crate::titled::{Form, Titled};
 use av_unit::OutOfMemory;
 use media_recorder::{RecEnd, RecTurn};
 use relay_config::PlaceRule;
@@ -46,6 +53,9 @@ fn take_apart<D: Door, R: Rest, K: Sink>(
     ensures number { result.0.number ≡ number }
     ensures door { IsDone (D.told result.0.door) }
     ensures filed { All (IsFiledBy (shared_rules first.old)) result.0.recorders.items }
+    ensures grown { Later (told_at first.old.roots) (told_at first.new.roots) }
+    ensures balanced { (desk : Ask → Grant) (limits : Limits) → IsKept desk limits D.Link.told D.told worker → worker.terms.number ≡ number → result.1 ≡ false
+        → IsBalanced desk limits (shared_rules first.old).limits (told_at first.new.roots) number (D.told result.0.door) }
 {
     let finished = worker.finish();
     first.gather(finished.port);
@@ -68,6 +78,11 @@ pub(crate) fn take_all_apart<D: Door, R: Rest, K: Sink>(
     requires rules { All (λ x. HasRules (shared_rules first.old) x.bench.port) workers.items }
     ensures rules { shared_rules first.new ≡ shared_rules first.old }
     ensures left { IfOk result (λ all. All (λ l. IsDone (D.told l.door) × All (IsFiledBy (shared_rules first.old)) l.recorders.items) all.list.items) }
+    ensures grown { Later (told_at first.old.roots) (told_at first.new.roots) }
+    ensures each { IfOk result (λ all. vec_len all.list ≡ vec_len workers) }
+    ensures balanced { IfOk result (λ all. (desk : Ask → Grant) (limits : Limits) → All (IsKept desk limits D.Link.told D.told) workers.items
+        → AreNumbered workers.items → all.refused ≡ false
+        → All (λ l. IsBalanced desk limits (shared_rules first.old).limits (told_at first.new.roots) l.number (D.told l.door)) all.list.items) }
 {
     let mut list = Vec::new(alloc);
     let mut refused = false;
@@ -91,6 +106,7 @@ fn settle<W: Wait, K: Sink>(
     requires { IsFiledBy (shared_rules port.old) recorder.old }
     ensures filed { IsFiledBy (shared_rules port.old) recorder.new }
     ensures rules { shared_rules port.new ≡ shared_rules port.old }
+    ensures grown { Later (told_at port.old.roots) (told_at port.new.roots) }
 {
     for _ in rt.forever() {
         match recorder.turn(port) {
@@ -107,6 +123,7 @@ fn settle<W: Wait, K: Sink>(
 fn part<K: Sink>(port: &mut Shared<Desk>, recorder: ServeRecorder<K>) -> Titled<K>
     requires { IsFiledBy (shared_rules port.old) recorder }
     ensures rules { shared_rules port.new ≡ shared_rules port.old }
+    ensures grown { Later (told_at port.old.roots) (told_at port.new.roots) }
 {
     match recorder.leave(port) {
         Parted::Done(file) => file,
@@ -117,17 +134,23 @@ fn part<K: Sink>(port: &mut Shared<Desk>, recorder: ServeRecorder<K>) -> Titled<
 
 // Hands a file to the house, under the name of its recording. Whether there was memory for it.
 fn keep<H: House>(house: &mut H, places: &[PlaceRule], titled: Titled<H::File>) -> bool
-    ensures { (H.told house.new).faults ≡ (H.told house.old).faults }
+    ensures faults { (H.told house.new).faults ≡ (H.told house.old).faults }
+    ensures shut { (H.told house.new).shut ≡ (H.told house.old).shut }
 {
     let Titled {
         place,
+        form,
         who: _,
         file,
     } = titled;
     let Some(rule) = places.get(place as usize) else {
         return false;
     };
-    let Some(name) = &rule.flv else {
+    let name = match form {
+        Form::Flv => &rule.flv,
+        Form::Ts => &rule.ts,
+    };
+    let Some(name) = name else {
         return false;
     };
     house.keep(name.as_slice(), file).is_ok()
@@ -143,7 +166,9 @@ fn end_recorder<W: Wait, H: House>(
 ) -> bool
     requires { IsFiledBy (shared_rules port.old) recorder }
     ensures rules { shared_rules port.new ≡ shared_rules port.old }
+    ensures grown { Later (told_at port.old.roots) (told_at port.new.roots) }
     ensures faults { (H.told house.new).faults ≡ (H.told house.old).faults }
+    ensures shut { (H.told house.new).shut ≡ (H.told house.old).shut }
 {
     let lacked = settle(rt, port, &mut recorder);
     let file = part(port, recorder);
@@ -162,7 +187,9 @@ fn end_left<W: Wait, H: House>(
     requires door { IsDone (H.Door.told left.door) }
     requires filed { All (IsFiledBy (shared_rules port.old)) left.recorders.items }
     ensures rules { shared_rules port.new ≡ shared_rules port.old }
+    ensures grown { Later (told_at port.old.roots) (told_at port.new.roots) }
     ensures faults { (H.told house.new).faults ≡ (H.told house.old).faults }
+    ensures shut { result ≡ true → (H.told house.new).shut ≡ with_one (H.told house.old).shut (shut_door left.number (H.Door.told left.door)) }
 {
     let Left {
         number,
@@ -187,7 +214,11 @@ pub(crate) fn end_all<W: Wait, H: House>(
 ) -> bool
     requires { All (λ l. IsDone (H.Door.told l.door) × All (IsFiledBy (shared_rules port.old)) l.recorders.items) list.items }
     ensures rules { shared_rules port.new ≡ shared_rules port.old }
+    ensures grown { Later (told_at port.old.roots) (told_at port.new.roots) }
     ensures faults { (H.told house.new).faults ≡ (H.told house.old).faults }
+    ensures shut { result ≡ true → (desk : Ask → Grant) (limits : Limits)
+        → All (λ l. IsBalanced desk limits (shared_rules port.old).limits (told_at port.old.roots) l.number (H.Door.told l.door)) list.items
+        → ShutsMore (IsShut desk limits (shared_rules port.old).limits (told_at port.new.roots)) (vec_len list) (H.told house.old).shut (H.told house.new).shut }
 {
     let mut whole = true;
     while let Some(left) = list.pop() {

@@ -3,9 +3,14 @@ ghost use Rattle.std.specs.Prelude.{◌≡◌, ◌≤◌, length, map, vec_len, 
 ghost use Rattle.relay_config.specs.Accepts.{Lawful};
 ghost use Rattle.relay_worker.specs.Running.{HasRun};
 ghost use Rattle.stream_registry.specs.SharedState.{shared_rules};
-ghost use Rattle.relay_serve.specs.Ends.{Concludes, EndsAs, HouseCause, RefusesAs, RunsAs, Serves, code_of, outer, seen, unopened_as};
-ghost use Rattle.relay_serve.specs.Starts.{HasRules};
-ghost use Rattle.relay_serve.specs.Places.{asks_ts};
+ghost use Rattle.relay_serve.specs.Ends.{EndsAs, HouseCause, RefusesAs, RunsAs, Serves, code_of, outer, seen, unopened_as};
+ghost use Rattle.command_dialog.specs.declared.types.Ask.{Ask};
+ghost use Rattle.command_dialog.specs.declared.types.Grant.{Grant};
+ghost use Rattle.relay_base.specs.declared.limits.Limits.{Limits};
+ghost use Rattle.relay_session.specs.Grants.{granted_from};
+ghost use Rattle.relay_serve.specs.Places.{limits_in};
+ghost use Rattle.relay_serve.specs.Settling.{AreNumbered, IsKept};
+ghost use Rattle.relay_serve.specs.Starts.{HasLimits, HasRules};
 ghost use Rattle.relay_serve.specs.Words.{is_serve};
 
 use crate::counting::{count_all, report_of};
@@ -15,7 +20,7 @@ use crate::reading::{ReadFail, read_text};
 use crate::starting::{OpenFail, ServeWorker, names_of, open_files, open_workers};
 use key_guard::Guards;
 use relay_base::Status;
-use relay_config::{Config, ConfigFail, PlaceList, PlaceRule, read_config, report};
+use relay_config::{Config, ConfigFail, PlaceList, read_config, report};
 use relay_outside::{Door, House, Rest, Sink, Source};
 use relay_session::PlaceDesk;
 use relay_worker::run_all;
@@ -42,8 +47,6 @@ pub enum Ending {
     OutOfMemory,
     /// The house had no door, no rest or no file, and nobody was served.
     HouseFault,
-    /// The configuration asks for a recording as a transport stream, which can't be had yet. Nobody was served.
-    Transport,
 }
 
 fn code_of(ending: Ending) -> u8
@@ -57,7 +60,6 @@ fn code_of(ending: Ending) -> u8
         Ending::SinkFault => 5,
         Ending::OutOfMemory => 6,
         Ending::HouseFault => 7,
-        Ending::Transport => 9,
     }
 }
 
@@ -71,15 +73,10 @@ fn is_serve(words: &[Vec<u8>]) -> bool
     }
 }
 
-// Whether some place asks for a recording as a transport stream.
-fn asks_ts(places: &[PlaceRule]) -> bool
-    ensures { result ≡ asks_ts places.now }
+// The limits of each stream.
+fn stream_limits(config: &Config) -> StreamLimits
+    ensures { result ≡ limits_in config.now }
 {
-    places.iter().any(|place| place.ts.is_some())
-}
-
-// The limits of the streams.
-fn stream_limits(config: &Config) -> StreamLimits {
     StreamLimits {
         bytes: config.limits.ring_bytes,
         items: config.limits.ring_items,
@@ -114,7 +111,11 @@ fn make_ready<H: House>(
     ensures house { MatchResult result (λ _. H.told house.new ≡ H.told house.old) (λ fail. HouseCause fail (H.told house.old) (H.told house.new)) }
     ensures few { IfOk result (λ ready. vec_len ready.workers ≤ 16) }
     ensures places { IfOk result (λ ready. length config.now.places ≡ length (shared_rules ready.port).names) }
+    ensures limits { IfOk result (λ ready. HasLimits (limits_in config.now) (length config.now.places) ready.port) }
     ensures rules { IfOk result (λ ready. All (λ x. HasRules (shared_rules ready.port) x.bench.port) ready.workers.items) }
+    ensures each { IfOk result (λ ready. vec_len ready.workers ≡ config.now.workers) }
+    ensures numbered { IfOk result (λ ready. AreNumbered ready.workers.items) }
+    ensures kept { IfOk result (λ ready. (desk : Ask → Grant) → All (IsKept desk config.now.limits H.Door.Link.told H.Door.told) ready.workers.items) }
 {
     let places = config.places.as_slice();
     let Ok(names) = names_of(alloc, places) else {
@@ -143,11 +144,14 @@ fn conclude<W: Wait, H: House, K: Sink>(
 ) -> Ending
     requires lawful { Lawful config.now }
     requires places { length config.now.places ≡ length (shared_rules ready.port).names }
+    requires limits { HasLimits (limits_in config.now) (length config.now.places) ready.port }
     requires few { vec_len ready.workers ≤ 16 }
     requires run { All (λ x. HasRun H.Door.told x) ready.workers.items }
     requires rules { All (λ x. HasRules (shared_rules ready.port) x.bench.port) ready.workers.items }
-    ensures concludes { Concludes config.now (K.holds out.old) (K.faults out.old) (K.holds out.new) (K.faults out.new) result }
-    ensures faults { (H.told house.new).faults ≡ (H.told house.old).faults }
+    requires each { vec_len ready.workers ≡ config.now.workers }
+    requires numbered { AreNumbered ready.workers.items }
+    requires kept { All (IsKept (granted_from 0 config.now.places) config.now.limits H.Door.Link.told H.Door.told) ready.workers.items }
+    ensures { RunsAs config.now (seen (K.holds out.old) (K.faults out.old) (H.told house.old)) (seen (K.holds out.new) (K.faults out.new) (H.told house.new)) result }
 {
     let Ready { mut port, workers } = ready;
     let Ok(left) = take_all_apart(alloc, &mut port, workers) else {
@@ -184,6 +188,9 @@ where
     ensures run { All (λ x. HasRun D.told x) result.items }
     ensures rules { All (λ x. HasRules (shared_rules port.now) x.bench.port) result.items }
     ensures each { vec_len result ≡ vec_len workers }
+    ensures numbered { AreNumbered workers.items → AreNumbered result.items }
+    ensures kept { (limits : Limits) → ((desk : Ask → Grant) → All (IsKept desk limits D.Link.told D.told) workers.items)
+        → All (IsKept (granted_from 0 list.now) limits D.Link.told D.told) result.items }
 {
     let _ = port;
     let desk = PlaceDesk::new(guards, list);
@@ -204,9 +211,6 @@ fn run<T: Threads + Wait + Sync, H: House, K: Sink>(
     requires lawful { Lawful config.now }
     ensures { RunsAs config.now (seen (K.holds out.old) (K.faults out.old) (H.told house.old)) (seen (K.holds out.new) (K.faults out.new) (H.told house.new)) result }
 {
-    if asks_ts(config.places.as_slice()) {
-        return Ending::Transport;
-    }
     match make_ready(alloc, config, house) {
         Ok(Ready { port, workers }) => {
             let workers = run_workers(rt, workers, &port, guards, &config.places);
@@ -276,8 +280,7 @@ fn end<T: Threads + Wait + Sync, H: House, S: Source, K: Sink>(
 ///   beginning of it where the report's faults rose;
 /// - 5 where the report couldn't be written, only where its faults rose;
 /// - 6 where there was too little memory, also for a session or a recorder;
-/// - 7 where the house had no door, no rest or no file, only where its faults rose: no worker has run;
-/// - 9 exactly where the configuration asks for a transport stream recording, which can't be had yet: no worker has run.
+/// - 7 where the house had no door, no rest or no file, only where its faults rose: no worker has run.
 ///
 /// `place` is 0.
 pub fn serve<T: Threads + Wait + Sync, H: House, S: Source, K: Sink>(

@@ -3,12 +3,15 @@ ghost use Rattle.std.specs.Prelude.{◌≡◌, ◌<◌, ◌≤◌, ℕ, All, len
 ghost use Rattle.relay_config.specs.Accepts.{Lawful};
 ghost use Rattle.relay_serve.specs.Ends.{HouseCause};
 ghost use Rattle.relay_serve.specs.Places.{name_of};
+ghost use Rattle.command_dialog.specs.declared.types.Ask.{Ask};
+ghost use Rattle.command_dialog.specs.declared.types.Grant.{Grant};
+ghost use Rattle.relay_serve.specs.Settling.{AreNumbered, IsKept};
 ghost use Rattle.relay_serve.specs.Starts.{HasRules};
 ghost use Rattle.stream_registry.specs.SharedState.{shared_rules};
 
-use crate::titled::Titled;
+use crate::titled::{Form, Titled};
 use av_unit::{Bytes, OutOfMemory};
-use media_recorder::FlvRecorder;
+use media_recorder::{FlvRecorder, TsRecorder};
 use relay_config::{Config, PlaceRule};
 use relay_outside::{Door, House, Rest, Sink};
 use relay_worker::{Recorder, Worker};
@@ -53,6 +56,7 @@ pub(crate) fn names_of(alloc: Global, places: &[PlaceRule]) -> Result<NameList, 
 fn open_file<H: House>(
     house: &mut H,
     place: u32,
+    form: Form,
     name: &[u8],
     files: &mut Vec<Titled<H::File>>,
 ) -> Result<(), OpenFail>
@@ -63,10 +67,47 @@ fn open_file<H: House>(
         return Err(OpenFail::HouseFault);
     };
     let who = RECORDERS.saturating_add(files.len() as u64);
-    if files.push(Titled { place, who, file }).is_err() {
+    let titled = Titled {
+        place,
+        form,
+        who,
+        file,
+    };
+    if files.push(titled).is_err() {
         return Err(OpenFail::OutOfMemory);
     }
     Ok(())
+}
+
+// The file of a recording, if there is to be one.
+fn open_if<H: House>(
+    house: &mut H,
+    place: u32,
+    form: Form,
+    name: &Option<Bytes>,
+    files: &mut Vec<Titled<H::File>>,
+) -> Result<(), OpenFail>
+    ensures files { (n : ℕ) → place < n → All (λ t. t.place < n) files.old.items → All (λ t. t.place < n) files.new.items }
+    ensures house { MatchResult result (λ _. H.told house.new ≡ H.told house.old) (λ fail. HouseCause fail (H.told house.old) (H.told house.new)) }
+{
+    let Some(name) = name else {
+        return Ok(());
+    };
+    open_file(house, place, form, name.as_slice(), files)
+}
+
+// The files of the recordings of a place.
+fn open_at<H: House>(
+    house: &mut H,
+    place: u32,
+    rule: &PlaceRule,
+    files: &mut Vec<Titled<H::File>>,
+) -> Result<(), OpenFail>
+    ensures files { (n : ℕ) → place < n → All (λ t. t.place < n) files.old.items → All (λ t. t.place < n) files.new.items }
+    ensures house { MatchResult result (λ _. H.told house.new ≡ H.told house.old) (λ fail. HouseCause fail (H.told house.old) (H.told house.new)) }
+{
+    open_if(house, place, Form::Flv, &rule.flv, files)?;
+    open_if(house, place, Form::Ts, &rule.ts, files)
 }
 
 /// The files of the recordings, in the order of their places.
@@ -81,9 +122,7 @@ pub(crate) fn open_files<H: House>(
 {
     let mut files = Vec::new(alloc);
     for place in 0..places.len() {
-        if let Some(name) = &places[place].flv {
-            open_file(house, place as u32, name.as_slice(), &mut files)?;
-        }
+        open_at(house, place as u32, &places[place], &mut files)?;
     }
     Ok(files)
 }
@@ -95,10 +134,13 @@ fn enlist<D: Door, R: Rest, K: Sink>(
     file: Titled<K>,
 ) -> Result<(), OutOfMemory>
     requires { file.place < length (shared_rules worker.old.bench.port).names }
-    ensures { worker.new.bench ≡ worker.old.bench }
+    ensures { (worker.new.bench ≡ worker.old.bench) × (worker.new.terms ≡ worker.old.terms) }
 {
-    let recorder = FlvRecorder::new(alloc, file.place, file.who)?;
-    worker.enlist(Recorder::Flv(recorder, file))
+    let recorder = match file.form {
+        Form::Flv => Recorder::Flv(FlvRecorder::new(alloc, file.place, file.who)?, file),
+        Form::Ts => Recorder::Ts(TsRecorder::new(alloc, file.place, file.who)?, file),
+    };
+    worker.enlist(recorder)
 }
 
 // The recorders of the worker with that number, of so many: those whose place, modulo this, is its number. The files of the
@@ -113,7 +155,7 @@ fn enlist_own<D: Door, R: Rest, K: Sink>(
     requires some { 0 < workers }
     requires files { All (λ t. t.place < length (shared_rules worker.old.bench.port).names) files.old.items }
     ensures files { OnOk result (All (λ t. t.place < length (shared_rules worker.old.bench.port).names) files.new.items) }
-    ensures bench { worker.new.bench ≡ worker.old.bench }
+    ensures bench { (worker.new.bench ≡ worker.old.bench) × (worker.new.terms ≡ worker.old.terms) }
 {
     let mut others = Vec::new(alloc);
     while let Some(file) = files.pop() {
@@ -142,6 +184,8 @@ fn open_worker<H: House>(
     ensures files { IfOk result (λ _. All (λ t. t.place < length (shared_rules port).names) files.new.items) }
     ensures house { MatchResult result (λ _. H.told house.new ≡ H.told house.old) (λ fail. HouseCause fail (H.told house.old) (H.told house.new)) }
     ensures port { IfOk result (λ x. x.bench.port ≡ port) }
+    ensures number { IfOk result (λ x. x.terms.number ≡ number) }
+    ensures kept { IfOk result (λ x. (desk : Ask → Grant) → IsKept desk config.now.limits H.Door.Link.told H.Door.told x) }
 {
     let Some(door) = house.door(number, config.listen.as_slice(), config.accept) else {
         return Err(OpenFail::HouseFault);
@@ -175,6 +219,8 @@ pub(crate) fn open_workers<H: House>(
     ensures house { MatchResult result (λ _. H.told house.new ≡ H.told house.old) (λ fail. HouseCause fail (H.told house.old) (H.told house.new)) }
     ensures rules { IfOk result (λ workers. All (λ x. HasRules (shared_rules first.now) x.bench.port) workers.items) }
     ensures each { IfOk result (λ workers. vec_len workers ≡ vec_len ports) }
+    ensures numbered { IfOk result (λ workers. AreNumbered workers.items) }
+    ensures kept { IfOk result (λ workers. (desk : Ask → Grant) → All (IsKept desk config.now.limits H.Door.Link.told H.Door.told) workers.items) }
 {
     let _ = first;
     let mut workers = Vec::new(alloc);

@@ -10,7 +10,7 @@ use std::alloc::{AllocError, Global};
 use std::test::Fail;
 
 const CONFIG: &[u8] =
-    b"[relay]\nlisten = \"127.0.0.1:1935\"\nworkers = 2\naccept = 1\n[[stream]]\napp = \"live\"\nname = \"one\"\nflv = \"one.flv\"\n";
+    b"[relay]\nlisten = \"127.0.0.1:1935\"\nworkers = 2\naccept = 1\n[[stream]]\napp = \"live\"\nname = \"one\"\nflv = \"one.flv\"\nts = \"one.ts\"\n";
 
 // What a client sends after its handshake to connect to an app, to open a message stream and to publish there, and an AAC
 // configuration.
@@ -86,16 +86,17 @@ fn serves_until_the_last_link_is_gone(rt: HostRuntime) -> Result<(), Fail> {
     );
     assert!(rt; ended == Status { code: 0, place: 0 });
     assert!(rt;
-        report.bytes() == b"stream 0 began 1 pushed 1 ended 1 joined 1 skips 0\n".as_slice()
+        report.bytes() == b"stream 0 began 1 pushed 1 ended 1 joined 2 skips 0\n".as_slice()
     );
     assert!(rt;
         whole
             .file_bytes(b"one.flv")
             .is_some_and(|file| file.starts_with(b"FLV"))
     );
+    assert!(rt; whole.file_bytes(b"one.ts").is_some());
     assert!(rt; whole.link_sent(0, 0).is_some_and(|sent| sent.len() > 3_073));
-    // a file, two doors and two rests
-    for number in 0..5 {
+    // two files, two doors and two rests
+    for number in 0..6 {
         let mut fails = Vec::new(alloc);
         fails.push(number)?;
         let mut config = source(alloc, CONFIG)?;

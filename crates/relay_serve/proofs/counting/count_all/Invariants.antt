@@ -1,6 +1,14 @@
 use Rattle.std.proofs.Common.{◌≡◌, length}
+use Rattle.stream_registry.specs.Gates.{told_at}
+use Rattle.stream_registry.specs.Roots.{Later}
 use Rattle.stream_registry.specs.SharedState.{shared_rules}
+use Rattle.relay_serve.specs.Lasts.{AllEnd}
 use Rattle.relay_serve.proofs.counting.count_all.Given as goal
 
 abbrev pub invariant-loop-place : goal.invariant-loop-place
-invariant-loop-place g l = (length l.list.items ≡ l.place) × (shared_rules l.port ≡ shared_rules l.fn.port)
+invariant-loop-place g l = record {
+  each : length l.list.items ≡ l.place;
+  rules : shared_rules l.port ≡ shared_rules l.fn.port;
+  last : AllEnd (shared_rules l.fn.port).limits l.list.items (told_at l.port.roots);
+  grown : Later (told_at l.fn.port.roots) (told_at l.port.roots);
+}

@@ -1,9 +1,16 @@
-use Rattle.std.proofs.Common.{◌≡◌, Some, slice_get}
+use Rattle.std.proofs.Common.{◌≡◌, ◌≢◌, ℕ, Some, slice_get}
+use Rattle.turn_gate.specs.Histories.{Begins}
+use Rattle.stream_registry.specs.Gates.{told_at}
 use Rattle.stream_registry.specs.Roots.{gates}
 use Rattle.stream_registry.specs.SharedState.{shared_rules}
 use Rattle.relay_serve.proofs.counting.count_one.Given as goal
 
 abbrev pub invariant-loop : goal.invariant-loop
-invariant-loop g l =
-    (goal.iterator-loop g).can_next l.iterator' × (goal.iterator-loop g).is_finite l.iterator'
-    × (slice_get (gates l.port.roots) l.place ≡ Some l.pass.gate) × (shared_rules l.port ≡ shared_rules l.fn.port)
+invariant-loop g l = record {
+  more : (goal.iterator-loop g).can_next l.iterator';
+  finite : (goal.iterator-loop g).is_finite l.iterator';
+  fits : slice_get (gates l.port.roots) l.place ≡ Some l.pass.gate;
+  rules : shared_rules l.port ≡ shared_rules l.fn.port;
+  grown : Begins (told_at l.fn.port.roots l.place) (told_at l.port.roots l.place);
+  others : (q : ℕ) → q ≢ l.place → told_at l.port.roots q ≡ told_at l.fn.port.roots q;
+}

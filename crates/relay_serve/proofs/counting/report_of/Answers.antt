@@ -1,6 +1,6 @@
-use Rattle.std.proofs.Common.{rules, ◌≡◌, ◌++◌, ◌∙◌, sym, ap, List, ℕ, map, take, get_or, None}
+use Rattle.std.proofs.Common.{rules, ◌≡◌, ◌++◌, ◌∙◌, sym, ap, List, ℕ, get_or, None}
 use Rattle.relay_serve.specs.Counts.{counted_if}
-use Rattle.relay_serve.specs.Texts.{lines_from, stream_line}
+use Rattle.relay_serve.specs.Texts.{stream_line}
 use Rattle.relay_serve.proofs.Lines.{report_more}
 use Rattle.relay_serve.proofs.counting.report_of.Goals as goal
 

@@ -1,7 +1,9 @@
 use Rattle.std.proofs.Common.{◌∙◌, sym, subst, Some}
 use Rattle.std.proofs.lemmas.List.Elements.{All-pop}
 use Rattle.stream_registry.specs.Names.{PortRules}
+use Rattle.stream_registry.specs.Gates.{told_at}
 use Rattle.stream_registry.specs.SharedState.{shared_rules}
+use Rattle.relay_serve.proofs.Counted.{later_then}
 use Rattle.relay_serve.specs.Starts.{IsFiledBy}
 use Rattle.relay_serve.proofs.ending.end_left.Goals as goal
 
@@ -16,5 +18,8 @@ loop-recorder-preserved g c = record {
   filed = (All-pop (IsFiledBy (shared_rules c.args.port.now)) c.loop-recorder.recorders.items c.pop.new.self.items (Some c.in-Some.recorder) c.in-Some.ensures.items
       c.loop-recorder.invariant.filed).0;
   rules = c.end_recorder-whole.ensures.rules ∙ c.loop-recorder.invariant.rules;
+  grown = later_then (told_at c.args.port.now.roots) (told_at c.loop-recorder.port.roots) (told_at c.end_recorder-whole.new.port.roots) c.loop-recorder.invariant.grown
+      c.end_recorder-whole.ensures.grown;
+  shut = c.end_recorder-whole.ensures.shut ∙ c.loop-recorder.invariant.shut;
   faults = c.end_recorder-whole.ensures.faults ∙ c.loop-recorder.invariant.faults;
 }

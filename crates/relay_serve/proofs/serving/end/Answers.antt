@@ -1,4 +1,4 @@
-use Rattle.std.proofs.Common.{rules, ◌≡◌, ◌⊎◌, List, ℕ, Some, refl, subst}
+use Rattle.std.proofs.Common.{rules, ◌≡◌, ◌⊎◌, Some, refl}
 use Rattle.relay_config.specs.declared.config.ConfigFail.TheVariants as fail
 use Rattle.relay_config.specs.Accepts.{refusal}
 use Rattle.relay_serve.specs.Ends.{outer, seen}

@@ -8,6 +8,7 @@ invariant-loop-file g l = record {
   left : All (λ t. t.place < length (shared_rules l.fn.worker.bench.port).names) l.files.items;
   others : All (λ t. t.place < length (shared_rules l.fn.worker.bench.port).names) l.others.items;
   bench : l.worker.bench ≡ l.fn.worker.bench;
+  terms : l.worker.terms ≡ l.fn.worker.terms;
 }
 
 abbrev pub decreases-loop-file : goal.decreases-loop-file

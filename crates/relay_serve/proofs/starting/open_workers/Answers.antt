@@ -1,9 +1,11 @@
-use Rattle.std.proofs.Common.{rules, ◌≡◌, ◌<◌, ◌∙◌, sym, subst, Some, arith, length}
+use Rattle.std.proofs.Common.{◌<◌, ◌∙◌, sym, subst, Some, arith, length}
 use Rattle.std.specs.Prelude.{All}
 use Rattle.std.proofs.lemmas.List.Elements.{All-pop, All-push, All-same}
 use Rattle.stream_registry.specs.Names.{PortRules}
 use Rattle.stream_registry.specs.SharedState.{Streams, shared_rules}
+use Rattle.relay_serve.specs.Settling.{AreNumbered, IsKept}
 use Rattle.relay_serve.specs.Starts.{HasRules}
+use Rattle.relay_serve.proofs.Settling.{numbered_push}
 use Rattle.relay_serve.proofs.Ruled.{popped}
 use Rattle.relay_serve.proofs.starting.open_workers.Goals as goal
 
@@ -25,5 +27,10 @@ loop-port-preserved g c =
           (All-push (λ x. HasRules (shared_rules c.args.first.now) x.bench.port) c.loop-port.workers.items c.in_ok-worker.worker i.workers
           (subst (λ (p : Streams). HasRules (shared_rules c.args.first.now) p) (sym c.in_ok-worker.ensures.port) r.1));
       count = omega (arith, popped _ _ _ pushed, popped c.loop-port.ports.items c.pop.new.self.items c.in-Some.port c.in-Some.ensures.items, i.count);
+      numbered = subst (λ l. AreNumbered l) (sym pushed)
+          (numbered_push c.loop-port.workers.items c.in_ok-worker.worker i.numbered (omega (arith, c.in_ok-worker.ensures.number, c.loop-port.workers.ok.0)));
+      kept = λ desk. All-same (IsKept desk c.args.config.now.limits g.H.Door.Link.Link.told g.H.Door.Door.told) _ _ pushed
+          (All-push (IsKept desk c.args.config.now.limits g.H.Door.Link.Link.told g.H.Door.Door.told) c.loop-port.workers.items c.in_ok-worker.worker (i.kept desk)
+          (c.in_ok-worker.ensures.kept desk));
       house = c.in_ok-worker.ensures.house ∙ i.house;
     }

@@ -1,0 +1,80 @@
+-- What is counted stands at the end of a history
+use Rattle.std.proofs.Common.{◌≡◌, ◌≢◌, ◌⊎◌, ◌<◌, ℕ, zero, suc, Bool, true, false, List, [], ◌∷◌, ◌++◌, length, length-append, append_assoc, Option, Some, slice_get, inl, inr, refl, sym, ap, subst, ◌∙◌, arith}
+use Rattle.std.proofs.lemmas.List.{append-nil}
+use Rattle.std.proofs.lemmas.Option.{slice_get_within}
+use Rattle.std.proofs.lemmas.Bool.Decides.{nat_tests}
+use Rattle.std.specs.Prelude.{nat_lt, if◌then◌else◌}
+use Rattle.turn_gate.specs.Histories.{Begins, longer}
+use Rattle.stream_model.specs.declared.calls.StreamLimits.{StreamLimits}
+use Rattle.stream_registry.specs.Placed.{Placed}
+use Rattle.stream_registry.specs.Told.{Step, Histories, Keeps}
+use Rattle.stream_registry.specs.Roots.{Later}
+use Rattle.relay_serve.specs.declared.counting.Counts.{Counts}
+use Rattle.relay_serve.specs.Lasts.{AllEnd, EndsIf, EndsWith, counting, told_by}
+
+choose : (b : Bool) (xs ys : List Step) → b ≡ true → (if b then ys else xs) ≡ ys
+choose true xs ys e = refl
+choose false xs ys e = absurd (let f : false ≡ true = e in cc)
+
+-- what a pass has seen last is the longer, where the root knows nothing more
+pub counted : (limits : StreamLimits) (root seen : List Step) (mine : List ℕ) (c : Counts) (seen' : List Step) (mine' : List ℕ) (root' : List Step)
+    → Placed limits root seen mine (counting, told_by c) seen' mine' → Keeps limits seen' → root' ≡ longer root seen' → EndsWith limits c root'
+counted limits root seen mine c seen' mine' root' p k e =
+    let r = p.root_first in
+    let less : length root < length seen' = omega (arith, ap length p.seen_is, length-append p.before ((counting, told_by c) ∷ []), ap length r.1, length-append root r.0) in
+    let same : root' ≡ seen' = e ∙ choose (nat_lt (length root) (length seen')) root seen' (grind (arith, nat_tests, less)) in
+    record { before = p.before; last = same ∙ p.seen_is; keeps = subst (Keeps limits) (sym same) k }
+
+begins_same : (xs : List Step) → Begins xs xs
+begins_same xs = ([], append-nil xs)
+
+begins_all : (xs ys zs : List Step) → Begins xs ys → Begins ys zs → Begins xs zs
+begins_all xs ys zs b c = (b.0 ++ c.0, sym (append_assoc xs b.0 c.0) ∙ ap (λ (l : List Step). l ++ c.0) b.1 ∙ c.1)
+
+shifted : {m n : ℕ} → (m ≡ n) ⊎ (m ≢ n) → (suc m ≡ suc n) ⊎ (suc m ≢ suc n)
+shifted (inl e) = inl (ap suc e)
+shifted (inr n) = inr (λ e. n (omega (arith, e)))
+
+same_or : (m n : ℕ) → (m ≡ n) ⊎ (m ≢ n)
+same_or zero zero = inl refl
+same_or zero (suc n) = inr (λ e. omega (arith, e))
+same_or (suc m) zero = inr (λ e. omega (arith, e))
+same_or (suc m) (suc n) = shifted (same_or m n)
+
+later_by : (hs ks : Histories) (place q : ℕ) → Begins (hs place) (ks place) → ((q : ℕ) → q ≢ place → ks q ≡ hs q) → (q ≡ place) ⊎ (q ≢ place) → Begins (hs q) (ks q)
+later_by hs ks place q b o (inl e) = subst (λ (n : ℕ). Begins (hs n) (ks n)) (sym e) b
+later_by hs ks place q b o (inr n) = subst (Begins (hs q)) (sym (o q n)) (begins_same (hs q))
+
+-- histories that grew at one place alone
+pub later_at : (hs ks : Histories) (place : ℕ) → Begins (hs place) (ks place) → ((q : ℕ) → q ≢ place → ks q ≡ hs q) → Later hs ks
+later_at hs ks place b o = record { at = λ q. later_by hs ks place q b o (same_or q place) }
+
+pub later_then : (hs ks ls : Histories) → Later hs ks → Later ks ls → Later hs ls
+later_then hs ks ls a b = record { at = λ q. begins_all (hs q) (ks q) (ls q) (a.at q) (b.at q) }
+
+shift : {X : Type 0} (xs : List X) (z x y : X) (n : ℕ) → (slice_get xs n ≡ Some y) ⊎ ((n ≡ length xs) × (x ≡ y))
+    → (slice_get (z ∷ xs) (suc n) ≡ Some y) ⊎ ((suc n ≡ length (z ∷ xs)) × (x ≡ y))
+shift xs z x y n (inl e) = inl e
+shift xs z x y n (inr e) = inr (ap suc e.0, e.1)
+
+pushed_get : {X : Type 0} (xs : List X) (x y : X) (n : ℕ) → slice_get (xs ++ x ∷ []) n ≡ Some y → (slice_get xs n ≡ Some y) ⊎ ((n ≡ length xs) × (x ≡ y))
+pushed_get [] x y zero e = inr (refl, cc)
+pushed_get [] x y (suc n) e = absurd (cc)
+pushed_get (z ∷ xs) x y zero e = inl e
+pushed_get (z ∷ xs) x y (suc n) e = shift xs z x y n (pushed_get xs x y n e)
+
+module _ (limits : ℕ → StreamLimits) (xs : List (Option Counts)) (x : Option Counts) (hs ks : Histories) where
+  all_by : (place : ℕ) (c : Counts) → AllEnd limits xs hs → EndsIf (limits (length xs)) x (ks (length xs)) → ((q : ℕ) → q ≢ length xs → ks q ≡ hs q)
+      → (slice_get xs place ≡ Some (Some c)) ⊎ ((place ≡ length xs) × (x ≡ Some c)) → EndsWith (limits place) c (ks place)
+  all_by place c old new o (inl e) =
+      let l : place < length xs = slice_get_within xs place (Some c) e in
+      subst (EndsWith (limits place) c) (sym (o place (λ f. omega (arith, f, l)))) (old place c e)
+  all_by place c old new o (inr e) =
+      subst (λ (n : ℕ). EndsWith (limits n) c (ks n)) (sym e.0) (subst (λ (y : Option Counts). EndsIf (limits (length xs)) y (ks (length xs))) e.1 new)
+
+  -- one history more ends with its Count
+  pub all_more : AllEnd limits xs hs → EndsIf (limits (length xs)) x (ks (length xs)) → ((q : ℕ) → q ≢ length xs → ks q ≡ hs q) → AllEnd limits (xs ++ x ∷ []) ks
+  all_more old new o = λ place c at. all_by place c old new o (pushed_get xs x (Some c) place at)
+
+pub later_same : (hs : Histories) → Later hs hs
+later_same hs = record { at = λ q. begins_same (hs q) }

@@ -1,0 +1,27 @@
+use Rattle.std.proofs.Common.{◌≡◌, ◌∙◌, ap, subst, slice_get}
+use Rattle.turn_gate.specs.Histories.{longer}
+use Rattle.stream_model.specs.declared.calls.StreamLimits.{StreamLimits}
+use Rattle.stream_registry.specs.Gates.{told, told_at, numbers}
+use Rattle.stream_registry.specs.Names.{PortRules}
+use Rattle.stream_registry.specs.Roots.{gates}
+use Rattle.stream_registry.specs.SharedState.{limits_at, shared_rules}
+use Rattle.stream_registry.specs.Told.{Keeps}
+use Rattle.relay_serve.specs.declared.counting.Counts.{Counts}
+use Rattle.relay_serve.specs.Lasts.{EndsWith}
+use Rattle.relay_serve.proofs.Counted.{counted}
+use Rattle.relay_serve.proofs.counting.count_one.Goals as goal
+
+pub returns-in-Ok-Counts-clause-last : goal.returns-in-Ok-Counts-clause-last
+returns-in-Ok-Counts-clause-last g c =
+    let place = c.args.place in
+    let r = c.in-Ok-Counts.ensures in
+    let counts : Counts = record { began = c.in-Ok-Counts.began; pushed = c.in-Ok-Counts.pushed; ended = c.in-Ok-Counts.ended; joined = c.in-Ok-Counts.joined; skips = c.in-Ok-Counts.skips } in
+    let limits : c.loop.pass.gate.about.limits ≡ (shared_rules c.args.port.now).limits place =
+    limits_at (slice_get (gates c.loop.port.roots) place) c.loop.pass.gate c.loop.invariant.fits ∙ ap (λ (q : PortRules). q.limits place) c.loop.invariant.rules in
+    let knows : told_at c.detach.new.self.roots place ≡ longer (told_at c.loop.port.roots place) (told c.call.new.pass.seen) =
+    c.detach.ensures.here ∙ ap (λ h. longer (told_at h place) (told c.call.new.pass.seen)) r.roots in
+    subst (λ (l : StreamLimits). EndsWith l counts (told_at c.detach.new.self.roots place)) limits
+    (counted c.loop.pass.gate.about.limits (told_at c.loop.port.roots place) (told c.loop.pass.seen) (numbers c.loop.pass.seen c.loop.pass.mine) counts
+    (told c.call.new.pass.seen) (numbers c.call.new.pass.seen c.call.new.pass.mine) (told_at c.detach.new.self.roots place)
+    (rw c.in-Ok-Counts.field-0-is at r.reply)
+    (subst (λ (l : StreamLimits). Keeps l (told c.call.new.pass.seen)) r.pass.1 r.laws) knows)

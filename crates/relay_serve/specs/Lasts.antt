@@ -1,0 +1,31 @@
+-- The last call of each stream
+use Rattle.std.specs.Prelude.{◌≡◌, ◌^◌, ℕ, List, [], ◌∷◌, ◌++◌, Option, None, Some, slice_get}
+use Rattle.stream_model.specs.declared.calls.Call.TheVariants as call
+use Rattle.stream_model.specs.declared.calls.Entry.{Entry}
+use Rattle.stream_model.specs.declared.calls.StreamLimits.{StreamLimits}
+use Rattle.stream_model.specs.declared.replies.Reply.{Reply}
+use Rattle.stream_model.specs.declared.replies.Reply.TheVariants as reply
+use Rattle.stream_registry.specs.Told.{Step, Histories, Keeps}
+use Rattle.relay_serve.specs.declared.counting.Counts.{Counts}
+
+-- the server's own Count
+abbrev pub counting : Entry
+counting = record { who = 2 ^ 62; at = 0; call = call.Count }
+
+abbrev pub told_by : Counts → Reply
+told_by c = reply.Counts c.began c.pushed c.ended c.joined c.skips
+
+-- A HISTORY THAT ENDS WITH THE COUNT, answered so: each reply is the one that the rules give after the calls before it
+pub record EndsWith (limits : StreamLimits) (c : Counts) (history : List Step) : Type 0 where
+  pub before : List Step
+  pub last : history ≡ before ++ (counting, told_by c) ∷ []
+  pub keeps : Keeps limits history
+
+-- where a stream is counted its history ends so
+abbrev pub EndsIf : StreamLimits → Option Counts → List Step → Type 0
+EndsIf limits None history = Unit {0}
+EndsIf limits (Some c) history = EndsWith limits c history
+
+-- each history at these places ends with its Count
+abbrev pub AllEnd : (ℕ → StreamLimits) → List (Option Counts) → Histories → Type 0
+AllEnd limits counts histories = (place : ℕ) (c : Counts) → slice_get counts place ≡ Some (Some c) → EndsWith (limits place) c (histories place)
