@@ -74,6 +74,8 @@ impl TsMedium {
 }
 
 impl Medium for TsMedium {
+    ghost use Rattle.std.specs.Prelude.{◌≡◌, IfOk, OnErr, true};
+    ghost use Rattle.media_recorder.specs.Mediums.{Begun};
     ghost use Rattle.media_recorder.specs.Transport.{kept_of, recorded_text, ts_goes_on};
 
     ghost text = { recorded_text };
@@ -82,7 +84,12 @@ impl Medium for TsMedium {
 
     ghost kept = { kept_of };
 
-    fn begin(alloc: Global, out: &mut Bytes) -> Result<TsMedium, OutOfMemory> {
+    /// As the trait says. The medium writes; only want of memory ends that.
+    fn begin(alloc: Global, out: &mut Bytes) -> Result<TsMedium, OutOfMemory>
+        ensures ok { IfOk result (λ m. Begun recorded_text out.old out.new m.items (kept_of m)) }
+        ensures err { OnErr result (out.new ≡ out.old) }
+        ensures writes { IfOk result (λ m. m.writes ≡ true) }
+    {
         let _ = &out;
         Ok(TsMedium {
             writer: Some(TsWriter::new(alloc)),
