@@ -1,6 +1,7 @@
 //! The server over a house in memory.
-ghost use Rattle.std.specs.Prelude.{◌≡◌};
+ghost use Rattle.std.specs.Prelude.{◌≡◌, IfOk};
 ghost use Rattle.key_guard.specs.Allowed.{is_allowed};
+ghost use Rattle.relay_outside.specs.MemDoors.{IsNewMemLink};
 
 use crate::serve;
 use key_guard::{Grants, Guard, Guards, Mode, by_digest, by_name};
@@ -41,19 +42,24 @@ fn words(alloc: Global) -> Result<Vec<Vec<u8>>, AllocError> {
     Ok(words)
 }
 
+// A link by which a client gives these bytes and ends.
+fn link(alloc: Global, input: Vec<u8>) -> Result<MemLink, AllocError>
+    ensures { IfOk result IsNewMemLink }
+{
+    let mut link = MemLink::new(alloc);
+    link.give(input)?;
+    link.end();
+    Ok(link)
+}
+
 // A house whose first door has one link, by which a client publishes and ends. The calls with these numbers fail.
 fn house(alloc: Global, fails: Vec<u64>) -> Result<MemHouse, AllocError> {
     let mut input = Vec::new(alloc);
     input.push(3)?;
     input.extend_from_slice(&vec![in alloc; 0; 3_072]?)?;
     input.extend_from_slice(PUBLISHES)?;
-    let mut link = MemLink::new(alloc);
-    link.give(input)?;
-    link.end();
-    let mut links = Vec::new(alloc);
-    links.push(link)?;
-    let mut doors = Vec::new(alloc);
-    doors.push(MemDoor::new(alloc, links, Vec::new(alloc)))?;
+    let links = vec![in alloc; link(alloc, input)?]?;
+    let doors = vec![in alloc; MemDoor::new(alloc, links, Vec::new(alloc))]?;
     Ok(MemHouse::new(alloc, doors, fails))
 }
 
