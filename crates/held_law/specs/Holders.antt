@@ -1,0 +1,21 @@
+-- What the holders of a server hold at most, each by itself
+use Rattle.std.specs.Prelude.{ℕ, ◌+◌, ◌≤◌, List, length, All}
+use Rattle.relay_config.specs.Sum.{recorders_of}
+use Rattle.relay_config.specs.declared.config.Config.{Config}
+use Rattle.media_recorder.specs.Mediums.{most_held as most_recorded}
+use Rattle.relay_session.specs.Holding.{most_held}
+
+-- a stream's window, and one configuration of each kind
+abbrev pub most_streamed : ℕ → ℕ
+most_streamed window = window + 196608
+
+-- SO MANY BYTES EACH HOLDS: the streams, the sessions of each worker, and the recorders. Each holds no more than its own bound,
+-- and there are no more of them than the configuration has
+pub record AreWithin (config : Config) (streams : List ℕ) (workers : List (List ℕ)) (recorders : List ℕ) : Type 0 where
+  pub few_streams : length streams ≤ length config.places
+  pub each_stream : All (λ n. n ≤ most_streamed config.limits.ring_bytes) streams
+  pub few_workers : length workers ≤ config.workers
+  pub few_sessions : All (λ w. length w ≤ config.links) workers
+  pub each_session : All (λ w. All (λ n. n ≤ most_held config.limits.max_message config.limits.max_message) w) workers
+  pub few_recorders : length recorders ≤ recorders_of config.places
+  pub each_recorder : All (λ n. n ≤ most_recorded config.limits.max_message) recorders
