@@ -94,8 +94,8 @@ numbered from 0, in the order of their lines.
       Only who has a key may be the publisher (ROLE publish) or a player (play)
       of stream S; KEY is one more. MODE is plain, or digest where KEY is the
       64 digits of the key's SHA-256. A stream has one mode.
-  record S flv
-      A recorder of stream S, which writes FLV.
+  record S FORM
+      A recorder of stream S. FORM is flv, or ts for a transport stream.
   open
       A session. There are at most 64, and 64 streams.
   in S HEX

@@ -3,3 +3,4 @@ pub mod New
 pub mod Totals
 pub mod Taking
 pub mod Serving
+pub mod Recorders

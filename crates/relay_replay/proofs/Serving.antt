@@ -76,7 +76,7 @@ served_turn (Some x) desk port c port' d e t s = subst (IsServed desk) (sym t.0)
 
 -- ---- lists
 
-all_at : {A : Type 0} (Q : A → Type 0) → (xs : List A) (n : ℕ) (x : A) → slice_get xs n ≡ Some x → All Q xs → Q x
+pub all_at : {A : Type 0} (Q : A → Type 0) → (xs : List A) (n : ℕ) (x : A) → slice_get xs n ≡ Some x → All Q xs → Q x
 all_at Q [] n x e a = absurd (cc)
 all_at Q (y ∷ ys) zero x e a = let same : y ≡ x = cc in subst Q same (All-head Q y ys a)
 all_at Q (y ∷ ys) (suc n) x e a = all_at Q ys n x e (All-tail Q y ys a)
@@ -89,11 +89,11 @@ served_of desk n c d t s =
 served_rec : (desk : Ask → Grant) (n : ℕ) (c d : CastState) → RecTurnOf n c d → ServedIn desk c → ServedIn desk d
 served_rec desk n c d t s = subst (All (IsServed desk)) (sym t.sessions) s
 
-times_keep : {A : Type 0} (Q : A → Type 0) (step : A → A → Type 0) → ((c d : A) → step c d → Q c → Q d) → (k : ℕ) (c d : A) → Times k step c d → Q c → Q d
+pub times_keep : {A : Type 0} (Q : A → Type 0) (step : A → A → Type 0) → ((c d : A) → step c d → Q c → Q d) → (k : ℕ) (c d : A) → Times k step c d → Q c → Q d
 times_keep Q step f zero c d t q = subst Q (sym t) q
 times_keep Q step f (suc k) c d t q = f t.0 d t.1.1 (times_keep Q step f k c t.0 t.1.0 q)
 
-each_keep : {A : Type 0} (Q : A → Type 0) (step : ℕ → A → A → Type 0) → ((n : ℕ) (c d : A) → step n c d → Q c → Q d) → (k : ℕ) (c d : A) → Each k step c d → Q c → Q d
+pub each_keep : {A : Type 0} (Q : A → Type 0) (step : ℕ → A → A → Type 0) → ((n : ℕ) (c d : A) → step n c d → Q c → Q d) → (k : ℕ) (c d : A) → Each k step c d → Q c → Q d
 each_keep Q step f zero c d t q = subst Q (sym t) q
 each_keep Q step f (suc k) c d t q = f k t.0 d t.1.1 (each_keep Q step f k c t.0 t.1.0 q)
 

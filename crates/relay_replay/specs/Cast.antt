@@ -1,5 +1,6 @@
 -- What runs in a replay, and a turn of each of its parts.
-use Rattle.std.specs.Prelude.{◌≡◌, ℕ, zero, suc, List, length, slice_get, slice_set, Option, None, Some}
+use Rattle.std.specs.Prelude.{◌≡◌, ℕ, zero, suc, List, ◌++◌, length, slice_get, slice_set, Option, None, Some}
+use Rattle.av_unit.specs.declared.item.Item.{Item}
 use Rattle.command_dialog.specs.declared.types.Ask.{Ask}
 use Rattle.command_dialog.specs.declared.types.Grant.{Grant}
 use Rattle.relay_outside.specs.MemLinks.{MemLinkState, MemHears, MemSays}
@@ -13,11 +14,18 @@ use Rattle.relay_session.specs.declared.end.End.TheVariants as end
 use Rattle.relay_session.specs.declared.seat_answers.Leaving.{Leaving}
 use Rattle.relay_session.specs.declared.turn.Turn.{Turn}
 use Rattle.relay_session.specs.declared.turn.Turn.TheVariants.{Moved, Idle, Ended}
+use Rattle.flv_tags.specs.Text.{flv_text}
+use Rattle.media_recorder.specs.Taken.{taken}
+use Rattle.media_recorder.specs.Transport.{recorded_text}
 use Rattle.media_recorder.specs.Turns.{RecorderState, Turns}
 use Rattle.media_recorder.specs.declared.turn.RecEnd.{RecEnd}
 use Rattle.media_recorder.specs.declared.turn.RecEnd.TheVariants as rec_end
 use Rattle.media_recorder.specs.declared.turn.RecTurn.{RecTurn}
 use Rattle.media_recorder.specs.declared.turn.RecTurn.TheVariants as rec
+use Rattle.relay_script.specs.declared.replay.Form.{Form}
+use Rattle.relay_script.specs.declared.replay.Form.TheVariants.{Flv, Ts}
+use Rattle.relay_replay.specs.declared.recording.Writer.{Writer}
+use Rattle.relay_replay.specs.declared.recording.Writer.TheVariants as writer
 use Rattle.relay_replay.specs.Files.{FileState, FileTakes}
 
 -- a session with its link
@@ -27,11 +35,30 @@ pub record ConnState : Type 0 where
   -- why it has ended, if it has
   pub ended : Option End
 
--- a recorder with its file
+-- a recorder with its form and its file
 pub record RecState : Type 0 where
+  pub form : Form
   pub recorder : RecorderState SeenState
   pub file : FileState
   pub ended : Option RecEnd
+
+-- a recorder of either form
+abbrev pub form_of : Writer → Form
+form_of (writer.Flv r) = Flv
+form_of (writer.Ts r) = Ts
+
+abbrev pub recorder_of : Writer → RecorderState SeenState
+recorder_of (writer.Flv r) = r
+recorder_of (writer.Ts r) = r
+
+-- THE TEXT of items in a form of recordings
+abbrev pub text_in : Form → List Item → List ℕ
+text_in Flv items = flv_text items
+text_in Ts items = recorded_text items
+
+-- what was sent and what is pending are the text, in that form, of the items that its Takes were sent
+abbrev pub IsText : Form → RecorderState SeenState → Type 0
+IsText f r = r.tape.sent ++ r.tape.pending ≡ text_in f (taken r.seat.calls)
 
 pub record CastState : Type 0 where
   -- the streams
@@ -92,10 +119,24 @@ AfterRecTurn rec.Idle ended ended' = ended' ≡ ended
 AfterRecTurn rec.Busy ended ended' = ended' ≡ ended
 AfterRecTurn (rec.Ended e) ended ended' = HasRecMemory e × (ended' ≡ Some e)
 
+-- a recorder ends as its turn says
+abbrev pub EndsBy : RecTurn → Option RecEnd → Type 0
+EndsBy (rec.Ended e) end = end ≡ Some e
+EndsBy _ end = end ≡ None
+
+-- the one of `Recorder::turn`, with a file in memory
+abbrev pub RecTurnsBy : SoleState → RecorderState SeenState → FileState → RecTurn → SoleState → RecorderState SeenState → FileState → Type 0
+RecTurnsBy port r file answer port' r' file' =
+    Turns (λ (s : SoleState). sole_rules s.rules) (λ s. journal_at s.books) (λ _. 0) (λ (p : SeenState). p.seen) (λ p. p.mine) (λ p. length p.seen) FileTakes
+    r.end port port' file file' r answer r'
+
+-- a recorder's turn. A file that had what was sent has it, and what is written is the text
 pub record RecorderTurn (port : SoleState) (c : RecState) (port' : SoleState) (d : RecState) : Type 0 where
   pub answer : RecTurn
-  pub turn : Turns (λ (s : SoleState). sole_rules s.rules) (λ s. journal_at s.books) (λ _. 0) (λ (p : SeenState). p.seen) (λ p. p.mine) (λ p. length p.seen) FileTakes
-      c.recorder.end port port' c.file d.file c.recorder answer d.recorder
+  pub form : d.form ≡ c.form
+  pub turn : RecTurnsBy port c.recorder c.file answer port' d.recorder d.file
+  pub took : c.file.bytes ≡ c.recorder.tape.sent → d.file.bytes ≡ d.recorder.tape.sent
+  pub text : IsText d.form d.recorder
   pub leads : AfterRecTurn answer c.ended d.ended
 
 -- ---- turns in the cast

@@ -4,4 +4,5 @@ pub mod Cast
 pub mod Plays
 pub mod Scenes
 pub mod Served
+pub mod Recorded
 pub mod Prints

@@ -3,7 +3,6 @@ use Rattle.std.specs.Prelude.{◌≡◌, ℕ, ◌+◌, ◌^◌, ◌<◌, ◌≤�
 use Rattle.std.specs.Option.{option_map}
 use Rattle.relay_base.specs.declared.limits.Limits.{Limits as AllLimits}
 use Rattle.relay_config.specs.declared.config.PlaceRule.{PlaceRule}
-use Rattle.flv_tags.specs.Text.{flv_text}
 use Rattle.media_recorder.specs.Ports.{FitsIf}
 use Rattle.stream_model.specs.declared.calls.StreamLimits.{StreamLimits}
 use Rattle.stream_registry.specs.Books.{SoleState, SeenState, FitsSole, journal_at, sole_rules}
@@ -15,8 +14,9 @@ use Rattle.relay_session.specs.declared.end.End.{End}
 use Rattle.relay_script.specs.declared.replay.ReplayLine.{ReplayLine}
 use Rattle.relay_script.specs.declared.replay.ReplayLine.TheVariants.{Nothing, Limits, Stream, Guard, Recorder, Session, Piece, Eof, Room, FailRecv, FailSend}
 use Rattle.relay_script.specs.declared.replay.ReplayLine.TheVariants.{FailPut, Turn, Rec, Quit}
+use Rattle.relay_replay.specs.declared.recording.Plan.{Plan}
 use Rattle.relay_replay.specs.Stand.{Stand, defaults, after}
-use Rattle.relay_replay.specs.Cast.{ConnState, RecState, CastState}
+use Rattle.relay_replay.specs.Cast.{ConnState, RecState, CastState, text_in}
 use Rattle.relay_replay.specs.Plays.{Plays}
 
 pub record SceneState : Type 0 where
@@ -24,8 +24,7 @@ pub record SceneState : Type 0 where
   pub fresh : Bool
   pub limits : AllLimits
   pub places : List PlaceRule
-  -- the stream of each recorder
-  pub recorders : List ℕ
+  pub recorders : List Plan
   -- what runs, once a line has acted
   pub cast : Option CastState
 
@@ -50,17 +49,18 @@ stream_limits l = record { bytes = l.ring_bytes; items = l.ring_items; players =
 abbrev pub name_of : PlaceRule → Name
 name_of p = record { app = p.app; name = p.name }
 
--- a recorder of that name at that place, which has made no call. The text of no items is pending
-pub record IsNewRecorder (who place : ℕ) (r : RecState) : Type 0 where
-  pub seat : r.recorder.seat ≡ record { who = who; place = place; pass = None; calls = [] }
+-- a recorder of that name, as it was planned, which has made no call. The text of no items is pending
+pub record IsNewRecorder (who : ℕ) (p : Plan) (r : RecState) : Type 0 where
+  pub form : r.form ≡ p.form
+  pub seat : r.recorder.seat ≡ record { who = who; place = p.stream; pass = None; calls = [] }
   pub player : r.recorder.player ≡ None
-  pub tape : (r.recorder.tape.items ≡ []) × (r.recorder.tape.sent ≡ []) × (r.recorder.tape.pending ≡ flv_text [])
+  pub tape : (r.recorder.tape.items ≡ []) × (r.recorder.tape.sent ≡ []) × (r.recorder.tape.pending ≡ text_in p.form [])
   pub live : r.recorder.end ≡ None
   pub file : r.file ≡ record { bytes = []; put_fails = false; faults = 0 }
   pub ended : r.ended ≡ None
 
--- a recorder at each of these places, named by its number from n on
-abbrev pub AreNew : ℕ → List ℕ → List RecState → Type 0
+-- those that were planned, each named by its number from n on
+abbrev pub AreNew : ℕ → List Plan → List RecState → Type 0
 AreNew n [] [] = Unit {0}
 AreNew n [] (r ∷ rs) = ⊥
 AreNew n (p ∷ ps) [] = ⊥
@@ -135,7 +135,7 @@ pub record IsSound (s : SceneState) : Type 0 where
   pub message : s.limits.max_message ≤ 4194304
   pub ring : s.limits.ring_bytes ≤ 268435456
   pub few : length s.places ≤ 64
-  pub recorders : All (λ p. p < length s.places) s.recorders
+  pub recorders : All (λ p. p.stream < length s.places) s.recorders
   pub cast : SitsIf (length s.places) (length s.recorders) s.cast
 
 -- the session or recorder that it names is there, and a session more finds room

@@ -9,11 +9,14 @@ use Rattle.key_guard.specs.declared.check.Mode.{Mode}
 use Rattle.key_guard.specs.declared.check.Mode.TheVariants.{Plain, Digest}
 use Rattle.relay_base.specs.declared.limits.Limits.{Limits as AllLimits}
 use Rattle.relay_config.specs.declared.config.PlaceRule.{PlaceRule}
+use Rattle.relay_script.specs.declared.replay.Form.{Form}
+use Rattle.relay_script.specs.declared.replay.Form.TheVariants.{Flv}
 use Rattle.relay_script.specs.declared.replay.Side.{Side}
 use Rattle.relay_script.specs.declared.replay.Side.TheVariants.{Publish, Play}
 use Rattle.relay_script.specs.declared.replay.ReplayLine.{ReplayLine}
 use Rattle.relay_script.specs.declared.replay.ReplayLine.TheVariants.{Nothing, Limits, Stream, Guard, Recorder, Session, Piece, Eof, Room, FailRecv, FailSend}
 use Rattle.relay_script.specs.declared.replay.ReplayLine.TheVariants.{FailPut, Turn, Rec, All, Quit}
+use Rattle.relay_replay.specs.declared.recording.Plan.{Plan}
 
 -- what the lines so far have said
 pub record Stand : Type 0 where
@@ -22,8 +25,7 @@ pub record Stand : Type 0 where
   pub limits : AllLimits
   -- the streams with their keys
   pub places : List PlaceRule
-  -- the stream of each recorder
-  pub recorders : List ℕ
+  pub recorders : List Plan
   -- how many sessions were opened, once a line has acted
   pub sessions : Option ℕ
 
@@ -80,6 +82,13 @@ abbrev pub keyed_at : List PlaceRule → ℕ → Option PlaceRule → Side → M
 keyed_at places n None side mode key = places
 keyed_at places n (Some p) side mode key = slice_set places n (keyed p side mode key)
 
+-- a recorder of that stream
+abbrev pub plan : ℕ → Form → Plan
+plan n form = record { stream = n; form = form }
+
+abbrev pub no_plan : Plan
+no_plan = plan 0 Flv
+
 -- ---- where a line may stand
 
 abbrev pub has_session : ℕ → Stand → Bool
@@ -126,7 +135,7 @@ after (Limits message bytes items players window) s = record {
 }
 after (Stream app name) s = with_places (s.places ++ open_place app name ∷ []) s
 after (Guard n side mode key) s = with_places (keyed_at s.places n (slice_get s.places n) side mode key) s
-after (Recorder n form) s = record { fresh = false; limits = s.limits; places = s.places; recorders = s.recorders ++ n ∷ []; sessions = s.sessions }
+after (Recorder n form) s = record { fresh = false; limits = s.limits; places = s.places; recorders = s.recorders ++ plan n form ∷ []; sessions = s.sessions }
 after Session s = acted (count s.sessions + 1) s
 after _ s = acted (count s.sessions) s
 

@@ -8,10 +8,12 @@
 mod cast;
 mod connection;
 mod file;
+mod recorded;
 mod recording;
 mod report;
 mod scene;
 mod served;
 
+pub use recorded::what_was_recorded_is_the_text_of_what_was_taken;
 pub use scene::Scene;
 pub use served::what_was_sent_begins_what_is_owed;

@@ -1,39 +1,112 @@
-ghost use Rattle.std.specs.Prelude.{◌≡◌, ℕ, ◌+◌, ◌<◌, true, length, OnOk, IfOk, Some, None};
-ghost use Rattle.stream_registry.specs.Books.{FitsSole, SeenState, sole_rules};
-ghost use Rattle.relay_replay.specs.Cast.{RecorderTurn, AfterRecTurn};
+ghost use Rattle.std.specs.Prelude.{◌≡◌, ◌≢◌, ℕ, ◌+◌, ◌<◌, [], true, length, OnOk, IfOk, Some, None};
+ghost use Rattle.media_recorder.specs.Ports.{FitsIf};
+ghost use Rattle.media_recorder.specs.Turns.{Turns};
+ghost use Rattle.stream_registry.specs.Books.{FitsSole, SeenState, SoleState, journal_at, sole_rules};
+ghost use Rattle.relay_replay.specs.Cast.{RecorderTurn, AfterRecTurn, EndsBy, IsText, RecTurnsBy, form_of, recorder_of, text_in};
 ghost use Rattle.relay_replay.specs.Scenes.{Fits, IsNewRecorder};
 
 use crate::file::File;
 use av_unit::OutOfMemory;
-use media_recorder::{FlvRecorder, RecEnd, RecTurn};
+use media_recorder::{FlvRecorder, RecEnd, RecTurn, TsRecorder};
+use relay_script::Form;
 use std::alloc::Global;
 use std::marker::Model;
 use stream_registry::Sole;
 
+/// A recorder that is to be: the number of its stream, and how it writes.
+#[derive(Clone, Copy)]
+pub(crate) struct Plan {
+    pub stream: u32,
+    pub form: Form,
+}
+
+/// A recorder of either form.
+#[derive(Drop)]
+pub(crate) enum Writer {
+    Flv(FlvRecorder<Sole>),
+    Ts(TsRecorder<Sole>),
+}
+
+impl Writer {
+    // One of that name, as it is planned.
+    fn new(alloc: Global, plan: Plan, who: u64) -> Result<Writer, OutOfMemory>
+        ensures form { IfOk result (λ w. form_of w ≡ plan.form) }
+        ensures seat { IfOk result (λ w. (recorder_of w).seat ≡ record { who = who; place = plan.stream; pass = None; calls = [] }) }
+        ensures player { IfOk result (λ w. (recorder_of w).player ≡ None) }
+        ensures items { IfOk result (λ w. (recorder_of w).tape.items ≡ []) }
+        ensures sent { IfOk result (λ w. (recorder_of w).tape.sent ≡ []) }
+        ensures pending { IfOk result (λ w. (recorder_of w).tape.pending ≡ text_in plan.form []) }
+        ensures live { IfOk result (λ w. (recorder_of w).end ≡ None) }
+    {
+        match plan.form {
+            Form::Flv => Ok(Writer::Flv(FlvRecorder::new(alloc, plan.stream, who)?)),
+            Form::Ts => Ok(Writer::Ts(TsRecorder::new(alloc, plan.stream, who)?)),
+        }
+    }
+
+    // What was written is the text of what was taken, but where there was no memory.
+    fn law(&self)
+        ensures { (recorder_of self.now).end ≢ Some RecEnd.OutOfMemory → IsText (form_of self.now) (recorder_of self.now) }
+    {
+        match self {
+            Writer::Flv(recorder) => recorder.law(),
+            Writer::Ts(recorder) => recorder.law(),
+        }
+    }
+
+    fn held(&self) -> u64
+        ensures { result ≡ length (recorder_of self.now).tape.pending + (recorder_of self.now).tape.kept }
+    {
+        match self {
+            Writer::Flv(recorder) => recorder.held(),
+            Writer::Ts(recorder) => recorder.held(),
+        }
+    }
+
+    // One turn.
+    fn turn(&mut self, port: &mut Sole, file: &mut File) -> RecTurn
+        requires place { (recorder_of self.old).seat.place < length (sole_rules port.old.rules).names }
+        requires fits { FitsIf (FitsSole port.old (recorder_of self.old).seat.place) (recorder_of self.old).seat.pass }
+        ensures form { form_of self.new ≡ form_of self.old }
+        ensures turn { RecTurnsBy port.old (recorder_of self.old) file.old result port.new (recorder_of self.new) file.new }
+        ensures took { file.old.bytes ≡ (recorder_of self.old).tape.sent → file.new.bytes ≡ (recorder_of self.new).tape.sent }
+        ensures ends { EndsBy result (recorder_of self.new).end }
+        ensures place { (recorder_of self.new).seat.place ≡ (recorder_of self.old).seat.place }
+        ensures fits { FitsIf (FitsSole port.new (recorder_of self.new).seat.place) (recorder_of self.new).seat.pass }
+        ensures fixed { sole_rules port.new.rules ≡ sole_rules port.old.rules }
+        ensures others { (q : ℕ) (p : SeenState) → FitsSole port.old q p → FitsSole port.new q p }
+    {
+        match self {
+            Writer::Flv(recorder) => recorder.turn(port, file),
+            Writer::Ts(recorder) => recorder.turn(port, file),
+        }
+    }
+}
+
 /// A recorder with its file.
 #[derive(Drop)]
 pub(crate) struct Recording {
-    recorder: FlvRecorder<Sole>,
+    writer: Writer,
     file: File,
     ended: Option<RecEnd>,
 }
 
 impl Model for Recording {
-    ghost use Rattle.relay_replay.specs.Cast.{RecState};
+    ghost use Rattle.relay_replay.specs.Cast.{RecState, form_of, recorder_of};
 
     ghost Value = { RecState };
 
-    ghost view = { λ r. record { recorder = r.recorder; file = r.file; ended = r.ended } };
+    ghost view = { λ r. record { form = form_of r.writer; recorder = recorder_of r.writer; file = r.file; ended = r.ended } };
 }
 
 impl Recording {
-    // A recorder of that name at that place, with an empty file.
-    pub(crate) fn new(alloc: Global, place: u32, who: u64) -> Result<Recording, OutOfMemory>
-        ensures { IfOk result (λ r. IsNewRecorder who place r) }
+    // A recorder of that name, as it is planned, with an empty file.
+    pub(crate) fn new(alloc: Global, plan: Plan, who: u64) -> Result<Recording, OutOfMemory>
+        ensures { IfOk result (λ r. IsNewRecorder who plan r) }
     {
-        let recorder = FlvRecorder::new(alloc, place, who)?;
+        let writer = Writer::new(alloc, plan, who)?;
         Ok(Recording {
-            recorder,
+            writer,
             file: File::new(alloc),
             ended: None,
         })
@@ -61,7 +134,7 @@ impl Recording {
     pub(crate) fn held(&self) -> u64
         ensures { result ≡ length self.now.recorder.tape.pending + self.now.recorder.tape.kept }
     {
-        self.recorder.held()
+        self.writer.held()
     }
 
     // One turn. A recorder that has ended makes no further call.
@@ -72,7 +145,8 @@ impl Recording {
         ensures fixed { sole_rules port.new.rules ≡ sole_rules port.old.rules }
         ensures others { (q : ℕ) (p : SeenState) → FitsSole port.old q p → FitsSole port.new q p }
     {
-        let answer = self.recorder.turn(port, &mut self.file);
+        let answer = self.writer.turn(port, &mut self.file);
+        self.writer.law();
         rested(&mut self.ended, answer)
     }
 }

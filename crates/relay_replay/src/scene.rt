@@ -3,20 +3,20 @@ ghost use Rattle.relay_session.specs.Grants.{granted_from};
 ghost use Rattle.std.specs.Prelude.{◌∷◌, option_map, slice_get, slice_index_or};
 ghost use Rattle.std.specs.List.{list_any};
 ghost use Rattle.relay_replay.specs.Stand.{defaults, allows, is_open, is_pair, is_setting, same_mode, takes_at, takes_mode, with_key, keyed, keyed_at};
-ghost use Rattle.relay_replay.specs.Stand.{count, has_recorder, has_session, open_place};
+ghost use Rattle.relay_replay.specs.Stand.{count, has_recorder, has_session, no_plan, open_place, plan};
 ghost use Rattle.relay_replay.specs.Cast.{Round, Times, TurnOf};
 ghost use Rattle.relay_replay.specs.Plays.{Plays, session_in};
 ghost use Rattle.relay_replay.specs.Scenes.{AreNew, Does, IsNewCast, IsNewRecorder, IsOpen, IsSound, IsThere, Sits, is_acting, opened_by, name_of, stand_of, start, stream_limits};
 ghost use Rattle.relay_replay.specs.Prints.{Prints};
 
 use crate::cast::Cast;
-use crate::recording::Recording;
+use crate::recording::{Plan, Recording};
 use crate::report::report;
 use av_unit::{Bytes, KeyList, OutOfMemory};
 use key_guard::{Grants, Guards, Mode};
 use relay_base::Limits;
 use relay_config::{PlaceList, PlaceRule};
-use relay_script::{LineFail, ReplayLine, Side};
+use relay_script::{Form, LineFail, ReplayLine, Side};
 use relay_session::PlaceDesk;
 use std::alloc::Global;
 use std::marker::Model;
@@ -50,8 +50,7 @@ pub struct Scene {
     fresh: bool,
     limits: Limits,
     places: PlaceList,
-    // The place of each recorder.
-    recorders: Vec<u32>,
+    recorders: Vec<Plan>,
     // None before the first line that acts.
     cast: Option<Cast>,
 }
@@ -198,21 +197,21 @@ fn names_of(alloc: Global, places: &[PlaceRule]) -> Result<NameList, OutOfMemory
     Ok(names)
 }
 
-// The recorder with that number, at its place.
-fn recording_at(alloc: Global, places: &[u32], i: usize) -> Result<Recording, OutOfMemory>
-    requires { i < length places.now }
-    ensures { IfOk result (λ r. IsNewRecorder (2 ^ 60 + i) (slice_index_or places.now i 0) r) }
+// The recorder with that number, as it is planned.
+fn recording_at(alloc: Global, plans: &[Plan], i: usize) -> Result<Recording, OutOfMemory>
+    requires { i < length plans.now }
+    ensures { IfOk result (λ r. IsNewRecorder (2 ^ 60 + i) (slice_index_or plans.now i no_plan) r) }
 {
-    Recording::new(alloc, places[i], FIRST_RECORDER + i as u64)
+    Recording::new(alloc, plans[i], FIRST_RECORDER + i as u64)
 }
 
-// A recorder at each of the places.
-fn recordings(alloc: Global, places: &[u32]) -> Result<Vec<Recording>, OutOfMemory>
-    ensures { IfOk result (λ rs. AreNew 0 places.now rs.items) }
+// The recorders that are planned.
+fn recordings(alloc: Global, plans: &[Plan]) -> Result<Vec<Recording>, OutOfMemory>
+    ensures { IfOk result (λ rs. AreNew 0 plans.now rs.items) }
 {
     let mut list = Vec::new(alloc);
-    for i in 0..places.len() {
-        list.push(recording_at(alloc, places, i)?)?;
+    for i in 0..plans.len() {
+        list.push(recording_at(alloc, plans, i)?)?;
     }
     Ok(list)
 }
@@ -222,16 +221,16 @@ fn new_cast(
     alloc: Global,
     limits: Limits,
     places: &[PlaceRule],
-    recorders: &[u32],
+    plans: &[Plan],
 ) -> Result<Cast, OutOfMemory>
     requires few { length places.now ≤ 64 }
-    requires spots { All (λ p. p < length places.now) recorders.now }
-    ensures new { IfOk result (λ c. IsNewCast (record { fresh = false; limits = limits; places = places.now; recorders = recorders.now; cast = None }) c) }
-    ensures sits { IfOk result (λ c. Sits (length places.now) (length recorders.now) c) }
+    requires spots { All (λ p. p.stream < length places.now) plans.now }
+    ensures new { IfOk result (λ c. IsNewCast (record { fresh = false; limits = limits; places = places.now; recorders = plans.now; cast = None }) c) }
+    ensures sits { IfOk result (λ c. Sits (length places.now) (length plans.now) c) }
 {
     let names = names_of(alloc, places)?;
     let port = Sole::new(alloc, names, stream_limits(limits))?;
-    let recorders = recordings(alloc, recorders)?;
+    let recorders = recordings(alloc, plans)?;
     Ok(Cast::new(alloc, port, recorders))
 }
 
@@ -453,11 +452,11 @@ impl Scene {
         Ok(())
     }
 
-    fn add_recorder(&mut self, n: u32) -> Result<(), OutOfMemory>
-        ensures { OnOk result (self.new ≡ record self.old { fresh = false; recorders = self.old.recorders ++ n ∷ [] }) }
+    fn add_recorder(&mut self, stream: u32, form: Form) -> Result<(), OutOfMemory>
+        ensures { OnOk result (self.new ≡ record self.old { fresh = false; recorders = self.old.recorders ++ plan stream form ∷ [] }) }
     {
         self.fresh = false;
-        self.recorders.push(n)?;
+        self.recorders.push(Plan { stream, form })?;
         Ok(())
     }
 
@@ -528,7 +527,7 @@ impl Scene {
                 mode,
                 key,
             } => self.guard(stream, side, mode, key),
-            ReplayLine::Recorder { stream, form: _ } => self.add_recorder(stream),
+            ReplayLine::Recorder { stream, form } => self.add_recorder(stream, form),
             line => self.play(guards, line),
         }
     }

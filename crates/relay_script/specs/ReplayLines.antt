@@ -8,7 +8,7 @@ use Rattle.relay_script.specs.declared.replay.ReplayLine.{ReplayLine}
 use Rattle.key_guard.specs.declared.check.Mode.{Mode}
 use Rattle.key_guard.specs.declared.check.Mode.TheVariants.{Plain, Digest}
 use Rattle.relay_script.specs.declared.replay.Form.{Form}
-use Rattle.relay_script.specs.declared.replay.Form.TheVariants.{Flv}
+use Rattle.relay_script.specs.declared.replay.Form.TheVariants.{Flv, Ts}
 use Rattle.relay_script.specs.declared.replay.Side.{Side}
 use Rattle.relay_script.specs.declared.replay.Side.TheVariants.{Publish, Play}
 use Rattle.relay_script.specs.declared.replay.ReplayLine.TheVariants.{Nothing, Limits, Stream, Guard, Recorder, Session, Piece, Eof, Room, FailRecv, FailSend}
@@ -82,7 +82,7 @@ abbrev pub mode_of : List ℕ → Option Mode
 mode_of word = if is_text word (codes "plain") then Some Plain else (if is_text word (codes "digest") then Some Digest else None)
 
 abbrev pub form_of : List ℕ → Option Form
-form_of word = if is_text word (codes "flv") then Some Flv else None
+form_of word = if is_text word (codes "flv") then Some Flv else (if is_text word (codes "ts") then Some Ts else None)
 
 -- 64 lower-case hexadecimal digits
 abbrev pub is_digest : List ℕ → Bool

@@ -30,6 +30,8 @@ pub enum Side {
 pub enum Form {
     /// As an FLV file.
     Flv,
+    /// As a transport stream.
+    Ts,
 }
 
 /// What a line of a replay's script says. Sessions, recorders and streams are numbered from 0.
@@ -257,6 +259,8 @@ fn form_of(word: &[u8]) -> Option<Form>
 {
     if word == b"flv".as_slice() {
         Some(Form::Flv)
+    } else if word == b"ts".as_slice() {
+        Some(Form::Ts)
     } else {
         None
     }
@@ -633,13 +637,13 @@ fn worded_line(alloc: Global, word: &[u8], rest: Option<&[u8]>) -> Result<Replay
 ///
 /// The answer is `Outside` exactly where the line has none of the forms of a line, or has more than
 /// 65,536 bytes. A line that begins with `#` is a comment. The other forms, with one space between two words, are
-/// `limits M R N P W`, `stream APP NAME`, `guard S ROLE MODE KEY`, `record S flv`, `open`, `in S HEX`, `eof S`,
+/// `limits M R N P W`, `stream APP NAME`, `guard S ROLE MODE KEY`, `record S FORM`, `open`, `in S HEX`, `eof S`,
 /// `room S N`, `room S all`, `failrecv S`, `failsend S`, `failput R`, `turn S K`, `rec R K`, `all K` and `quit S`.
 ///
 /// M is 4,096 to 4,194,304, R in `limits` at most 268,435,456, N there 1 to 65,536, P 1 to 256, and W 1,000 to 2^31 - 1.
 /// APP and NAME are 1 to 64 letters, digits, `.`, `_` or `-`. ROLE is `publish` or `play`. MODE is `plain`, and KEY has the
-/// form of NAME, or `digest`, and KEY is 64 lower-case hexadecimal digits. S and the R of a recorder are below 2^32, N in
-/// `room` below 2^64, and K is 1 to 1,000,000. HEX is an even number of lower-case hexadecimal digits, at least two. Numbers
+/// form of NAME, or `digest`, and KEY is 64 lower-case hexadecimal digits. FORM is `flv` or `ts`. S and the R of a recorder are
+/// below 2^32, N in `room` below 2^64, and K is 1 to 1,000,000. HEX is an even number of lower-case hexadecimal digits, at least two. Numbers
 /// are decimal, without a sign or a leading zero. Where in a script a line may stand, and whether what it names is there, is
 /// no matter here.
 ///

@@ -211,6 +211,7 @@ stream Li.ve_1 z
 guard 0 publish plain a.b
 guard 1 play digest 000102030405060708090a0b0c0d0e0f101112131415161718191a1b1c1d1eff
 record 2 flv
+record 3 ts
 open
 in 0 00ff1a
 in 4294967295 c0
@@ -238,6 +239,7 @@ nothing
 0 Publish Plain [97, 46, 98]
 1 Play Digest [0, 1, 2, 3, 4, 5, 6, 7, 8, 9, 10, 11, 12, 13, 14, 15, 16, 17, 18, 19, 20, 21, 22, 23, 24, 25, 26, 27, 28, 29, 30, 255]
 2 Flv
+3 Ts
 session
 0 given [0, 255, 26]
 4294967295 given [192]
@@ -287,7 +289,7 @@ guard 0 publisher plain a
 guard 0 play named a
 guard 0 play plain a b
 record 0
-record 0 ts
+record 0 mp4
 record flv
 open 1
 open \nin 0

@@ -9,5 +9,5 @@ returns-clause-sits c =
     let rs = c.in_ok-recorders.recorders.items in
     let names : port.rules.names ≡ map name_of c.args.places.now = search rules in
     let made : c.new-2.result ≡ record { port = port; sessions = []; recorders = rs } = search rules in
-    subst (Sits (length c.args.places.now) (length c.args.recorders.now)) (sym made)
-    (new_sits c.args.places.now c.args.recorders.now port rs names c.in_ok-recorders.ensures c.requires.spots)
+    subst (Sits (length c.args.places.now) (length c.args.plans.now)) (sym made)
+    (new_sits c.args.places.now c.args.plans.now port rs names c.in_ok-recorders.ensures c.requires.spots)

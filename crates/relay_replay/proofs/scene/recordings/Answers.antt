@@ -8,8 +8,8 @@ pub loop-i-preserved : goal.loop-i-preserved
 loop-i-preserved c =
     let r = c.in_ok-recording_at.field-0 in
     let items : c.push.new.self.items ≡ c.loop-i.list.items ++ r ∷ [] = search rules in
-    let there : c.loop-i.i < length c.args.places.now = search rules in
+    let there : c.loop-i.i < length c.args.plans.now = search rules in
     record {
-      made = subst (λ (l : List RecState). AreNew 0 (take (c.loop-i.i + 1) c.args.places.now) l) (sym items)
-          (more c.args.places.now c.loop-i.i c.loop-i.list.items r there c.loop-i.invariant.made c.in_ok-recording_at.ensures);
+      made = subst (λ (l : List RecState). AreNew 0 (take (c.loop-i.i + 1) c.args.plans.now) l) (sym items)
+          (more c.args.plans.now c.loop-i.i c.loop-i.list.items r there c.loop-i.invariant.made c.in_ok-recording_at.ensures);
     }

@@ -1,0 +1,12 @@
+ghost use Rattle.relay_script.specs.declared.replay.ReplayLine.{ReplayLine};
+ghost use Rattle.relay_replay.specs.Cast.{CastState};
+ghost use Rattle.relay_replay.specs.Recorded.{AreRecorded, RecordedIn};
+ghost use Rattle.relay_replay.specs.Scenes.{Does, IsOpen, SceneState, start};
+
+/// What each recorder's file has is what was sent, and that, with what is pending, is the text in its form of the items that its Takes
+/// were sent: before the first line, after each line, and of what is printed.
+pub fn what_was_recorded_is_the_text_of_what_was_taken()
+    ensures start { AreRecorded start }
+    ensures line { (line : ReplayLine) (s t : SceneState) → Does line s t → AreRecorded s → AreRecorded t }
+    ensures printed { (s : SceneState) (c : CastState) → IsOpen s.cast s c → AreRecorded s → RecordedIn c }
+{}
