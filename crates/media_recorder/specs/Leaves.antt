@@ -31,11 +31,13 @@ HasNoMemory r s' (Busy r') = ⊥
 HasNoMemory r s' (OutOfMemory r') = Again r s' r'
 
 -- the pass is detached: what it had seen, and so the caller's calls, stand in what the port's root has seen
-pub record Parts {P Q : Type 0} (rules : P → PortRules) (root : P → Histories) (seen : Q → List Step) (mine : Q → List ℕ) (port port' : P) (s : SeatState Q) : Type 0 where
+pub record Parts {P Q : Type 0} (rules : P → PortRules) (root : P → Histories) (seen : Q → List Step) (mine : Q → List ℕ)
+    (port port' : P) (s : SeatState Q) : Type 0 where
   pub seen_first : Begins (seen_of seen (root port s.place) s.pass) (root port' s.place)
   pub calls_stand : Stand ((rules port).limits s.place) s.who (root port' s.place) (mine_of mine s.pass) s.calls
 
-module _ {P Q : Type 0} (rules : P → PortRules) (root : P → Histories) (busies : P → ℕ) (seen : Q → List Step) (mine : Q → List ℕ) (count : Q → ℕ) where
+module _ {P Q : Type 0} (rules : P → PortRules) (root : P → Histories) (busies : P → ℕ)
+    (seen : Q → List Step) (mine : Q → List ℕ) (count : Q → ℕ) where
   abbrev pub IsGone : P → P → SeatState Q → Leaving (RecorderState Q) → Type 0
   IsGone port port' s Done = Parts rules root seen mine port port' s
   IsGone port port' s (Busy r') = ⊥

@@ -10,5 +10,6 @@ pub mod Tapes
 pub mod Recorders
 pub mod Turns
 pub mod Says
+pub mod Tallied
 pub mod Leaves
 pub mod Viewer

@@ -37,7 +37,9 @@ module _ {Q : Type 0} (limits : Q → StreamLimits) (seen : Q → List Step) (mi
   StandIf who (Some p) calls = Stand (limits p) who (seen p) (mine p) calls
 
 -- one call: it was answered after all that the root and the pass had seen, or it wasn't made
-pub record Asked {Q : Type 0} (seen : Q → List Step) (mine : Q → List ℕ) (count : Q → ℕ) (limits : StreamLimits) (root : List Step) (busies busies' : ℕ) (entry : Entry) (before : Option Q) (answer : Result Reply PortFail) (after : Q) : Type 0 where
+pub record Asked {Q : Type 0} (seen : Q → List Step) (mine : Q → List ℕ) (count : Q → ℕ)
+    (limits : StreamLimits) (root : List Step) (busies busies' : ℕ)
+    (entry : Entry) (before : Option Q) (answer : Result Reply PortFail) (after : Q) : Type 0 where
   pub later : Begins (seen_of seen root before) (seen after)
   pub made : IfOk answer (λ r. Placed limits root (seen_of seen root before) (mine_of mine before) (entry, r) (seen after) (mine after))
   pub failed : IfErr answer (λ e. Failed entry busies busies' (count after) e)
@@ -49,7 +51,8 @@ module _ {Q : Type 0} (seen : Q → List Step) (mine : Q → List ℕ) (count : 
   AskedIf limits root busies busies' entry before answer (Some p) = Asked seen mine count limits root busies busies' entry before answer p
 
   -- ONE CALL of a caller. Its pass is attached before the first
-  pub record Asks (limits : StreamLimits) (root : List Step) (busies busies' : ℕ) (s : SeatState Q) (call : Call) (answer : Result Reply PortFail) (s' : SeatState Q) : Type 0 where
+  pub record Asks (limits : StreamLimits) (root : List Step) (busies busies' : ℕ)
+      (s : SeatState Q) (call : Call) (answer : Result Reply PortFail) (s' : SeatState Q) : Type 0 where
     pub who : s'.who ≡ s.who
     pub place : s'.place ≡ s.place
     pub calls : s'.calls ≡ calls_after s.calls (entry_of s.who call) answer

@@ -1,6 +1,6 @@
 -- A transport stream as a recording: its text goes on with each item
-use Rattle.std.specs.Prelude.{◌≡◌, ℕ, ◌+◌, ◌-◌, ◌^◌, min, Bool, true, false, if◌then◌else◌, List, [], ◌∷◌, ◌++◌, reverse}
-use Rattle.std.proofs.Common.{refl, sym, ap, ◌∙◌, subst, append_assoc}
+use Rattle.std.specs.Prelude.{ℕ, ◌+◌, ◌-◌, ◌^◌, min, Bool, if◌then◌else◌, List, [], ◌∷◌, ◌++◌, reverse}
+use Rattle.std.proofs.Common.{sym, ap, ◌∙◌, subst, append_assoc}
 use Rattle.std.proofs.lemmas.List.{append-nil, reverse-append}
 use Rattle.av_unit.specs.declared.item.Item.{Item}
 use Rattle.turn_gate.specs.Histories.{Begins}

@@ -99,7 +99,8 @@ TakeEnds (Ok r) t turn t' end' = Takes r t turn t' end'
 TakeEnds (Err e) t turn t' end' = Unmade e turn end' × (t' ≡ t)
 
 -- one put is made, of all that is pending
-pub record Puts {P Q K : Type 0} (takes : K → List ℕ → Put → K → Type 0) (port port' : P) (sink sink' : K) (r : RecorderState Q) (turn : RecTurn) (r' : RecorderState Q) : Type 0 where
+pub record Puts {P Q K : Type 0} (takes : K → List ℕ → Put → K → Type 0) (port port' : P) (sink sink' : K)
+    (r : RecorderState Q) (turn : RecTurn) (r' : RecorderState Q) : Type 0 where
   pub answer : Put
   pub step : takes sink r.tape.pending answer sink'
   pub ends : PutEnds answer r.tape turn r'.tape r'.end
@@ -107,7 +108,8 @@ pub record Puts {P Q K : Type 0} (takes : K → List ℕ → Put → K → Type 
   pub seat_is : r'.seat ≡ r.seat
   pub player_is : r'.player ≡ r.player
 
-module _ {P Q : Type 0} (rules : P → PortRules) (root : P → Histories) (busies : P → ℕ) (seen : Q → List Step) (mine : Q → List ℕ) (count : Q → ℕ) where
+module _ {P Q : Type 0} (rules : P → PortRules) (root : P → Histories) (busies : P → ℕ)
+    (seen : Q → List Step) (mine : Q → List ℕ) (count : Q → ℕ) where
   -- one call is made at its place
   abbrev pub AsksAt : P → P → SeatState Q → Call → Result Reply PortFail → SeatState Q → Type 0
   AsksAt port port' s call answer s' = Asks seen mine count ((rules port).limits s.place) (root port s.place) (busies port) (busies port') s call answer s'

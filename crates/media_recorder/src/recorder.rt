@@ -8,6 +8,7 @@ ghost use Rattle.media_recorder.specs.Ports.{Serves, FitsIf};
 ghost use Rattle.media_recorder.specs.Seats.{StandIf};
 ghost use Rattle.media_recorder.specs.Turns.{is_empty, PutEnds, Unmade, JoinEnds, TakeEnds, Writing, Puts, JoinsAt, TakesAt, Calls, Works, Turns};
 ghost use Rattle.media_recorder.specs.Says.{Says};
+ghost use Rattle.media_recorder.specs.Tallied.{Tallied};
 ghost use Rattle.media_recorder.specs.Leaves.{Goes};
 
 use crate::medium::Medium;
@@ -59,6 +60,13 @@ impl<P: StreamPort, M: Medium> Recorder<P, M> {
         })
     }
 
+    /// The place of its stream.
+    pub fn place(&self) -> u32
+        ensures { result ≡ self.now.seat.place }
+    {
+        self.seat.place()
+    }
+
     /// What the sink took and what is pending are the text of the items that the recorder's Takes were sent, or a
     /// beginning of it where there was no memory. Its calls stand in the stream's history.
     pub fn law(&self)
@@ -87,6 +95,7 @@ impl<P: StreamPort, M: Medium> Recorder<P, M> {
         ensures port { Serves P.rules P.root P.busies P.fits self.old.seat.place port.old port.new }
         ensures turn { Turns P.rules P.root P.busies P.seen P.mine P.count K.takes self.old.end port.old port.new sink.old sink.new self.old result self.new }
         ensures took { K.holds sink.old ≡ Some self.old.tape.sent → K.holds sink.new ≡ Some self.new.tape.sent }
+        ensures tallies { Tallied (K.holds sink.old) (K.faults sink.old) self.old → Tallied (K.holds sink.new) (K.faults sink.new) self.new }
         ensures says { Says P.mine (P.root port.old self.old.seat.place) (P.busies port.old) (P.busies port.new) result self.new }
     {
         match self.end {
@@ -102,7 +111,8 @@ impl<P: StreamPort, M: Medium> Recorder<P, M> {
         ensures fits { FitsIf (P.fits port.new self.new.seat.place) self.new.seat.pass }
         ensures same { (self.new.seat.who ≡ self.old.seat.who) × (self.new.seat.place ≡ self.old.seat.place) }
         ensures port { Serves P.rules P.root P.busies P.fits self.old.seat.place port.old port.new }
-        ensures works { Works P.rules P.root P.busies P.seen P.mine P.count K.takes (is_empty self.old.tape.pending) port.old port.new sink.old sink.new self.old result self.new }
+        ensures works { Works P.rules P.root P.busies P.seen P.mine P.count K.takes (is_empty self.old.tape.pending) port.old port.new sink.old sink.new
+            self.old result self.new }
     {
         if self.tape.is_drained() {
             return self.ask(port);

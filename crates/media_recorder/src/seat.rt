@@ -58,6 +58,13 @@ impl<P: StreamPort> Seat<P> {
         }
     }
 
+    /// Its place.
+    pub(crate) fn place(&self) -> u32
+        ensures { result ≡ self.now.place }
+    {
+        self.place
+    }
+
     /// Its calls stand in what its pass has seen.
     pub(crate) fn law(&self)
         ensures { StandIf P.limits P.seen P.mine self.now.who self.now.pass self.now.calls }
@@ -71,7 +78,8 @@ impl<P: StreamPort> Seat<P> {
         requires fits { FitsIf (P.fits port.old self.old.place) self.old.pass }
         ensures fits { FitsIf (P.fits port.new self.new.place) self.new.pass }
         ensures port { Serves P.rules P.root P.busies P.fits self.old.place port.old port.new }
-        ensures asks { Asks P.seen P.mine P.count ((P.rules port.old).limits self.old.place) (P.root port.old self.old.place) (P.busies port.old) (P.busies port.new) self.old call result self.new }
+        ensures asks { Asks P.seen P.mine P.count ((P.rules port.old).limits self.old.place) (P.root port.old self.old.place)
+            (P.busies port.old) (P.busies port.new) self.old call result self.new }
     {
         let entry = Entry {
             who: self.who,

@@ -11,10 +11,10 @@ use Rattle.relay_base.specs.declared.limits.Limits.{Limits}
 use Rattle.std.specs.Option.{option_map}
 use Rattle.relay_outside.specs.Doors.{DoorTold, Returned, with_one}
 use Rattle.relay_outside.specs.Houses.{Shut, shut_door}
-use Rattle.relay_session.proofs.SeatStanding.{all_later}
 use Rattle.relay_session.specs.SeatState.{GoOn}
 use Rattle.relay_worker.specs.Benches.{WorkerState}
-use Rattle.relay_worker.specs.Books.{Account, Accounted, Settled}
+use Rattle.relay_worker.proofs.Booking.{settled_later}
+use Rattle.relay_worker.specs.Books.{Settled}
 use Rattle.relay_worker.specs.declared.bench.Terms.{Terms}
 use Rattle.stream_model.specs.declared.calls.StreamLimits.{StreamLimits}
 use Rattle.stream_registry.specs.Names.{PortRules}
@@ -29,38 +29,13 @@ use Rattle.relay_serve.specs.Settling.{AreNumbered, IsBalanced, IsShut, ShutsMor
 goes_on : (h k : Histories) → Later h k → GoOn h k
 goes_on h k l = record { at_each = l.at }
 
-accounted_later : (desk : Ask → Grant) (t : Terms) (limits : ℕ → StreamLimits) (h k : Histories) → Later h k → (a : Account) → Accounted desk t limits h a → Accounted desk t limits k a
-accounted_later desk t limits h k l a c = record {
-  x = c.x;
-  fed = c.fed;
-  ms = c.ms;
-  read = c.read;
-  visits = c.visits;
-  stand = all_later limits h k c.visits (goes_on h k l) c.stand;
-  own = c.own;
-  calls = c.calls;
-  first_calls = c.first_calls;
-  owed = c.owed;
-}
-
-settled_later : (desk : Ask → Grant) (t : Terms) (limits : ℕ → StreamLimits) (h k : Histories) (door : DoorTold) → Later h k → Settled desk t limits h door false
-    → Settled desk t limits k door false
-settled_later desk t limits h k door l s = record {
-  accounts = s.accounts;
-  back_is = s.back_is;
-  accounted = All-weaker (Accounted desk t limits h) (Accounted desk t limits k) (accounted_later desk t limits h k l) s.accounts s.accounted;
-  named = s.named;
-  apart = s.apart;
-  counted = s.counted;
-}
-
 module _ (desk : Ask → Grant) (limits : Limits) (streams : ℕ → StreamLimits) (h k : Histories) where
   pub balanced_later : Later h k → (worker : ℕ) (door : DoorTold) → IsBalanced desk limits streams h worker door → IsBalanced desk limits streams k worker door
   balanced_later l worker door b = record {
     terms = b.terms;
     number = b.number;
     limited = b.limited;
-    settled = settled_later desk b.terms streams h k door l b.settled;
+    settled = settled_later desk b.terms streams h k door false (goes_on h k l) b.settled;
   }
 
   shut_later : Later h k → (s : Shut) → IsShut desk limits streams h s → IsShut desk limits streams k s
@@ -153,7 +128,7 @@ balanced_from desk limits streams streams' h k t worker door refused s r same l 
   terms = t;
   number = n;
   limited = m;
-  settled = settled_later desk t streams h k door l
+  settled = settled_later desk t streams h k door false (goes_on h k l)
       (subst (λ (f : ℕ → StreamLimits). Settled desk t f h door false) same (subst (λ (b : Bool). Settled desk t streams' h door b) r s));
 }
 

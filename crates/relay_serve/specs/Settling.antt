@@ -5,7 +5,7 @@ use Rattle.command_dialog.specs.declared.types.Grant.{Grant}
 use Rattle.relay_base.specs.declared.limits.Limits.{Limits}
 use Rattle.relay_outside.specs.Doors.{DoorTold}
 use Rattle.relay_outside.specs.Houses.{Shut, shut_door}
-use Rattle.relay_outside.specs.Told.{LinkTold}
+use Rattle.relay_outside.specs.Told.{LinkCounts, LinkTold}
 use Rattle.relay_worker.specs.Benches.{WorkerState}
 use Rattle.relay_worker.specs.Books.{HasBooks, Settled}
 use Rattle.relay_worker.specs.declared.bench.Terms.{Terms}
@@ -24,9 +24,10 @@ AreNumbered {D} {K} {L} workers =
 
 module _ (desk : Ask → Grant) (limits : Limits) where
   -- a worker whose books are kept, with these limits
-  pub record IsKept {D K L : Type 0} (links : L → Option LinkTold) (doors : D → DoorTold) (w : WorkerState Streams D K (PassKnown Site Attempt) L) : Type 0 where
+  pub record IsKept {D K L : Type 0} (links : L → Option LinkTold) (counts : L → LinkCounts) (doors : D → DoorTold)
+      (w : WorkerState Streams D K (PassKnown Site Attempt) L) : Type 0 where
     pub limited : w.terms.limits ≡ limits
-    pub books : HasBooks shared_rules (λ s. told_at s.roots) (λ p. told p.seen) links doors desk w
+    pub books : HasBooks shared_rules (λ s. told_at s.roots) (λ p. told p.seen) links counts doors desk w
 
   module _ (streams : ℕ → StreamLimits) (histories : Histories) where
     -- THE DOOR OF A WORKER at its end, where nothing was refused for want of memory: as many links are back as it gave, and each

@@ -54,7 +54,7 @@ fn take_apart<D: Door, R: Rest, K: Sink>(
     ensures door { IsDone (D.told result.0.door) }
     ensures filed { All (IsFiledBy (shared_rules first.old)) result.0.recorders.items }
     ensures grown { Later (told_at first.old.roots) (told_at first.new.roots) }
-    ensures balanced { (desk : Ask → Grant) (limits : Limits) → IsKept desk limits D.Link.told D.told worker → worker.terms.number ≡ number → result.1 ≡ false
+    ensures balanced { (desk : Ask → Grant) (limits : Limits) → IsKept desk limits D.Link.told D.Link.counts D.told worker → worker.terms.number ≡ number → result.1 ≡ false
         → IsBalanced desk limits (shared_rules first.old).limits (told_at first.new.roots) number (D.told result.0.door) }
 {
     let finished = worker.finish();
@@ -80,7 +80,7 @@ pub(crate) fn take_all_apart<D: Door, R: Rest, K: Sink>(
     ensures left { IfOk result (λ all. All (λ l. IsDone (D.told l.door) × All (IsFiledBy (shared_rules first.old)) l.recorders.items) all.list.items) }
     ensures grown { Later (told_at first.old.roots) (told_at first.new.roots) }
     ensures each { IfOk result (λ all. vec_len all.list ≡ vec_len workers) }
-    ensures balanced { IfOk result (λ all. (desk : Ask → Grant) (limits : Limits) → All (IsKept desk limits D.Link.told D.told) workers.items
+    ensures balanced { IfOk result (λ all. (desk : Ask → Grant) (limits : Limits) → All (IsKept desk limits D.Link.told D.Link.counts D.told) workers.items
         → AreNumbered workers.items → all.refused ≡ false
         → All (λ l. IsBalanced desk limits (shared_rules first.old).limits (told_at first.new.roots) l.number (D.told l.door)) all.list.items) }
 {

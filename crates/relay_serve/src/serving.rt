@@ -115,7 +115,7 @@ fn make_ready<H: House>(
     ensures rules { IfOk result (λ ready. All (λ x. HasRules (shared_rules ready.port) x.bench.port) ready.workers.items) }
     ensures each { IfOk result (λ ready. vec_len ready.workers ≡ config.now.workers) }
     ensures numbered { IfOk result (λ ready. AreNumbered ready.workers.items) }
-    ensures kept { IfOk result (λ ready. (desk : Ask → Grant) → All (IsKept desk config.now.limits H.Door.Link.told H.Door.told) ready.workers.items) }
+    ensures kept { IfOk result (λ ready. (desk : Ask → Grant) → All (IsKept desk config.now.limits H.Door.Link.told H.Door.Link.counts H.Door.told) ready.workers.items) }
 {
     let places = config.places.as_slice();
     let Ok(names) = names_of(alloc, places) else {
@@ -150,7 +150,7 @@ fn conclude<W: Wait, H: House, K: Sink>(
     requires rules { All (λ x. HasRules (shared_rules ready.port) x.bench.port) ready.workers.items }
     requires each { vec_len ready.workers ≡ config.now.workers }
     requires numbered { AreNumbered ready.workers.items }
-    requires kept { All (IsKept (granted_from 0 config.now.places) config.now.limits H.Door.Link.told H.Door.told) ready.workers.items }
+    requires kept { All (IsKept (granted_from 0 config.now.places) config.now.limits H.Door.Link.told H.Door.Link.counts H.Door.told) ready.workers.items }
     ensures { RunsAs config.now (seen (K.holds out.old) (K.faults out.old) (H.told house.old)) (seen (K.holds out.new) (K.faults out.new) (H.told house.new)) result }
 {
     let Ready { mut port, workers } = ready;
@@ -189,8 +189,8 @@ where
     ensures rules { All (λ x. HasRules (shared_rules port.now) x.bench.port) result.items }
     ensures each { vec_len result ≡ vec_len workers }
     ensures numbered { AreNumbered workers.items → AreNumbered result.items }
-    ensures kept { (limits : Limits) → ((desk : Ask → Grant) → All (IsKept desk limits D.Link.told D.told) workers.items)
-        → All (IsKept (granted_from 0 list.now) limits D.Link.told D.told) result.items }
+    ensures kept { (limits : Limits) → ((desk : Ask → Grant) → All (IsKept desk limits D.Link.told D.Link.counts D.told) workers.items)
+        → All (IsKept (granted_from 0 list.now) limits D.Link.told D.Link.counts D.told) result.items }
 {
     let _ = port;
     let desk = PlaceDesk::new(guards, list);

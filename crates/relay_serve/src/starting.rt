@@ -185,7 +185,7 @@ fn open_worker<H: House>(
     ensures house { MatchResult result (λ _. H.told house.new ≡ H.told house.old) (λ fail. HouseCause fail (H.told house.old) (H.told house.new)) }
     ensures port { IfOk result (λ x. x.bench.port ≡ port) }
     ensures number { IfOk result (λ x. x.terms.number ≡ number) }
-    ensures kept { IfOk result (λ x. (desk : Ask → Grant) → IsKept desk config.now.limits H.Door.Link.told H.Door.told x) }
+    ensures kept { IfOk result (λ x. (desk : Ask → Grant) → IsKept desk config.now.limits H.Door.Link.told H.Door.Link.counts H.Door.told x) }
 {
     let Some(door) = house.door(number, config.listen.as_slice(), config.accept) else {
         return Err(OpenFail::HouseFault);
@@ -220,7 +220,7 @@ pub(crate) fn open_workers<H: House>(
     ensures rules { IfOk result (λ workers. All (λ x. HasRules (shared_rules first.now) x.bench.port) workers.items) }
     ensures each { IfOk result (λ workers. vec_len workers ≡ vec_len ports) }
     ensures numbered { IfOk result (λ workers. AreNumbered workers.items) }
-    ensures kept { IfOk result (λ workers. (desk : Ask → Grant) → All (IsKept desk config.now.limits H.Door.Link.told H.Door.told) workers.items) }
+    ensures kept { IfOk result (λ workers. (desk : Ask → Grant) → All (IsKept desk config.now.limits H.Door.Link.told H.Door.Link.counts H.Door.told) workers.items) }
 {
     let _ = first;
     let mut workers = Vec::new(alloc);

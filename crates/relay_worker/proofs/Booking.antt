@@ -34,10 +34,11 @@ use Rattle.relay_session.specs.Places.{Asked}
 use Rattle.relay_session.specs.Session.{session}
 use Rattle.relay_session.specs.SeatState.{AllMade, GoOn, IsActive, IsGranted, IsMade, IsNoted, KeptMade, KeptOrMade, LastMade, LeavesFrom, Leaves, Makes, SeatState, active_at, active_then, is_over, known, last_of, left_at, place_of, stays}
 use Rattle.relay_session.specs.SeatVisits.{AllStand, Visit, calls_at, calls_of}
-use Rattle.relay_session.specs.SessionState.{SessionState, StandsBy, end_or_quit, gone_but_kept, life_at}
+use Rattle.relay_session.specs.SessionState.{SessionState, StandsBy, end_or_quit, ended_by, gone_but_kept, life_at}
 use Rattle.relay_session.specs.Turns.{Gone}
 use Rattle.relay_session.specs.declared.core_fields.Core.{Core}
 use Rattle.relay_session.specs.declared.end.End.{End}
+use Rattle.relay_session.specs.declared.end.End.TheVariants as end
 use Rattle.relay_session.specs.declared.seat_answers.Active.{Active}
 use Rattle.relay_session.specs.declared.seat_answers.Active.TheVariants as active
 use Rattle.relay_session.specs.declared.seat_answers.Leaving.{Leaving}
@@ -45,11 +46,12 @@ use Rattle.relay_session.specs.declared.seat_answers.Leaving.TheVariants as leav
 use Rattle.relay_session.specs.declared.seat_answers.Made.{Made}
 use Rattle.relay_session.specs.declared.seat_answers.Made.TheVariants as made
 use Rattle.relay_session.specs.declared.turn.Turn.{Turn}
+use Rattle.relay_session.specs.declared.turn.Turn.TheVariants as turn
 use Rattle.relay_session.proofs.SeatStanding.{active_more, all_later, all_more, begins_same, begins_trans, others_later}
 use Rattle.relay_worker.specs.Benches.{IsNamed, IsSound, WorkerState}
-use Rattle.relay_worker.specs.Books.{Account, Accounted, HasGrant, HasSent, Lives, Owns, OwesBy, Settled, TiesBy, Works}
+use Rattle.relay_worker.specs.Books.{Account, Accounted, HasGrant, HasSent, IsCause, IsEndedBy, Lives, Owns, OwesBy, Settled, TiesBy, Works}
 use Rattle.relay_worker.specs.Rounds.{Admits, AdmitsIf, ClosesAt, ClosesBy, ClosesIf, GoesIf, IsAdmitted, IsGone, IsLeft, IsTurned, Recorded, RecordsAt, RecordsIf, Rounds, TurnsAt, TurnsBy, TurnsIf, Walks, asks_door, begun, has_left}
-use Rattle.relay_worker.specs.Sessions.{Closes, IsNewSession, TakesTurn}
+use Rattle.relay_worker.specs.Sessions.{Closes, IsNewSession, TakesTurn, is_spent, lacks_memory}
 use Rattle.relay_worker.specs.declared.bench.Bench.{Bench}
 use Rattle.relay_worker.specs.declared.bench.Seated.{Seated}
 use Rattle.relay_worker.specs.declared.bench.Terms.{Terms}
@@ -256,17 +258,20 @@ left_nowhere leaving.OutOfMemory o e = absurd (let n : false ≡ true = e in cc)
 
 -- what a link told, or what its session knows where it tells nothing
 told_of : Option LinkTold → LinkCounts → List ℕ → List ℕ → Returned
-told_of None counts x sent = record { gave = x; took = sent; counts = counts }
-told_of (Some t) counts x sent = record { gave = t.gave; took = t.took; counts = counts }
+told_of None counts gave sent = record { gave = gave; took = sent; counts = counts }
+told_of (Some t) counts gave sent = record { gave = t.gave; took = t.took; counts = counts }
 
-record IsTold (x sent : List ℕ) (r : Returned) : Type 0 where
-  gave : Begins x r.gave
+record IsTold (max : ℕ) (e : End) (x sent : List ℕ) (r : Returned) : Type 0 where
+  fed : Begins x r.gave
+  cause : IsCause max r.counts r.gave (length x) e
   took : r.took ≡ sent
 
-is_told_of : (o : Option LinkTold) (counts : LinkCounts) (e : End) (x input sent : List ℕ) → TiesBy (Some e) o x input sent → IsTold x sent (told_of o counts x sent)
+is_told_of : (max : ℕ) (o : Option LinkTold) (counts : LinkCounts) (e : End) (x sent : List ℕ) → (k : IsEndedBy max e o counts x sent) → IsTold max e x sent (told_of o counts k.y sent)
 unfolding told_of
-is_told_of None counts e x input sent k = record { gave = begins_same x x refl; took = refl }
-is_told_of (Some t) counts e x input sent k = let p = k t refl in record { gave = p.0; took = p.1 }
+is_told_of max None counts e x sent k = record { fed = k.fed; cause = k.cause; took = refl }
+is_told_of max (Some t) counts e x sent k =
+    let p = k.told_is t refl in
+    record { fed = subst (Begins x) (sym p.0) k.fed; cause = subst (λ (y : List ℕ). IsCause max counts y (length x) e) (sym p.0) k.cause; took = p.1 }
 
 -- the door has one link more back
 one_back : (back : Option (List Returned)) (o : Option LinkTold) (counts : LinkCounts) (x sent : List ℕ) (accounts : List Account) (a : Account) → a.link ≡ told_of o counts x sent
@@ -295,6 +300,18 @@ or_first : (a b : Bool) → (a || b) ≡ false → a ≡ false
 or_first true b e = e
 or_first false b e = refl
 
+or_last : (a b : Bool) → (a || b) ≡ false → b ≡ false
+or_last true b e = absurd (let n : true ≡ false = e in cc)
+or_last false b e = e
+
+-- a turn by which no session lacked memory
+unspent_by : (a : Turn) → is_spent a ≡ false → ended_by a ≢ Some end.OutOfMemory
+unspent_by turn.Moved e = λ is. let n : None ≡ Some end.OutOfMemory = is in cc
+unspent_by turn.Idle e = λ is. let n : None ≡ Some end.OutOfMemory = is in cc
+unspent_by (turn.Ended q) e = λ is.
+    let n : q ≡ end.OutOfMemory = let m : Some q ≡ Some end.OutOfMemory = is in cc in
+    let f : false ≡ true = sym e ∙ ap lacks_memory n in cc
+
 -- what each step keeps, a walk keeps
 walked : {B : Type 0} (step : ℕ → B → B → Type 0) (K : B → Type 0) → ((key : ℕ) (b b' : B) → step key b b' → K b → K b') → (n : ℕ) (b b' : B) → Walks step n b b' → K b → K b'
 walked step K one zero b b' e k = subst K (sym e) k
@@ -302,9 +319,9 @@ walked step K one (suc n) b b' t k = one n t.0 b' t.1.1 (walked step K one n b t
 
 -- ---- a session that is there
 
-module _ {P Q L : Type 0} (rules : P → PortRules) (root : P → Histories) (seen : Q → List Step) (told : L → Option LinkTold) (desk : Ask → Grant) (t : Terms) where
+module _ {P Q L : Type 0} (rules : P → PortRules) (root : P → Histories) (seen : Q → List Step) (told : L → Option LinkTold) (counts : L → LinkCounts) (desk : Ask → Grant) (t : Terms) where
   abbrev Here : P → List Account → Seated P L Q → Type 0
-  Here x accounts s = Lives rules root seen told desk t x accounts s
+  Here x accounts s = Lives rules root seen told counts desk t x accounts s
 
   holds_of : (x : P) (accounts : List Account) (s : Seated P L Q) → Here x accounts s → Holds rules root seen x s.session.seat
   holds_of x accounts s w = record { calls = w.calls; granted = w.granted }
@@ -321,6 +338,7 @@ module _ {P Q L : Type 0} (rules : P → PortRules) (root : P → Histories) (se
     own = w.own;
     ties = w.ties;
     fresh = w.fresh;
+    unasked = w.unasked;
   }
 
   -- one account more, of another session
@@ -335,11 +353,12 @@ module _ {P Q L : Type 0} (rules : P → PortRules) (root : P → Histories) (se
     own = w.own;
     ties = w.ties;
     fresh = All-push (λ (b : Account). b.who ≢ s.session.parts.who) accounts a w.fresh other;
+    unasked = w.unasked;
   }
 
   -- a new one
-  lives_new : (x : P) (had : ℕ) (counts : LinkCounts) (accounts : List Account) (s : Seated P L Q) → IsNewSession t had s.session → IsNewLink (told s.link) counts → All (λ (a : Account). IsNamed t.number had a.who) accounts → Here x accounts s
-  lives_new x had counts accounts s n l named =
+  lives_new : (x : P) (had : ℕ) (accounts : List Account) (s : Seated P L Q) → IsNewSession t had s.session → IsNewLink (told s.link) (counts s.link) → All (λ (a : Account). IsNamed t.number had a.who) accounts → Here x accounts s
+  lives_new x had accounts s n l named =
       let none : s.session.seat.visits ≡ [] = n.nowhere.1 in
       let stands = n.stands desk in
       record {
@@ -353,17 +372,18 @@ module _ {P Q L : Type 0} (rules : P → PortRules) (root : P → Histories) (se
           made = subst (λ (v : List Visit). All (λ (w : Visit). w.1.0.who ≡ s.session.parts.who) v) (sym none) (All-nil (λ (w : Visit). w.1.0.who ≡ s.session.parts.who));
           waits = λ e is. absurd (let k : s.session.parts.kept ≡ None = ap (λ (p : Past). p.kept) n.past in let m : None ≡ Some e = sym k ∙ is in cc);
         };
-        ties = subst (λ (o : Option End). TiesBy o (told s.link) s.session.parts.x s.session.input s.session.parts.sent) (sym n.lives) (λ u is.
+        ties = subst (λ (o : Option End). TiesBy t.limits.max_message o (told s.link) (counts s.link) s.session.parts.x s.session.input s.session.parts.sent) (sym n.lives) (λ u is.
             let b = l.blank u is in
             let x_is : s.session.parts.x ≡ [] = ap (λ (p : Past). p.x) n.past in
             let sent_is : s.session.parts.sent ≡ [] = ap (λ (p : Past). p.sent) n.past in
             (b.0 ∙ sym (ap (λ (y : List ℕ). y ++ s.session.input) x_is ∙ n.input), b.1 ∙ sym sent_is));
         fresh = λ i d le e. let m = (named i d le).to in let w = n.who in omega (arith, m, w, e);
+        unasked = λ o. n.quit;
       }
 
   -- ---- its turn
 
-  module _ (fits : P → ℕ → Q → Type 0) (count : Q → ℕ) (wants : Entry → Type 0) (busies : P → ℕ) (goes : P → SeatState Q → P → SeatState Q → Type 0) (counts : L → LinkCounts)
+  module _ (fits : P → ℕ → Q → Type 0) (count : Q → ℕ) (wants : Entry → Type 0) (busies : P → ℕ) (goes : P → SeatState Q → P → SeatState Q → Type 0)
       (hears : L → ℕ → Came → L → Type 0) (hears_mean : (l : L) (room : ℕ) (answer : Came) (m : L) → 0 < room → hears l room answer m → HearStep room (told l) (told m) (counts l) (counts m) answer)
       (says : L → List ℕ → Said → L → Type 0) (says_mean : (l : L) (piece : List ℕ) (answer : Said) (m : L) → 0 < length piece → says l piece answer m → SayStep piece (told l) (told m) (counts l) (counts m) answer) where
     abbrev Asks : P → SeatState Q → ℕ → Entry → Made → P → SeatState Q → Type 0
@@ -382,9 +402,11 @@ module _ {P Q L : Type 0} (rules : P → PortRules) (root : P → Histories) (se
           granted = h.granted;
           first_calls = begins_same s'.session.parts.calls (calls_of s'.session.seat.visits) (sym u.calls);
           own = l.owns w.own;
-          ties = subst (λ (o : Option End). TiesBy o (told s'.link) s'.session.parts.x s'.session.input s'.session.parts.sent) (sym u.ended)
-              (l.ties (subst (λ (o : Option End). TiesBy o (told s.link) s.session.parts.x s.session.input s.session.parts.sent) n w.ties));
+          ties = subst (λ (o : Option End). TiesBy t.limits.max_message o (told s'.link) (counts s'.link) s'.session.parts.x s'.session.input s'.session.parts.sent) (sym u.ended)
+              (subst (λ (max : ℕ). TiesBy max (ended_by a) (told s'.link) (counts s'.link) s'.session.parts.x s'.session.input s'.session.parts.sent) w.max
+              (l.ties (w.unasked n) (subst (λ (o : Option End). TiesBy t.limits.max_message o (told s.link) (counts s.link) s.session.parts.x s.session.input s.session.parts.sent) n w.ties)));
           fresh = subst (λ (who : ℕ). All (λ (b : Account). b.who ≢ who) accounts) (sym u.who) w.fresh;
+          unasked = λ o. u.quit ∙ w.unasked n;
         }
 
   -- ---- its close
@@ -401,14 +423,16 @@ module _ {P Q L : Type 0} (rules : P → PortRules) (root : P → Histories) (se
       holds : Holds rules root seen y now.seat
       first_calls : Begins now.parts.calls (calls_of now.seat.visits)
       own : Owns now.parts.who now.seat.visits now.parts.kept
-      ties : TiesBy (Some e) (told link) now.parts.x now.input now.parts.sent
+      ties : TiesBy t.limits.max_message (Some e) (told link) (counts link) now.parts.x now.input now.parts.sent
       fresh : All (λ (a : Account). a.who ≢ now.parts.who) accounts
 
     leaving_of : (x y : P) (e : End) (accounts : List Account) (s : Seated P L Q) (answer : Leaving) (now : SessionState Q) → s.session.ended ≡ Some e → Close x s.session answer y now → Here x accounts s → IsLeaving y e accounts s.link now
     leaving_of x y e accounts s answer now is c w =
         let who_is : now.parts.who ≡ s.session.parts.who = ap (λ (g : Gone). g.who) c.gone in
         let grown = grows_from (place_of s.session.seat.spot) s.session.parts.who s.session.parts.fed s.session.parts.kept s.session.seat.active s.session.seat.visits answer now.parts.kept now.seat.active now.seat.visits c.leaves in
-        let tied : TiesBy (Some e) (told s.link) s.session.parts.x s.session.input s.session.parts.sent = subst (λ (o : Option End). TiesBy o (told s.link) s.session.parts.x s.session.input s.session.parts.sent) is w.ties in
+        let max = t.limits.max_message in
+        let tied : TiesBy max (Some e) (told s.link) (counts s.link) s.session.parts.x s.session.input s.session.parts.sent = subst (λ (o : Option End). TiesBy max o (told s.link) (counts s.link) s.session.parts.x s.session.input s.session.parts.sent) is w.ties in
+        let x_is : now.parts.x ≡ s.session.parts.x = ap (λ (g : Gone). g.x) c.gone in
         record {
           window = ap (λ (g : Gone). g.window) c.gone ∙ w.window;
           max = ap (λ (g : Gone). g.max) c.gone ∙ w.max;
@@ -417,7 +441,12 @@ module _ {P Q L : Type 0} (rules : P → PortRules) (root : P → Histories) (se
           first_calls = subst (λ (l : List Own). Begins l (calls_of now.seat.visits)) (sym (ap (λ (g : Gone). g.calls) c.gone))
               (begins_trans s.session.parts.calls (calls_of s.session.seat.visits) (calls_of now.seat.visits) w.first_calls grown.calls);
           own = subst (λ (n : ℕ). Owns n now.seat.visits now.parts.kept) (sym who_is) (grown.owns w.own);
-          ties = λ u told_is. let p = tied u told_is in (subst (λ (l : List ℕ). Begins l u.gave) (sym (ap (λ (g : Gone). g.x) c.gone)) p.0, p.1 ∙ sym (ap (λ (g : Gone). g.sent) c.gone));
+          ties = record {
+            y = tied.y;
+            fed = subst (λ (l : List ℕ). Begins l tied.y) (sym x_is) tied.fed;
+            cause = subst (λ (l : List ℕ). IsCause max (counts s.link) tied.y (length l) e) (sym x_is) tied.cause;
+            told_is = λ u told_is. let p = tied.told_is u told_is in (p.0, p.1 ∙ sym (ap (λ (g : Gone). g.sent) c.gone));
+          };
           fresh = subst (λ (n : ℕ). All (λ (a : Account). a.who ≢ n) accounts) (sym who_is) w.fresh;
         }
 
@@ -431,21 +460,22 @@ module _ {P Q L : Type 0} (rules : P → PortRules) (root : P → Histories) (se
       granted = l.holds.granted;
       first_calls = l.first_calls;
       own = l.own;
-      ties = subst (λ (o : Option End). TiesBy o (told s'.link) s'.session.parts.x s'.session.input s'.session.parts.sent) (sym is) l.ties;
+      ties = subst (λ (o : Option End). TiesBy t.limits.max_message o (told s'.link) (counts s'.link) s'.session.parts.x s'.session.input s'.session.parts.sent) (sym is) l.ties;
       fresh = l.fresh;
+      unasked = λ o. absurd (let n : Some e ≡ None = sym is ∙ o in cc);
     }
 
-    abbrev account_of : SessionState Q → L → LinkCounts → Account
-    account_of now link c = record { who = now.parts.who; link = told_of (told link) c now.parts.x now.parts.sent }
+    abbrev account_of : End → List ℕ → SessionState Q → L → Account
+    account_of e y now link = record { who = now.parts.who; end = e; link = told_of (told link) (counts link) y now.parts.sent }
 
     -- it has left, and this is its account
-    accounted_of : (y : P) (e : End) (accounts : List Account) (link : L) (now : SessionState Q) (c : LinkCounts) → now.seat.spot ≡ None → IsLeaving y e accounts link now → Accounted desk t (rules y).limits (root y) (account_of now link c)
-    accounted_of y e accounts link now c away l =
-        let i = is_told_of (told link) c e now.parts.x now.input now.parts.sent l.ties in
+    accounted_of : (y : P) (e : End) (accounts : List Account) (link : L) (now : SessionState Q) → now.seat.spot ≡ None → (l : IsLeaving y e accounts link now) → Accounted desk t (rules y).limits (root y) (account_of e l.ties.y now link)
+    accounted_of y e accounts link now away l =
+        let i = is_told_of t.limits.max_message (told link) (counts link) e now.parts.x now.parts.sent l.ties in
         let here : known root seen y now.seat ≡ root y = ap (λ (o : Option (ℕ × Q)). known root seen y (record { spot = o; active = now.seat.active; visits = now.seat.visits })) away in
         record {
           x = now.parts.x;
-          fed = i.gave;
+          fed = i.fed;
           ms = l.sent.ms;
           read = subst (λ (m : ℕ). IsRead m (drop hand_bytes now.parts.x) l.sent.ms) l.max l.sent.read;
           visits = now.seat.visits;
@@ -455,6 +485,7 @@ module _ {P Q L : Type 0} (rules : P → PortRules) (root : P → Histories) (se
           first_calls = l.first_calls;
           owed = subst (λ (b : List ℕ). Begins b (out (session now.parts.who t.limits.window desk) now.parts.x l.sent.ms now.parts.calls)) (sym i.took)
               (subst (λ (k : ℕ). Begins now.parts.sent (out (session now.parts.who k desk) now.parts.x l.sent.ms now.parts.calls)) l.window l.sent.owed);
+          cause = i.cause;
         }
 
 accounted_on : (desk : Ask → Grant) (t : Terms) (limits limits' : ℕ → StreamLimits) (h h' : Histories) (a : Account) → limits' ≡ limits → GoOn h h' → Accounted desk t limits h a → Accounted desk t limits' h' a
@@ -469,6 +500,7 @@ accounted_on desk t limits limits' h h' a same g w = record {
   calls = w.calls;
   first_calls = w.first_calls;
   owed = w.owed;
+  cause = w.cause;
 }
 
 -- what is left of the books, where the histories went on
@@ -480,6 +512,7 @@ settled_later desk t limits h h' door refused g w = record {
   named = w.named;
   apart = w.apart;
   counted = w.counted;
+  spared = w.spared;
 }
 
 -- ---- the whole
@@ -490,7 +523,7 @@ all_on desk t r r' h h' accounts same g all i d le = accounted_on desk t r.limit
 
 module _ {P D Q L : Type 0} (rules : P → PortRules) (root : P → Histories) (seen : Q → List Step) (told : L → Option LinkTold) (counts : L → LinkCounts) (doors : D → DoorTold) (desk : Ask → Grant) (t : Terms) where
   abbrev Keeps : Bench P D Q L → Type 0
-  Keeps b = Works rules root seen told doors desk t b
+  Keeps b = Works rules root seen told counts doors desk t b
 
   -- the books, and that each session has a name of its own, which it was given
   pub record Kept (b : Bench P D Q L) : Type 0 where
@@ -509,8 +542,10 @@ module _ {P D Q L : Type 0} (rules : P → PortRules) (root : P → Histories) (
           accounted = all_on desk t (rules b.port) (rules b'.port) (root b.port) (root b'.port) w.accounts fixed g w.accounted;
           named = subst (λ (n : ℕ). All (λ (a : Account). IsNamed t.number n a.who) w.accounts) (sym had) w.named;
           apart = w.apart;
-          lives = λ key s at. lives_on rules root seen told desk t b.port b'.port w.accounts s fixed g (w.lives key s (sym (ap (λ (l : Slab (Seated P L Q)). get l key) same) ∙ at));
+          lives = λ key s at. lives_on rules root seen told counts desk t b.port b'.port w.accounts s fixed g (w.lives key s (sym (ap (λ (l : Slab (Seated P L Q)). get l key) same) ∙ at));
           counted = λ r. ap (λ (l : Slab (Seated P L Q)). slab_len l + length w.accounts) same ∙ (w.counted (spared r) ∙ sym had);
+          spared = λ r. w.spared (spared r);
+          unspent = λ r key s at. w.unspent (spared r) key s (sym (ap (λ (l : Slab (Seated P L Q)). get l key) same) ∙ at);
         };
         named = λ key s at. subst (λ (n : ℕ). IsNamed t.number n s.session.parts.who) (sym had) (k.named key s (sym (ap (λ (l : Slab (Seated P L Q)). get l key) same) ∙ at));
         single = subst Single (sym same) k.single;
@@ -521,7 +556,7 @@ module _ {P D Q L : Type 0} (rules : P → PortRules) (root : P → Histories) (
       → (doors b'.door).back ≡ (doors b.door).back → b'.had ≡ b.had + 1 → b'.refused ≡ b.refused → b'.port ≡ b.port → Kept b → Kept b'
   kept_more b b' key s' n l u len back had refused port k =
       let w = k.works in
-      let at_port : (s : Seated P L Q) → Lives rules root seen told desk t b.port w.accounts s → Lives rules root seen told desk t b'.port w.accounts s = λ s. subst (λ (p : P). Lives rules root seen told desk t p w.accounts s) (sym port) in
+      let at_port : (s : Seated P L Q) → Lives rules root seen told counts desk t b.port w.accounts s → Lives rules root seen told counts desk t b'.port w.accounts s = λ s. subst (λ (p : P). Lives rules root seen told counts desk t p w.accounts s) (sym port) in
       record {
         works = record {
           accounts = w.accounts;
@@ -530,10 +565,15 @@ module _ {P D Q L : Type 0} (rules : P → PortRules) (root : P → Histories) (
           named = λ i d le. subst (λ (m : ℕ). IsNamed t.number m (get_or w.accounts i d).who) (sym had) (named_more t.number b.had (get_or w.accounts i d).who (w.named i d le));
           apart = w.apart;
           lives = λ j s at. elim (put_cases b.sessions b'.sessions key s' u j s at) [
-            | inl e ↦ at_port s (subst (λ (x : Seated P L Q). Lives rules root seen told desk t b.port w.accounts x) (sym e.1) (lives_new rules root seen told desk t b.port b.had (counts s'.link) w.accounts s' n l w.named))
+            | inl e ↦ at_port s (subst (λ (x : Seated P L Q). Lives rules root seen told counts desk t b.port w.accounts x) (sym e.1) (lives_new rules root seen told counts desk t b.port b.had w.accounts s' n l w.named))
             | inr e ↦ at_port s (w.lives j s e.1)
           ];
           counted = λ r. let c = w.counted (sym refused ∙ r) in omega (arith, c, len, had);
+          spared = λ r. w.spared (sym refused ∙ r);
+          unspent = λ r j s at. elim (put_cases b.sessions b'.sessions key s' u j s at) [
+            | inl e ↦ λ is. let m : None ≡ Some end.OutOfMemory = sym n.lives ∙ (ap (λ (x : Seated P L Q). x.session.ended) (sym e.1) ∙ is) in cc
+            | inr e ↦ w.unspent (sym refused ∙ r) j s e.1
+          ];
         };
         named = λ j s at. subst (λ (m : ℕ). IsNamed t.number m s.session.parts.who) (sym had) (elim (put_cases b.sessions b'.sessions key s' u j s at) [
           | inl e ↦ subst (λ (x : Seated P L Q). IsNamed t.number (b.had + 1) x.session.parts.who) (sym e.1) (record { from = let m = n.who in omega (arith, m); to = let m = n.who in omega (arith, m) })
@@ -544,8 +584,9 @@ module _ {P D Q L : Type 0} (rules : P → PortRules) (root : P → Histories) (
 
   -- a session at its key is another, of the same name
   kept_put : (b b' : Bench P D Q L) (key : ℕ) (s s' : Seated P L Q) → get b.sessions key ≡ Some s → Updates b.sessions b'.sessions key (Some s') → slab_len b'.sessions ≡ slab_len b.sessions → (doors b'.door).back ≡ (doors b.door).back → b'.had ≡ b.had
-      → (b'.refused ≡ false → b.refused ≡ false) → rules b'.port ≡ rules b.port → GoOn (root b.port) (root b'.port) → s'.session.parts.who ≡ s.session.parts.who → (k : Kept b) → Lives rules root seen told desk t b'.port k.works.accounts s' → Kept b'
-  kept_put b b' key s s' here u len back had spared fixed g who k there =
+      → (b'.refused ≡ false → b.refused ≡ false) → rules b'.port ≡ rules b.port → GoOn (root b.port) (root b'.port) → s'.session.parts.who ≡ s.session.parts.who → (k : Kept b) → Lives rules root seen told counts desk t b'.port k.works.accounts s'
+      → (b'.refused ≡ false → s'.session.ended ≢ Some end.OutOfMemory) → Kept b'
+  kept_put b b' key s s' here u len back had spared fixed g who k there unspent =
       let w = k.works in
       record {
         works = record {
@@ -555,10 +596,15 @@ module _ {P D Q L : Type 0} (rules : P → PortRules) (root : P → Histories) (
           named = subst (λ (n : ℕ). All (λ (a : Account). IsNamed t.number n a.who) w.accounts) (sym had) w.named;
           apart = w.apart;
           lives = λ j x at. elim (put_cases b.sessions b'.sessions key s' u j x at) [
-            | inl e ↦ subst (λ (y : Seated P L Q). Lives rules root seen told desk t b'.port w.accounts y) (sym e.1) there
-            | inr e ↦ lives_on rules root seen told desk t b.port b'.port w.accounts x fixed g (w.lives j x e.1)
+            | inl e ↦ subst (λ (y : Seated P L Q). Lives rules root seen told counts desk t b'.port w.accounts y) (sym e.1) there
+            | inr e ↦ lives_on rules root seen told counts desk t b.port b'.port w.accounts x fixed g (w.lives j x e.1)
           ];
           counted = λ r. ap (λ (n : ℕ). n + length w.accounts) len ∙ (w.counted (spared r) ∙ sym had);
+          spared = λ r. w.spared (spared r);
+          unspent = λ r j x at. elim (put_cases b.sessions b'.sessions key s' u j x at) [
+            | inl e ↦ subst (λ (y : Seated P L Q). y.session.ended ≢ Some end.OutOfMemory) (sym e.1) (unspent r)
+            | inr e ↦ w.unspent (spared r) j x e.1
+          ];
         };
         named = λ j x at. subst (λ (n : ℕ). IsNamed t.number n x.session.parts.who) (sym had) (elim (put_cases b.sessions b'.sessions key s' u j x at) [
           | inl e ↦ subst (λ (y : Seated P L Q). IsNamed t.number b.had y.session.parts.who) (sym e.1) (subst (IsNamed t.number b.had) (sym who) (k.named key s here))
@@ -569,8 +615,8 @@ module _ {P D Q L : Type 0} (rules : P → PortRules) (root : P → Histories) (
 
   -- the sessions that are left where one is gone
   module _ (b b' : Bench P D Q L) (key : ℕ) (s : Seated P L Q) (here : get b.sessions key ≡ Some s) (u : Updates b.sessions b'.sessions key None) (fixed : rules b'.port ≡ rules b.port) (g : GoOn (root b.port) (root b'.port)) (had : b'.had ≡ b.had) (k : Kept b) where
-    lives_else : (j : ℕ) (x : Seated P L Q) → get b'.sessions j ≡ Some x → Lives rules root seen told desk t b'.port k.works.accounts x
-    lives_else j x at = lives_on rules root seen told desk t b.port b'.port k.works.accounts x fixed g (k.works.lives j x (gone_cases b.sessions b'.sessions key u j x at).1)
+    lives_else : (j : ℕ) (x : Seated P L Q) → get b'.sessions j ≡ Some x → Lives rules root seen told counts desk t b'.port k.works.accounts x
+    lives_else j x at = lives_on rules root seen told counts desk t b.port b'.port k.works.accounts x fixed g (k.works.lives j x (gone_cases b.sessions b'.sessions key u j x at).1)
 
     named_else : (j : ℕ) (x : Seated P L Q) → get b'.sessions j ≡ Some x → IsNamed t.number b'.had x.session.parts.who
     named_else j x at = subst (λ (n : ℕ). IsNamed t.number n x.session.parts.who) (sym had) (k.named j x (gone_cases b.sessions b'.sessions key u j x at).1)
@@ -594,6 +640,8 @@ module _ {P D Q L : Type 0} (rules : P → PortRules) (root : P → Histories) (
             apart = w.apart;
             lives = lives_else;
             counted = λ r. absurd (let n : true ≡ false = sym refused ∙ r in cc);
+            spared = λ r. absurd (let n : true ≡ false = sym refused ∙ r in cc);
+            unspent = λ r. absurd (let n : true ≡ false = sym refused ∙ r in cc);
           };
           named = named_else;
           single = single_gone b.sessions b'.sessions key u k.single;
@@ -601,8 +649,9 @@ module _ {P D Q L : Type 0} (rules : P → PortRules) (root : P → Histories) (
 
     -- its link is handed back, and this is its account
     kept_back : (a : Account) (x sent : List ℕ) → a.who ≡ s.session.parts.who → a.link ≡ told_of (told s.link) (counts s.link) x sent → Accounted desk t (rules b'.port).limits (root b'.port) a → slab_len b'.sessions + 1 ≡ slab_len b.sessions
-        → (doors b'.door).back ≡ with_one (doors b.door).back (returned (told s.link) (counts s.link)) → (b'.refused ≡ false → b.refused ≡ false) → All (λ (c : Account). c.who ≢ a.who) k.works.accounts → Kept b'
-    kept_back a x sent who link good len back spared fresh =
+        → (doors b'.door).back ≡ with_one (doors b.door).back (returned (told s.link) (counts s.link)) → (b'.refused ≡ false → b.refused ≡ false) → All (λ (c : Account). c.who ≢ a.who) k.works.accounts
+        → s.session.ended ≡ Some a.end → Kept b'
+    kept_back a x sent who link good len back spared fresh ended =
         let w = k.works in
         let name : IsNamed t.number b.had a.who = subst (IsNamed t.number b.had) (sym who) (k.named key s here) in
         record {
@@ -612,8 +661,11 @@ module _ {P D Q L : Type 0} (rules : P → PortRules) (root : P → Histories) (
             accounted = All-push (Accounted desk t (rules b'.port).limits (root b'.port)) w.accounts a (all_on desk t (rules b.port) (rules b'.port) (root b.port) (root b'.port) w.accounts fixed g w.accounted) good;
             named = subst (λ (n : ℕ). All (λ (c : Account). IsNamed t.number n c.who) (w.accounts ++ a ∷ [])) (sym had) (All-push (λ (c : Account). IsNamed t.number b.had c.who) w.accounts a w.named name);
             apart = all_pairs_push (λ (c d : Account). c.who ≢ d.who) w.accounts a w.apart (λ i d le. fresh i d le);
-            lives = λ j y at. lives_more rules root seen told desk t b'.port w.accounts a y (subst (λ (n : ℕ). n ≢ y.session.parts.who) (sym who) (name_else j y at)) (lives_else j y at);
+            lives = λ j y at. lives_more rules root seen told counts desk t b'.port w.accounts a y (subst (λ (n : ℕ). n ≢ y.session.parts.who) (sym who) (name_else j y at)) (lives_else j y at);
             counted = λ r. let c = w.counted (spared r) in let p = length_push w.accounts a in omega (arith, c, p, len, had);
+            spared = λ r. All-push (λ (c : Account). c.end ≢ end.OutOfMemory) w.accounts a (w.spared (spared r))
+                (λ is. w.unspent (spared r) key s here (ended ∙ ap (λ (e : End). Some e) is));
+            unspent = λ r j y at. w.unspent (spared r) j y (gone_cases b.sessions b'.sessions key u j y at).1;
           };
           named = named_else;
           single = single_gone b.sessions b'.sessions key u k.single;
@@ -630,6 +682,8 @@ module _ {P D Q L : Type 0} (rules : P → PortRules) (root : P → Histories) (
     apart = λ i j x lt le. absurd (omega (arith, le));
     lives = λ key s at. absurd (let n : None ≡ Some s = sym (ap (λ (l : List (Option (Seated P L Q))). get_or l key None) empty) ∙ at in cc);
     counted = λ r. let z : slab_len b.sessions ≡ 0 = ap (count_by is_some) empty in omega (arith, z, had);
+    spared = λ r i x le. absurd (omega (arith, le));
+    unspent = λ r key s at. absurd (let n : None ≡ Some s = sym (ap (λ (l : List (Option (Seated P L Q))). get_or l key None) empty) ∙ at in cc);
   }
 
   pub settles : (fits : P → ℕ → Q → Type 0) (b : Bench P D Q L) → IsSound fits rules doors t b → slab_len b.sessions ≡ 0 → Keeps b → Settled desk t (rules b.port).limits (root b.port) (doors b.door) b.refused
@@ -640,6 +694,7 @@ module _ {P D Q L : Type 0} (rules : P → PortRules) (root : P → Histories) (
     named = subst (λ (n : ℕ). All (λ (a : Account). IsNamed t.number n a.who) w.accounts) (sym s.given) w.named;
     apart = w.apart;
     counted = λ r. let c = w.counted r in let e = s.given in omega (arith, c, none, e);
+    spared = w.spared;
   }
 
   -- ---- the door
@@ -677,7 +732,8 @@ module _ {P D Q L : Type 0} (rules : P → PortRules) (root : P → Histories) (
       kept_turned key s b b' here n i k =
           kept_put b b' key s i.now here i.there i.count (ap (λ (x : Bench P D Q L). (doors x.door).back) i.same) (ap (λ (x : Bench P D Q L). x.had) i.same)
           (λ r. or_first b.refused _ (sym (ap (λ (x : Bench P D Q L). x.refused) i.same) ∙ r)) i.turn.goes_on.fixed i.turn.goes_on.roots i.turn.who k
-          (lives_turned rules root seen told desk t fits count wants busies (GoesOn fits rules root seen busies) counts hears hears_mean says says_mean b.port b'.port k.works.accounts s i.now i.answer n i.turn (k.works.lives key s here))
+          (lives_turned rules root seen told counts desk t fits count wants busies (GoesOn fits rules root seen busies) hears hears_mean says says_mean b.port b'.port k.works.accounts s i.now i.answer n i.turn (k.works.lives key s here))
+          (λ r. subst (λ (o : Option End). o ≢ Some end.OutOfMemory) (sym i.turn.ended) (unspent_by i.answer (or_last b.refused _ (sym (ap (λ (x : Bench P D Q L). x.refused) i.same) ∙ r))))
 
       kept_turns_by : (o : Option End) (key : ℕ) (s : Seated P L Q) (b b' : Bench P D Q L) → get b.sessions key ≡ Some s → s.session.ended ≡ o → TurnsBy Turned o key s b b' → Kept b → Kept b'
       kept_turns_by None key s b b' here n i k = kept_turned key s b b' here n i k
@@ -697,12 +753,12 @@ module _ {P D Q L : Type 0} (rules : P → PortRules) (root : P → Histories) (
         → IsGone told counts doors key s b b' → Kept b → Kept b'
     kept_gone key s e answer now b b' here n left c i k =
         let w = k.works in
-        let l = leaving_of rules root seen told desk t fits count wants busies b.port b'.port e w.accounts s answer now n c (w.lives key s here) in
+        let l = leaving_of rules root seen told counts desk t fits count wants busies b.port b'.port e w.accounts s answer now n c (w.lives key s here) in
         let away = nowhere now.seat.spot (c.spot ∙ left_nowhere answer (place_of s.session.seat.spot) left) in
         elim i.back [
-          | inl h ↦ kept_back b b' key s here i.gone c.fixed c.roots (ap (λ (x : Bench P D Q L). x.had) h.1) k (record { who = now.parts.who; link = told_of (told s.link) (counts s.link) now.parts.x now.parts.sent }) now.parts.x now.parts.sent
-              (ap (λ (g : Gone). g.who) c.gone) refl (accounted_of rules root seen told desk t fits count wants busies b'.port e w.accounts s.link now (counts s.link) away l) i.count (ap (λ (x : DoorTold). x.back) h.0)
-              (λ r. sym (ap (λ (x : Bench P D Q L). x.refused) h.1) ∙ r) l.fresh
+          | inl h ↦ kept_back b b' key s here i.gone c.fixed c.roots (ap (λ (x : Bench P D Q L). x.had) h.1) k (record { who = now.parts.who; end = e; link = told_of (told s.link) (counts s.link) l.ties.y now.parts.sent }) l.ties.y now.parts.sent
+              (ap (λ (g : Gone). g.who) c.gone) refl (accounted_of rules root seen told counts desk t fits count wants busies b'.port e w.accounts s.link now away l) i.count (ap (λ (x : DoorTold). x.back) h.0)
+              (λ r. sym (ap (λ (x : Bench P D Q L). x.refused) h.1) ∙ r) l.fresh n
           | inr h ↦ kept_dropped b b' key s here i.gone c.fixed c.roots (ap (λ (x : Bench P D Q L). x.had) h.1) k (ap (λ (x : DoorTold). x.back) h.0) (ap (λ (x : Bench P D Q L). x.refused) h.1)
         ]
 
@@ -710,10 +766,12 @@ module _ {P D Q L : Type 0} (rules : P → PortRules) (root : P → Histories) (
         → IsLeft told counts doors key s now b b' → Kept b → Kept b'
     kept_left key s e answer now b b' here n c i k =
         let w = k.works in
-        let l = leaving_of rules root seen told desk t fits count wants busies b.port b'.port e w.accounts s answer now n c (w.lives key s here) in
+        let l = leaving_of rules root seen told counts desk t fits count wants busies b.port b'.port e w.accounts s answer now n c (w.lives key s here) in
         kept_put b b' key s (record { session = now; link = s.link; over = true }) here i.there i.count (ap (λ (x : Bench P D Q L). (doors x.door).back) i.same) (ap (λ (x : Bench P D Q L). x.had) i.same)
         (λ r. sym (ap (λ (x : Bench P D Q L). x.refused) i.same) ∙ r) c.fixed c.roots (ap (λ (g : Gone). g.who) c.gone) k
-        (lives_left rules root seen told desk t fits count wants busies b'.port e w.accounts (record { session = now; link = s.link; over = true }) (c.ended ∙ ap (λ (o : Option End). Some (end_or_quit o)) n) l)
+        (lives_left rules root seen told counts desk t fits count wants busies b'.port e w.accounts (record { session = now; link = s.link; over = true }) (c.ended ∙ ap (λ (o : Option End). Some (end_or_quit o)) n) l)
+        (λ r. subst (λ (o : Option End). o ≢ Some end.OutOfMemory) (n ∙ sym (c.ended ∙ ap (λ (o : Option End). Some (end_or_quit o)) n))
+        (w.unspent (sym (ap (λ (x : Bench P D Q L). x.refused) i.same) ∙ r) key s here))
 
     kept_goes : (x : Bool) (key : ℕ) (s : Seated P L Q) (e : End) (answer : Leaving) (now : SessionState Q) (b b' : Bench P D Q L) → has_left answer ≡ x → get b.sessions key ≡ Some s → s.session.ended ≡ Some e → Ends b.port s.session answer b'.port now
         → GoesIf told counts doors x key s now b b' → Kept b → Kept b'

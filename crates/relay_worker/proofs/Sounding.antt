@@ -23,7 +23,8 @@ use Rattle.relay_session.specs.SeatVisits.{Visit, calls_of}
 use Rattle.relay_session.specs.SessionState.{SessionState}
 use Rattle.relay_worker.specs.Benches.{AreFiled, IsFiled, IsNamed, IsSeated, IsSound, WorkerState, who_of}
 use Rattle.media_recorder.specs.declared.turn.RecTurn.{RecTurn}
-use Rattle.relay_worker.specs.Filed.{Form, form_of, state_of}
+use Rattle.relay_worker.specs.Filed.{form_of, state_of}
+use Rattle.relay_worker.specs.declared.recorder.Form.{Form}
 use Rattle.relay_worker.specs.Rounds.{ClosesAt, ClosesBy, ClosesIf, GoesIf, HandsBack, IsClosed, IsGone, IsLeft, IsTurned, Recorded, RecordsAt, RecordsIf, Rounds, TurnsAt, TurnsBy, TurnsIf, Walks}
 use Rattle.relay_worker.specs.Running.{GoesAhead, HasRun, KeepsOn, label_of}
 use Rattle.relay_worker.specs.Sessions.{IsNewSession}

@@ -1,9 +1,10 @@
 -- A turn keeps a session's name, and ties its bytes to those of its link
-use Rattle.std.proofs.Common.{◌≡◌, inl, inr, ℕ, zero, suc, ◌<◌, ◌≤◌, Bool, true, false, List, [], ◌∷◌, ◌++◌, length, take, refl, sym, ap, ◌∙◌, subst, arith, append_assoc, append-nil, Option, Some, None}
+use Rattle.std.proofs.Common.{◌≡◌, ◌≢◌, inl, inr, ℕ, zero, suc, ◌<◌, ◌≤◌, Bool, true, false, List, [], ◌∷◌, ◌++◌, length, take, refl, sym, ap, ◌∙◌, subst, arith, append_assoc, append-nil, Option, Some, None}
 use Rattle.std.proofs.lemmas.List.Elements.{All-cons}
 use Rattle.std.specs.Option.{option_map}
 use Rattle.turn_gate.specs.Histories.{Begins}
-use Rattle.relay_outside.specs.Heard.{Came, CameBytes, CameEnd, CameNotYet, CameFailed, HearStep, CameTold}
+use Rattle.relay_outside.specs.Counts.{Rose}
+use Rattle.relay_outside.specs.Heard.{Came, CameBytes, CameCounts, CameEnd, CameNotYet, CameFailed, HearStep, CameTold}
 use Rattle.relay_outside.specs.Said.{SayStep}
 use Rattle.relay_outside.specs.Told.{LinkTold, LinkCounts, with_given, with_taken}
 use Rattle.relay_outside.specs.declared.link.Said.{Said}
@@ -29,7 +30,7 @@ use Rattle.relay_session.specs.declared.seat_answers.Made.{Made}
 use Rattle.relay_session.specs.declared.seat_answers.Made.TheVariants as made
 use Rattle.relay_session.specs.declared.turn.Turn.{Turn}
 use Rattle.relay_session.specs.declared.turn.Turn.TheVariants as turn
-use Rattle.relay_worker.specs.Books.{Owns, TiesBy, is_told}
+use Rattle.relay_worker.specs.Books.{IsCause, Owns, TiesBy}
 
 -- what no step of a turn changes
 pub record Firmly (c d : Core) : Type 0 where
@@ -75,37 +76,40 @@ even_gone c d e = record { x = ap (λ (k : Gone). k.x) e; sent = ap (λ (k : Gon
 even_called : (c d : Core) (e : Entry) (r : _) → IsCalled c e r d → Even c d
 even_called c d e r i = record { x = ap (λ (p : Past). p.x) i.past; sent = ap (λ (p : Past). p.sent) i.past }
 
-begins_more : (x input gave : List ℕ) → gave ≡ x ++ input → Begins x gave
-begins_more x input gave e = (input, sym e)
+ties_even : (max : ℕ) (t : Option LinkTold) (n : LinkCounts) (c d : Core) (input input' : List ℕ) → input' ≡ input → Even c d → TiesBy max None t n c.x input c.sent → TiesBy max None t n d.x input' d.sent
+ties_even max t n c d input input' i e k = λ u is. let p = k u is in (p.0 ∙ (ap (λ (y : List ℕ). y ++ input) (sym e.x) ∙ ap (λ (y : List ℕ). d.x ++ y) (sym i)), p.1 ∙ sym e.sent)
 
-ties_even : (t : Option LinkTold) (c d : Core) (input input' : List ℕ) → input' ≡ input → Even c d → TiesBy None t c.x input c.sent → TiesBy None t d.x input' d.sent
-ties_even t c d input input' i e k = λ u is. let p = k u is in (p.0 ∙ (ap (λ (y : List ℕ). y ++ input) (sym e.x) ∙ ap (λ (y : List ℕ). d.x ++ y) (sym i)), p.1 ∙ sym e.sent)
+ties_over : (max : ℕ) (q : End) (t : Option LinkTold) (n : LinkCounts) (c d : Core) (input input' : List ℕ) → Even c d → TiesBy max (Some q) t n c.x input c.sent → TiesBy max (Some q) t n d.x input' d.sent
+ties_over max q t n c d input input' e k = record {
+  y = k.y;
+  fed = subst (λ (x : List ℕ). Begins x k.y) (sym e.x) k.fed;
+  cause = subst (λ (x : List ℕ). IsCause max n k.y (length x) q) (sym e.x) k.cause;
+  told_is = λ u is. let p = k.told_is u is in (p.0, p.1 ∙ sym e.sent);
+}
 
-ties_over : (q : End) (t : Option LinkTold) (c d : Core) (input input' : List ℕ) → Even c d → TiesBy (Some q) t c.x input c.sent → TiesBy (Some q) t d.x input' d.sent
-ties_over q t c d input input' e k = λ u is. let p = k u is in (subst (λ (y : List ℕ). Begins y u.gave) (sym e.x) p.0, p.1 ∙ sym e.sent)
-
--- an end keeps less
-ties_end : (e : End) (t : Option LinkTold) (x input input' sent : List ℕ) → TiesBy None t x input sent → TiesBy (Some e) t x input' sent
-ties_end e t x input input' sent k = λ u is. let p = k u is in (begins_more x input u.gave p.0, p.1)
+-- an end keeps what the link gave
+ties_end : (max : ℕ) (e : End) (t : Option LinkTold) (n : LinkCounts) (x input input' sent : List ℕ) → IsCause max n (x ++ input) (length x) e → TiesBy max None t n x input sent → TiesBy max (Some e) t n x input' sent
+ties_end max e t n x input input' sent cause k = record { y = x ++ input; fed = (input, refl); cause = cause; told_is = k }
 
 -- what a recv leaves of it, where no input was left
-ties_came : (t t' : Option LinkTold) (x input sent b : List ℕ) → input ≡ [] → t' ≡ option_map (with_given b) t → TiesBy None t x input sent → TiesBy None t' x b sent
-ties_came None t' x input sent b none is k = λ u e. absurd (let n : None ≡ Some u = sym is ∙ e in cc)
-ties_came (Some t) t' x input sent b none is k = λ u e.
-    let same : with_given b t ≡ u = let n : Some (with_given b t) ≡ Some u = sym is ∙ e in cc in
+ties_came : (max : ℕ) (t t' : Option LinkTold) (n n' : LinkCounts) (x input sent b : List ℕ) → input ≡ [] → t' ≡ option_map (with_given b) t → TiesBy max None t n x input sent → TiesBy max None t' n' x b sent
+ties_came max None t' n n' x input sent b none is k = λ u e. absurd (let f : None ≡ Some u = sym is ∙ e in cc)
+ties_came max (Some t) t' n n' x input sent b none is k = λ u e.
+    let same : with_given b t ≡ u = let f : Some (with_given b t) ≡ Some u = sym is ∙ e in cc in
     let p = k t refl in
     (sym (ap (λ (v : LinkTold). v.gave) same) ∙ (ap (λ (g : List ℕ). g ++ b) (p.0 ∙ (ap (λ (y : List ℕ). x ++ y) none ∙ append-nil x))), sym (ap (λ (v : LinkTold). v.took) same) ∙ p.1)
 
 -- what a send leaves of it
-ties_said : (t t' : Option LinkTold) (x input sent sent' b : List ℕ) → sent' ≡ sent ++ b → t' ≡ option_map (with_taken b) t → TiesBy None t x input sent → TiesBy None t' x input sent'
-ties_said None t' x input sent sent' b more is k = λ u e. absurd (let n : None ≡ Some u = sym is ∙ e in cc)
-ties_said (Some t) t' x input sent sent' b more is k = λ u e.
-    let same : with_taken b t ≡ u = let n : Some (with_taken b t) ≡ Some u = sym is ∙ e in cc in
+ties_said : (max : ℕ) (t t' : Option LinkTold) (n n' : LinkCounts) (x input sent sent' b : List ℕ) → sent' ≡ sent ++ b → t' ≡ option_map (with_taken b) t → TiesBy max None t n x input sent → TiesBy max None t' n' x input sent'
+ties_said max None t' n n' x input sent sent' b more is k = λ u e. absurd (let f : None ≡ Some u = sym is ∙ e in cc)
+ties_said max (Some t) t' n n' x input sent sent' b more is k = λ u e.
+    let same : with_taken b t ≡ u = let f : Some (with_taken b t) ≡ Some u = sym is ∙ e in cc in
     let p = k t refl in
     (sym (ap (λ (v : LinkTold). v.gave) same) ∙ p.0, sym (ap (λ (v : LinkTold). v.took) same) ∙ (ap (λ (y : List ℕ). y ++ b) p.1 ∙ sym more))
 
-ties_told : (o : Option End) (t t' : Option LinkTold) (x input sent : List ℕ) → t' ≡ t → TiesBy o t x input sent → TiesBy o t' x input sent
-ties_told o t t' x input sent is k = subst (λ (u : Option LinkTold). TiesBy o u x input sent) (sym is) k
+-- one that lives, whose link tells the same
+ties_told : (max : ℕ) (t t' : Option LinkTold) (n n' : LinkCounts) (x input sent : List ℕ) → t' ≡ t → TiesBy max None t n x input sent → TiesBy max None t' n' x input sent
+ties_told max t t' n n' x input sent is k = λ u e. k u (sym is ∙ e)
 
 some_nil : (l : List ℕ) → is_nil l ≡ false → 0 < length (take 16384 l)
 some_nil [] e = absurd (let n : true ≡ false = e in cc)
@@ -146,79 +150,78 @@ owns_asked who who' n v k k' o a b w = subst (λ (x : ℕ). Owns x v k') (sym a)
 
 -- ---- ends
 
-decides_plain : (max : ℕ) (h : Heard) (y : List ℕ) (n : ℕ) (e : End) → Decides max h y n e → is_told e ≡ false
-decides_plain max h y n (end.BadVersion at) d = refl
-decides_plain max h y n (end.BadChunk cause at) d = refl
-decides_plain max h y n (end.BadControl at) d = refl
-decides_plain max h y n (end.BadCommand at) d = refl
-decides_plain max h y n (end.TooManyStreams at) d = refl
-decides_plain max h y n end.OutOfMemory d = refl
-decides_plain max h y n end.PeerClosed d = refl
-decides_plain max h y n end.LinkFault d = refl
-decides_plain max h y n end.Quit d = absurd d
-decides_plain max h y n end.Worn d = refl
+rose_some : (before now : ℕ) → Rose before now → now ≢ 0
+rose_some before now r = λ z. let h = r.higher in omega (arith, h, z)
+
+decides_causes : (max : ℕ) (counts : LinkCounts) (h : Heard) (y : List ℕ) (n : ℕ) (e : End) → Decides max h y n e → IsCause max counts y n e
+decides_causes max counts h y n (end.BadVersion at) d = (h, d)
+decides_causes max counts h y n (end.BadChunk cause at) d = (h, d)
+decides_causes max counts h y n (end.BadControl at) d = (h, d)
+decides_causes max counts h y n (end.BadCommand at) d = (h, d)
+decides_causes max counts h y n (end.TooManyStreams at) d = (h, d)
+decides_causes max counts h y n end.OutOfMemory d = tt
+decides_causes max counts h y n end.PeerClosed d = absurd d
+decides_causes max counts h y n end.LinkFault d = absurd d
+decides_causes max counts h y n end.Quit d = absurd d
+decides_causes max counts h y n end.Worn d = absurd d
 
 leaves_idle : (moved : Bool) → ended_by (answer moved) ≡ None
 leaves_idle true = refl
 leaves_idle false = refl
 
--- a turn didn't tell the session to end
-abbrev pub IsPlain : Option End → Type 0
-IsPlain None = Unit {0}
-IsPlain (Some e) = is_told e ≡ false
-
 module _ {P S L : Type 0} (told : L → Option LinkTold) (counts : L → LinkCounts) (visits : S → List Visit) (quit : Bool) where
   -- WHAT A TURN LEAVES
   pub record Leaves (v : Life P S) (l : L) (a : Turn) (w : Life P S) (m : L) : Type 0 where
     pub firm : Firmly v.parts w.parts
-    pub ties : TiesBy None (told l) v.parts.x v.input v.parts.sent → TiesBy (ended_by a) (told m) w.parts.x w.input w.parts.sent
+    pub ties : quit ≡ false → TiesBy v.parts.reader.max None (told l) (counts l) v.parts.x v.input v.parts.sent → TiesBy v.parts.reader.max (ended_by a) (told m) (counts m) w.parts.x w.input w.parts.sent
     pub owns : Owns v.parts.who (visits v.seat) v.parts.kept → Owns w.parts.who (visits w.seat) w.parts.kept
-    pub plain : quit ≡ false → IsPlain (ended_by a)
 
   -- something before its end
   record Passes (v : Life P S) (l : L) (k : Life P S) (n : L) : Type 0 where
     pub firm : Firmly v.parts k.parts
-    pub ties : TiesBy None (told l) v.parts.x v.input v.parts.sent → TiesBy None (told n) k.parts.x k.input k.parts.sent
+    pub ties : TiesBy v.parts.reader.max None (told l) (counts l) v.parts.x v.input v.parts.sent → TiesBy v.parts.reader.max None (told n) (counts n) k.parts.x k.input k.parts.sent
     pub owns : Owns v.parts.who (visits v.seat) v.parts.kept → Owns k.parts.who (visits k.seat) k.parts.kept
 
   after : (v : Life P S) (l : L) (k : Life P S) (n : L) (a : Turn) (w : Life P S) (m : L) → Passes v l k n → Leaves k n a w m → Leaves v l a w m
-  after v l k n a w m p q = record { firm = firmly_then v.parts k.parts w.parts p.firm q.firm; ties = λ t. q.ties (p.ties t); owns = λ o. q.owns (p.owns o); plain = q.plain }
+  after v l k n a w m p q = record {
+    firm = firmly_then v.parts k.parts w.parts p.firm q.firm;
+    ties = λ u t. subst (λ (max : ℕ). TiesBy max (ended_by a) (told m) (counts m) w.parts.x w.input w.parts.sent) p.firm.max (q.ties u (p.ties t));
+    owns = λ o. q.owns (p.owns o);
+  }
 
   passes_even : (v k : Life P S) (l : L) → Firmly v.parts k.parts → Even v.parts k.parts → k.input ≡ v.input → (Owns v.parts.who (visits v.seat) v.parts.kept → Owns k.parts.who (visits k.seat) k.parts.kept) → Passes v l k l
-  passes_even v k l f e i o = record { firm = f; ties = ties_even (told l) v.parts k.parts v.input k.input i e; owns = o }
+  passes_even v k l f e i o = record { firm = f; ties = ties_even v.parts.reader.max (told l) (counts l) v.parts k.parts v.input k.input i e; owns = o }
 
   -- it goes on
   leaves_as : (a : Turn) (v w : Life P S) (l : L) → ended_by a ≡ None → Passes v l w l → Leaves v l a w l
   leaves_as a v w l e p = record {
     firm = p.firm;
-    ties = λ t. subst (λ (o : Option End). TiesBy o (told l) w.parts.x w.input w.parts.sent) (sym e) (p.ties t);
+    ties = λ u t. subst (λ (o : Option End). TiesBy v.parts.reader.max o (told l) (counts l) w.parts.x w.input w.parts.sent) (sym e) (p.ties t);
     owns = p.owns;
-    plain = λ n. subst IsPlain (sym e) tt;
   }
 
   leaves_on : (moved : Bool) (a : Turn) (v w : Life P S) (l : L) → a ≡ answer moved → Passes v l w l → Leaves v l a w l
   leaves_on moved a v w l is p = leaves_as a v w l (ap ended_by is ∙ leaves_idle moved) p
 
   -- it ends
-  leaves_end : (e : End) (a : Turn) (v w : Life P S) (l : L) → is_told e ≡ false → a ≡ turn.Ended e → Firmly v.parts w.parts → Even v.parts w.parts
+  leaves_end : (e : End) (a : Turn) (v w : Life P S) (l : L) → IsCause v.parts.reader.max (counts l) (v.parts.x ++ v.input) (length v.parts.x) e → a ≡ turn.Ended e → Firmly v.parts w.parts → Even v.parts w.parts
       → (Owns v.parts.who (visits v.seat) v.parts.kept → Owns w.parts.who (visits w.seat) w.parts.kept) → Leaves v l a w l
-  leaves_end e a v w l plain is f k o = record {
+  leaves_end e a v w l cause is f k o = record {
     firm = f;
-    ties = λ t. subst (λ (b : Turn). TiesBy (ended_by b) (told l) w.parts.x w.input w.parts.sent) (sym is)
-        (ties_over e (told l) v.parts w.parts v.input w.input k (ties_end e (told l) v.parts.x v.input v.input v.parts.sent t));
+    ties = λ u t. subst (λ (b : Turn). TiesBy v.parts.reader.max (ended_by b) (told l) (counts l) w.parts.x w.input w.parts.sent) (sym is)
+        (ties_over v.parts.reader.max e (told l) (counts l) v.parts w.parts v.input w.input k (ties_end v.parts.reader.max e (told l) (counts l) v.parts.x v.input v.input v.parts.sent cause t));
     owns = o;
-    plain = λ n. subst (λ (b : Turn). IsPlain (ended_by b)) (sym is) plain;
   }
 
   gone_owns : (e : End) (v : Life P S) (a : Turn) (w : Life P S) → IsEnded e v a w → Owns v.parts.who (visits v.seat) v.parts.kept → Owns w.parts.who (visits w.seat) w.parts.kept
   gone_owns e v a w i = owns_same v.parts.who w.parts.who (visits v.seat) (visits w.seat) v.parts.kept w.parts.kept (ap (λ (g : Gone). g.who) i.gone) (ap visits i.seat) (ap (λ (g : Gone). g.kept) i.gone)
 
-  leaves_ended : (e : End) (v : Life P S) (a : Turn) (w : Life P S) (l : L) → is_told e ≡ false → IsEnded e v a w → Leaves v l a w l
-  leaves_ended e v a w l plain i = leaves_end e a v w l plain i.ended (firmly_gone v.parts w.parts i.gone) (even_gone v.parts w.parts i.gone) (gone_owns e v a w i)
+  leaves_ended : (e : End) (v : Life P S) (a : Turn) (w : Life P S) (l : L) → IsCause v.parts.reader.max (counts l) (v.parts.x ++ v.input) (length v.parts.x) e → IsEnded e v a w → Leaves v l a w l
+  leaves_ended e v a w l cause i = leaves_end e a v w l cause i.ended (firmly_gone v.parts w.parts i.gone) (even_gone v.parts w.parts i.gone) (gone_owns e v a w i)
 
   -- the same where the link is another that tells the same
   leaves_at : (v : Life P S) (l n : L) (a : Turn) (w : Life P S) (m : L) → told n ≡ told l → Leaves v n a w m → Leaves v l a w m
-  leaves_at v l n a w m is q = record { firm = q.firm; ties = λ t. q.ties (ties_told None (told l) (told n) v.parts.x v.input v.parts.sent is t); owns = q.owns; plain = q.plain }
+  leaves_at v l n a w m is q = record { firm = q.firm; ties = λ u t. q.ties u (ties_told v.parts.reader.max (told l) (told n) (counts l) (counts n) v.parts.x v.input v.parts.sent is t); owns = q.owns }
 
   leaves_to : (v : Life P S) (l : L) (a : Turn) (w : Life P S) (m : L) → m ≡ l → Leaves v l a w l → Leaves v l a w m
   leaves_to v l a w m is q = subst (λ (n : L). Leaves v l a w n) (sym is) q
@@ -239,10 +242,10 @@ module _ {P S L : Type 0} (told : L → Option LinkTold) (counts : L → LinkCou
     take_made v place e moved (made.Answer r) w a l named m i (c, inl t) =
         leaves_on _ a v w l t.0 (passes_even v w l (firmly_firm v.parts w.parts c.firm) (even_called v.parts w.parts e r c) i (made_owns v w place e r named c m))
     take_made v place e moved (made.Answer r) w a l named m i (c, inr t) =
-        leaves_end _ a v w l refl t (firmly_firm v.parts w.parts c.firm) (even_called v.parts w.parts e r c) (made_owns v w place e r named c m)
+        leaves_end end.OutOfMemory a v w l tt t (firmly_firm v.parts w.parts c.firm) (even_called v.parts w.parts e r c) (made_owns v w place e r named c m)
     take_made v place e moved (made.Busy f) w a l named m i t = leaves_on moved a v w l t.1 (passes_even v w l (firmly_is v.parts w.parts t.0) (even_is v.parts w.parts t.0) i (still v w t.0 m.1))
-    take_made v place e moved (made.Worn f) w a l named m i t = leaves_end _ a v w l refl t.1 (firmly_is v.parts w.parts t.0) (even_is v.parts w.parts t.0) (still v w t.0 m.1)
-    take_made v place e moved (made.OutOfMemory f) w a l named m i t = leaves_end _ a v w l refl t.1 (firmly_is v.parts w.parts t.0) (even_is v.parts w.parts t.0) (still v w t.0 m.1)
+    take_made v place e moved (made.Worn f) w a l named m i t = leaves_end end.Worn a v w l tt t.1 (firmly_is v.parts w.parts t.0) (even_is v.parts w.parts t.0) (still v w t.0 m.1)
+    take_made v place e moved (made.OutOfMemory f) w a l named m i t = leaves_end end.OutOfMemory a v w l tt t.1 (firmly_is v.parts w.parts t.0) (even_is v.parts w.parts t.0) (still v w t.0 m.1)
 
     same_life : (v w : Life P S) (l : L) → w ≡ v → Passes v l w l
     same_life v w l e = subst (λ (k : Life P S). Passes v l k l) (sym e) (record { firm = firmly_refl v.parts; ties = λ t. t; owns = λ o. o })
@@ -257,7 +260,7 @@ module _ {P S L : Type 0} (told : L → Option LinkTold) (counts : L → LinkCou
 
     taken : (v : Life P S) (moved : Bool) (a : Turn) (w : Life P S) (l : L) → Taken asks v moved a w → Leaves v l a w l
     taken v moved a w l (inl t) = after v l (life t.0 v.input v.port v.seat) l a w l (filled v t.0 l t.1) (taken_by (takes t.0) (life t.0 v.input v.port v.seat) moved a w l t.2)
-    taken v moved a w l (inr t) = leaves_ended _ v a w l refl t
+    taken v moved a w l (inr t) = leaves_ended end.OutOfMemory v a w l tt t
 
     -- ---- a call that waited
 
@@ -273,10 +276,10 @@ module _ {P S L : Type 0} (told : L → Option LinkTold) (counts : L → LinkCou
 
     after_call : (v m : Life P S) (came : Made) (a : Turn) (w : Life P S) (l : L) → AfterCall asks v came m a w → Leaves m l a w l
     after_call v m (made.Answer r) a w l (inl t) = taken m true a w l t.1
-    after_call v m (made.Answer r) a w l (inr t) = leaves_ended _ m a w l refl t
+    after_call v m (made.Answer r) a w l (inr t) = leaves_ended end.OutOfMemory m a w l tt t
     after_call v m (made.Busy f) a w l t = taken m true a w l t
-    after_call v m (made.Worn f) a w l t = leaves_ended _ m a w l refl t
-    after_call v m (made.OutOfMemory f) a w l t = leaves_ended _ m a w l refl t
+    after_call v m (made.Worn f) a w l t = leaves_ended end.Worn m a w l tt t
+    after_call v m (made.OutOfMemory f) a w l t = leaves_ended end.OutOfMemory m a w l tt t
 
     called : (o : Option Entry) (v : Life P S) (a : Turn) (w : Life P S) (l : L) → v.parts.kept ≡ o → CalledBy asks o v a w → Leaves v l a w l
     called None v a w l k t = taken v true a w l t
@@ -300,16 +303,18 @@ module _ {P S L : Type 0} (told : L → Option LinkTold) (counts : L → LinkCou
     stopped : (v : Life P S) (e : End) (c : Core) (a : Turn) (w : Life P S) (l : L) → IsStopped v.parts v.input e c → IsEnded e (life c v.input v.port v.seat) a w → Leaves v l a w l
     stopped v e c a w l s i = record {
       firm = firmly_then v.parts c w.parts (firmly_fixed v.parts c s.fixed) (firmly_gone c w.parts i.gone);
-      ties = λ t.
-          let whole : (u : LinkTold) → told l ≡ Some u → Begins c.x u.gave × (u.took ≡ c.sent) = λ u is. let p = t u is in (
-            (s.left, ap (λ (y : List ℕ). y ++ s.left) s.x ∙ (append_assoc v.parts.x s.fed s.left ∙ (ap (λ (y : List ℕ). v.parts.x ++ y) s.split ∙ sym p.0))),
-            p.1 ∙ sym (ap (λ (k : Fixed). k.sent) s.fixed),
-          ) in
-          subst (λ (b : Turn). TiesBy (ended_by b) (told l) w.parts.x w.input w.parts.sent) (sym i.ended)
-          (ties_over e (told l) c w.parts v.input w.input (even_gone c w.parts i.gone) whole);
+      ties = λ q t.
+          let max = v.parts.reader.max in
+          let whole : TiesBy max (Some e) (told l) (counts l) c.x v.input c.sent = record {
+            y = v.parts.x ++ v.input;
+            fed = (s.left, ap (λ (y : List ℕ). y ++ s.left) s.x ∙ (append_assoc v.parts.x s.fed s.left ∙ ap (λ (y : List ℕ). v.parts.x ++ y) s.split));
+            cause = decides_causes max (counts l) (heard_of v.parts) (v.parts.x ++ v.input) (length c.x) e s.cause;
+            told_is = λ u is. let p = t u is in (p.0, p.1 ∙ sym (ap (λ (k : Fixed). k.sent) s.fixed));
+          } in
+          subst (λ (b : Turn). TiesBy max (ended_by b) (told l) (counts l) w.parts.x w.input w.parts.sent) (sym i.ended)
+          (ties_over max e (told l) (counts l) c w.parts v.input w.input (even_gone c w.parts i.gone) whole);
       owns = λ o. gone_owns e (life c v.input v.port v.seat) a w i
           (owns_same v.parts.who c.who (visits v.seat) (visits v.seat) v.parts.kept c.kept (ap (λ (k : Fixed). k.who) s.fixed) refl s.kept o);
-      plain = λ n. subst (λ (b : Turn). IsPlain (ended_by b)) (sym i.ended) (decides_plain v.parts.reader.max (heard_of v.parts) (v.parts.x ++ v.input) (length c.x) e s.cause);
     }
 
     module _ (desk : Ask → Grant) where
@@ -324,28 +329,32 @@ module _ {P S L : Type 0} (told : L → Option LinkTold) (counts : L → LinkCou
       fed : (v : Life P S) (moved : Bool) (a : Turn) (w : Life P S) (l : L) → Fed asks desk v moved a w → Leaves v l a w l
       fed v moved a w l t = fed_as t.0 v moved a w l t.1
 
-      came_as : (came : Came) (v : Life P S) (moved : Bool) (a : Turn) (w : Life P S) (l m : L) → v.input ≡ [] → CameTold (told l) (told m) came → CameAs asks desk came v moved a w → Leaves v l a w m
-      came_as (CameBytes b) v moved a w l m none c (inl t) =
+      came_as : (came : Came) (v : Life P S) (moved : Bool) (a : Turn) (w : Life P S) (l m : L) → v.input ≡ [] → CameTold (told l) (told m) came → CameCounts (counts l) (counts m) came → CameAs asks desk came v moved a w → Leaves v l a w m
+      came_as (CameBytes b) v moved a w l m none c r (inl t) =
           after v l (life v.parts b v.port v.seat) m a w m
-          (record { firm = firmly_refl v.parts; ties = ties_came (told l) (told m) v.parts.x v.input v.parts.sent b none c.1; owns = λ o. o })
+          (record { firm = firmly_refl v.parts; ties = ties_came v.parts.reader.max (told l) (told m) (counts l) (counts m) v.parts.x v.input v.parts.sent b none c.1; owns = λ o. o })
           (fed (life v.parts b v.port v.seat) true a w m t)
-      came_as (CameBytes b) v moved a w l m none c (inr t) =
+      came_as (CameBytes b) v moved a w l m none c r (inr t) =
           let k = life v.parts b v.port v.seat in
           let g = even_gone v.parts w.parts t.gone in
           record {
             firm = firmly_gone v.parts w.parts t.gone;
-            ties = λ u. subst (λ (q : Turn). TiesBy (ended_by q) (told m) w.parts.x w.input w.parts.sent) (sym t.ended)
-                (ties_over end.OutOfMemory (told m) v.parts w.parts b w.input g (ties_end end.OutOfMemory (told m) v.parts.x b b v.parts.sent (ties_came (told l) (told m) v.parts.x v.input v.parts.sent b none c.1 u)));
+            ties = λ n u.
+                let max = v.parts.reader.max in
+                subst (λ (q : Turn). TiesBy max (ended_by q) (told m) (counts m) w.parts.x w.input w.parts.sent) (sym t.ended)
+                (ties_over max end.OutOfMemory (told m) (counts m) v.parts w.parts b w.input g
+                (ties_end max end.OutOfMemory (told m) (counts m) v.parts.x b b v.parts.sent tt (ties_came max (told l) (told m) (counts l) (counts m) v.parts.x v.input v.parts.sent b none c.1 u)));
             owns = gone_owns end.OutOfMemory v a w t;
-            plain = λ n. subst (λ (q : Turn). IsPlain (ended_by q)) (sym t.ended) refl;
           }
-      came_as CameNotYet v moved a w l m none c t = leaves_at v l m a w m c (taken v moved a w m t)
-      came_as CameEnd v moved a w l m none c t = leaves_at v l m a w m c (leaves_ended _ v a w m refl t)
-      came_as CameFailed v moved a w l m none c t = leaves_at v l m a w m c (leaves_ended _ v a w m refl t)
+      came_as CameNotYet v moved a w l m none c r t = leaves_at v l m a w m c (taken v moved a w m t)
+      came_as CameEnd v moved a w l m none c r t = leaves_at v l m a w m c (leaves_ended end.PeerClosed v a w m (rose_some (counts l).ends (counts m).ends r.2) t)
+      came_as CameFailed v moved a w l m none c r t = leaves_at v l m a w m c (leaves_ended end.LinkFault v a w m (rose_some (counts l).faults (counts m).faults r.0) t)
 
       module _ (hears : L → ℕ → Came → L → Type 0) (hears_mean : (l : L) (room : ℕ) (answer : Came) (m : L) → 0 < room → hears l room answer m → HearStep room (told l) (told m) (counts l) (counts m) answer) where
         empty_by : (b : Bool) (v : Life P S) (l : L) (moved : Bool) (a : Turn) (w : Life P S) (m : L) → is_nil v.input ≡ b → EmptyBy asks desk hears b v l moved a w m → Leaves v l a w m
-        empty_by true v l moved a w m e t = came_as t.0 v moved a w l m (nil_is v.input e) (hears_mean l 4096 t.0 m (omega arith) t.1.0).told t.1.1
+        empty_by true v l moved a w m e t =
+            let step = hears_mean l 4096 t.0 m (omega arith) t.1.0 in
+            came_as t.0 v moved a w l m (nil_is v.input e) step.told step.counts t.1.1
         empty_by false v l moved a w m e t = leaves_to v l a w m t.1 (fed v moved a w l t.0)
 
         input_by : (b : Bool) (v : Life P S) (l : L) (moved : Bool) (a : Turn) (w : Life P S) (m : L) → InputBy asks desk hears b v l moved a w m → Leaves v l a w m
@@ -368,15 +377,15 @@ module _ {P S L : Type 0} (told : L → Option LinkTold) (counts : L → LinkCou
               (record {
                 firm = firmly_firm v.parts c i.firm;
                 ties = λ u. let x = ap (λ (p : Past). p.x) i.past in
-                    subst (λ (y : List ℕ). TiesBy None (told k) y v.input c.sent) (sym x)
-                    (ties_said (told l) (told k) v.parts.x v.input v.parts.sent c.sent (take n (take 16384 (pending v.parts.outgoing)))
+                    subst (λ (y : List ℕ). TiesBy v.parts.reader.max None (told k) (counts k) y v.input c.sent) (sym x)
+                    (ties_said v.parts.reader.max (told l) (told k) (counts l) (counts k) v.parts.x v.input v.parts.sent c.sent (take n (take 16384 (pending v.parts.outgoing)))
                     (ap (λ (p : Past). p.sent) i.past ∙ ap (λ (y : List ℕ). v.parts.sent ++ y) (sym same)) s.told u);
                 owns = owns_same v.parts.who c.who (visits v.seat) (visits v.seat) v.parts.kept c.kept (ap (λ (f : Firm). f.who) i.firm) refl (ap (λ (p : Past). p.kept) i.past);
               })
               (input (life c v.input v.port v.seat) k true a w m t.1.1)
           sent_as said.NotYet v l k moved a w m s t = leaves_at v l k a w m s.told (input v k moved a w m t)
-          sent_as said.Failed v l k moved a w m s t = leaves_at v l k a w m s.told (leaves_to v k a w m t.1 (leaves_ended _ v a w k refl t.0))
-          sent_as said.OutOfMemory v l k moved a w m s t = leaves_at v l k a w m s.told (leaves_to v k a w m t.1 (leaves_ended _ v a w k refl t.0))
+          sent_as said.Failed v l k moved a w m s t = leaves_at v l k a w m s.told (leaves_to v k a w m t.1 (leaves_ended end.LinkFault v a w k (rose_some (counts l).faults (counts k).faults s.counts.0) t.0))
+          sent_as said.OutOfMemory v l k moved a w m s t = leaves_at v l k a w m s.told (leaves_to v k a w m t.1 (leaves_ended end.OutOfMemory v a w k tt t.0))
 
           send_by : (b : Bool) (v : Life P S) (l : L) (moved : Bool) (a : Turn) (w : Life P S) (m : L) → is_nil (pending v.parts.outgoing) ≡ b → SendBy asks desk hears says b v l moved a w m → Leaves v l a w m
           send_by true v l moved a w m e t = input v l moved a w m t
@@ -386,7 +395,7 @@ module _ {P S L : Type 0} (told : L → Option LinkTold) (counts : L → LinkCou
           sent : (v : Life P S) (l : L) (moved : Bool) (a : Turn) (w : Life P S) (m : L) → Sent asks desk hears says v l moved a w m → Leaves v l a w m
           sent v l moved a w m (inl t) =
               after v l (life t.0 v.input v.port v.seat) l a w m (filled v t.0 l t.1.0) (send_by (is_nil (pending t.0.outgoing)) (life t.0 v.input v.port v.seat) l moved a w m refl t.1.1)
-          sent v l moved a w m (inr t) = leaves_to v l a w m t.1 (leaves_ended _ v a w l refl t.0)
+          sent v l moved a w m (inr t) = leaves_to v l a w m t.1 (leaves_ended end.OutOfMemory v a w l tt t.0)
 
           -- ---- steps 3, 2 and 1
 
@@ -394,21 +403,15 @@ module _ {P S L : Type 0} (told : L → Option LinkTold) (counts : L → LinkCou
           quit_by true v l moved a w m is t =
               let i = t.0 in
               leaves_to v l a w m t.1
-              (record {
-                firm = firmly_gone v.parts w.parts i.gone;
-                ties = λ k. subst (λ (b : Turn). TiesBy (ended_by b) (told l) w.parts.x w.input w.parts.sent) (sym i.ended)
-                    (ties_over end.Quit (told l) v.parts w.parts v.input w.input (even_gone v.parts w.parts i.gone) (ties_end end.Quit (told l) v.parts.x v.input v.input v.parts.sent k));
-                owns = gone_owns end.Quit v a w i;
-                plain = λ n. absurd (let e : true ≡ false = sym is ∙ n in cc);
-              })
+              (record { firm = firmly_gone v.parts w.parts i.gone; ties = λ n. absurd (let e : true ≡ false = sym is ∙ n in cc); owns = gone_owns end.Quit v a w i })
           quit_by false v l moved a w m is t = sent v l moved a w m t
 
           after_kept : (q : Bool) (v k : Life P S) (came : Made) (l : L) (a : Turn) (w : Life P S) (m : L) → quit ≡ q → AfterKept asks desk hears says q v came k l a w m → Leaves k l a w m
           after_kept q v k (made.Answer r) l a w m is (inl t) = quit_by q k l true a w m is t.1
-          after_kept q v k (made.Answer r) l a w m is (inr t) = leaves_to k l a w m t.1 (leaves_ended _ k a w l refl t.0)
+          after_kept q v k (made.Answer r) l a w m is (inr t) = leaves_to k l a w m t.1 (leaves_ended end.OutOfMemory k a w l tt t.0)
           after_kept q v k (made.Busy f) l a w m is t = leaves_to k l a w m t.2 (leaves_on false a k w l t.0 (same_life k w l t.1))
-          after_kept q v k (made.Worn f) l a w m is t = leaves_to k l a w m t.1 (leaves_ended _ k a w l refl t.0)
-          after_kept q v k (made.OutOfMemory f) l a w m is t = leaves_to k l a w m t.1 (leaves_ended _ k a w l refl t.0)
+          after_kept q v k (made.Worn f) l a w m is t = leaves_to k l a w m t.1 (leaves_ended end.Worn k a w l tt t.0)
+          after_kept q v k (made.OutOfMemory f) l a w m is t = leaves_to k l a w m t.1 (leaves_ended end.OutOfMemory k a w l tt t.0)
 
           kept_by : (o : Option Entry) (v : Life P S) (l : L) (a : Turn) (w : Life P S) (m : L) → v.parts.kept ≡ o → KeptBy asks desk hears says o quit v l a w m → Leaves v l a w m
           kept_by None v l a w m k t = quit_by quit v l false a w m refl t

@@ -11,21 +11,19 @@ use Rattle.media_recorder.specs.declared.turn.Leaving.TheVariants as leaving
 use Rattle.media_recorder.specs.Leaves.{Goes}
 use Rattle.media_recorder.specs.Ports.{Serves}
 use Rattle.media_recorder.specs.Says.{Says}
+use Rattle.media_recorder.specs.Tallied.{Tallied}
 use Rattle.media_recorder.specs.Transport.{recorded_text}
 use Rattle.media_recorder.specs.Turns.{RecorderState, Turns}
+use Rattle.relay_worker.specs.declared.recorder.Form.{Form}
+use Rattle.relay_worker.specs.declared.recorder.Form.TheVariants as form
 use Rattle.relay_worker.specs.declared.recorder.Recorder.{Recorder}
 use Rattle.relay_worker.specs.declared.recorder.Recorder.TheVariants as recorder
 use Rattle.relay_worker.specs.declared.recorder.Parted.{Parted}
 use Rattle.relay_worker.specs.declared.recorder.Parted.TheVariants as parted
 
--- how it writes
-pub data Form : Type 0 where
-  AsFlv : Form
-  AsTs : Form
-
 abbrev pub form_of : {P K Q : Type 0} → Recorder P K Q → Form
-form_of (recorder.Flv r sink) = AsFlv
-form_of (recorder.Ts r sink) = AsTs
+form_of (recorder.Flv r sink) = form.Flv
+form_of (recorder.Ts r sink) = form.Ts
 
 abbrev pub state_of : {P K Q : Type 0} → Recorder P K Q → RecorderState Q
 state_of (recorder.Flv r sink) = r
@@ -37,11 +35,15 @@ sink_of (recorder.Ts r sink) = sink
 
 -- the text of items in that form
 abbrev pub text_in : Form → List Item → List ℕ
-text_in AsFlv items = flv_text items
-text_in AsTs items = recorded_text items
+text_in form.Flv items = flv_text items
+text_in form.Ts items = recorded_text items
 
 abbrev pub text_of : {P K Q : Type 0} → Recorder P K Q → List Item → List ℕ
 text_of r = text_in (form_of r)
+
+-- its file tells what was sent to it, and where it ended by a fault of its file, the file has faults
+abbrev pub Tallies : {P K Q : Type 0} → (K → Option (List ℕ)) → (K → ℕ) → Recorder P K Q → Type 0
+Tallies holds faults r = Tallied (holds (sink_of r)) (faults (sink_of r)) (state_of r)
 
 -- what became of the recorder alone
 abbrev pub left_by : {P K Q : Type 0} → Parted P K Q → Leaving (RecorderState Q)
@@ -56,16 +58,18 @@ KeepsFile r (parted.Busy r') = (sink_of r' ≡ sink_of r) × (form_of r' ≡ for
 KeepsFile r (parted.OutOfMemory r') = (sink_of r' ≡ sink_of r) × (form_of r' ≡ form_of r)
 
 -- HOW A RECORDER WITH ITS FILE LEAVES
-pub record Leaves {P K Q : Type 0} (rules : P → PortRules) (root : P → Histories) (busies : P → ℕ) (seen : Q → List Step) (mine : Q → List ℕ) (count : Q → ℕ)
-    (port port' : P) (r : Recorder P K Q) (answer : Parted P K Q) : Type 0 where
+pub record Leaves {P K Q : Type 0} (rules : P → PortRules) (root : P → Histories) (busies : P → ℕ)
+    (seen : Q → List Step) (mine : Q → List ℕ) (count : Q → ℕ) (port port' : P) (r : Recorder P K Q) (answer : Parted P K Q) : Type 0 where
   pub goes : Goes rules root busies seen mine count (state_of r).player port port' (state_of r) (left_by answer)
   pub file : KeepsFile r answer
 
 -- ONE TURN OF A RECORDER with its file
-pub record TakesTurn {P K Q : Type 0} (fits : P → ℕ → Q → Type 0) (rules : P → PortRules) (root : P → Histories) (busies : P → ℕ) (seen : Q → List Step) (mine : Q → List ℕ) (count : Q → ℕ)
-    (takes : K → List ℕ → Put → K → Type 0) (holds : K → Option (List ℕ)) (port : P) (r : Recorder P K Q) (answer : RecTurn) (port' : P) (r' : Recorder P K Q) : Type 0 where
+pub record TakesTurn {P K Q : Type 0} (fits : P → ℕ → Q → Type 0) (rules : P → PortRules) (root : P → Histories) (busies : P → ℕ)
+    (seen : Q → List Step) (mine : Q → List ℕ) (count : Q → ℕ) (takes : K → List ℕ → Put → K → Type 0) (holds : K → Option (List ℕ))
+    (port : P) (r : Recorder P K Q) (answer : RecTurn) (port' : P) (r' : Recorder P K Q) : Type 0 where
   pub serves : Serves rules root busies fits (state_of r).seat.place port port'
-  pub turn : Turns rules root busies seen mine count takes (state_of r).end port port' (sink_of r) (sink_of r') (state_of r) answer (state_of r')
+  pub turn : Turns rules root busies seen mine count takes (state_of r).end port port' (sink_of r) (sink_of r')
+      (state_of r) answer (state_of r')
   pub took : holds (sink_of r) ≡ Some (state_of r).tape.sent → holds (sink_of r') ≡ Some (state_of r').tape.sent
   pub says : Says mine (root port (state_of r).seat.place) (busies port) (busies port') answer (state_of r')
   pub who : (state_of r').seat.who ≡ (state_of r).seat.who

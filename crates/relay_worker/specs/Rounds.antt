@@ -1,5 +1,6 @@
 -- ONE ROUND OF A WORKER: a link if one comes, a turn of each session, a close of each that has ended, a turn of each recorder
-use Rattle.std.specs.Prelude.{◌≡◌, ◌⊎◌, ◌≤◌, ◌+◌, ◌^◌, ◌&&◌, ◌||◌, ℕ, Bool, true, false, zero, suc, nat_lt, List, length, slice_get, slice_set, Option, Some, None}
+use Rattle.std.specs.Prelude.{◌≡◌, ◌⊎◌, ◌≤◌, ◌+◌, ◌^◌, ◌&&◌, ◌||◌, ℕ, Bool, true, false, zero, suc, nat_lt}
+use Rattle.std.specs.Prelude.{List, length, slice_get, slice_set, Option, Some, None}
 use Rattle.slab.specs.Slab.{get, slab_len, Updates}
 use Rattle.relay_outside.specs.Doors.{DoorTold, Knocks, returned, with_back}
 use Rattle.relay_outside.specs.Told.{LinkTold, LinkCounts}

@@ -6,7 +6,8 @@ use Rattle.stream_registry.specs.Names.{PortRules}
 use Rattle.stream_registry.specs.Told.{Histories}
 use Rattle.relay_session.specs.SeatState.{GoOn}
 use Rattle.relay_worker.specs.Benches.{WorkerState}
-use Rattle.relay_worker.specs.Filed.{Form, form_of, state_of}
+use Rattle.relay_worker.specs.Filed.{form_of, state_of}
+use Rattle.relay_worker.specs.declared.recorder.Form.{Form}
 use Rattle.relay_worker.specs.declared.recorder.Recorder.{Recorder}
 
 -- whose recorder it is, of which stream, and how it writes
@@ -19,13 +20,15 @@ abbrev pub label_of : {P K Q : Type 0} → Recorder P K Q → Label
 label_of r = record { who = (state_of r).seat.who; place = (state_of r).seat.place; form = form_of r }
 
 -- a port after calls of its own: nothing that was seen is forgotten, and passes that fitted still do
-pub record GoesAhead {P Q : Type 0} (fits : P → ℕ → Q → Type 0) (rules : P → PortRules) (root : P → Histories) (port port' : P) : Type 0 where
+pub record GoesAhead {P Q : Type 0} (fits : P → ℕ → Q → Type 0) (rules : P → PortRules) (root : P → Histories)
+    (port port' : P) : Type 0 where
   pub fixed : rules port' ≡ rules port
   pub roots : GoOn (root port) (root port')
   pub passes : (q : ℕ) (p : Q) → fits port q p → fits port' q p
 
 -- what a worker keeps while it runs: its number and its limits, what its port has seen, and its recorders
-pub record KeepsOn {P D K Q L : Type 0} (fits : P → ℕ → Q → Type 0) (rules : P → PortRules) (root : P → Histories) (w w' : WorkerState P D K Q L) : Type 0 where
+pub record KeepsOn {P D K Q L : Type 0} (fits : P → ℕ → Q → Type 0) (rules : P → PortRules) (root : P → Histories)
+    (w w' : WorkerState P D K Q L) : Type 0 where
   pub terms : w'.terms ≡ w.terms
   pub port : GoesAhead fits rules root w.bench.port w'.bench.port
   pub labels : map label_of w'.recorders ≡ map label_of w.recorders

@@ -61,7 +61,8 @@ pub record IsNewSession {Q : Type 0} (t : Terms) (had : ℕ) (s : SessionState Q
   pub stands : (desk : Ask → Grant) → StandsFor desk s
 
 -- ONE TURN of a session with its link, by the turn's own steps. One that has ended does nothing
-pub record TakesTurn {P Q L : Type 0} (asks : P → SeatState Q → ℕ → Entry → Made → P → SeatState Q → Type 0) (goes : P → SeatState Q → P → SeatState Q → Type 0)
+pub record TakesTurn {P Q L : Type 0} (asks : P → SeatState Q → ℕ → Entry → Made → P → SeatState Q → Type 0)
+    (goes : P → SeatState Q → P → SeatState Q → Type 0)
     (desk : Ask → Grant) (hears : L → ℕ → Came → L → Type 0) (says : L → List ℕ → Said → L → Type 0)
     (port : P) (s : Seated P L Q) (answer : Turn) (port' : P) (s' : Seated P L Q) : Type 0 where
   pub turn : EndedBy asks desk hears says s.session.ended s.session.quit (life_at s.session port) s.link answer (life_at s'.session port') s'.link
@@ -73,7 +74,8 @@ pub record TakesTurn {P Q L : Type 0} (asks : P → SeatState Q → ℕ → Entr
   pub calls : s'.session.parts.calls ≡ calls_of s'.session.seat.visits
 
 -- ONE CLOSE of a session that has ended
-pub record Closes {P Q : Type 0} (fits : P → ℕ → Q → Type 0) (rules : P → PortRules) (root : P → Histories) (seen : Q → List Step) (count : Q → ℕ) (wants : Entry → Type 0) (busies : P → ℕ)
+pub record Closes {P Q : Type 0} (fits : P → ℕ → Q → Type 0) (rules : P → PortRules) (root : P → Histories)
+    (seen : Q → List Step) (count : Q → ℕ) (wants : Entry → Type 0) (busies : P → ℕ)
     (port : P) (s : SessionState Q) (answer : Leaving) (port' : P) (s' : SessionState Q) : Type 0 where
   pub fit : HasFit (fits port') s'.seat.spot
   pub spot : place_of s'.seat.spot ≡ left_at answer (place_of s.seat.spot)

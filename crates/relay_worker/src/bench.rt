@@ -1,12 +1,13 @@
 //! What a worker has in hand: its port, its door, and its sessions with their links.
-ghost use Rattle.std.specs.Prelude.{◌≡◌, ◌≢◌, length, map, true, None, is_some};
+ghost use Rattle.std.specs.Prelude.{◌≡◌, ◌≢◌, All, length, map, true, None, is_some};
 ghost use Rattle.relay_session.specs.Onward.{GoesOn};
 ghost use Rattle.relay_session.specs.Places.{Asked, IsAt, IsOffered};
 ghost use Rattle.relay_session.specs.SeatState.{HasFit};
 ghost use Rattle.relay_session.specs.SessionState.{ended_by};
 ghost use Rattle.relay_worker.specs.Benches.{AreFiled, IsFiled, IsSound};
-ghost use Rattle.relay_worker.specs.Filed.{TakesTurn as FileTurn};
-ghost use Rattle.relay_worker.specs.Rounds.{AdmitsIf, ClosesAt, HandsBack, Recorded, RecordsAt, TurnsAt, Walks, WalksAll, answered, asks_door, has_left, is_starved, is_written, starves};
+ghost use Rattle.relay_worker.specs.Filed.{TakesTurn as FileTurn, Tallies};
+ghost use Rattle.relay_worker.specs.Rounds.{AdmitsIf, ClosesAt, HandsBack, Recorded, RecordsAt, TurnsAt, Walks, WalksAll};
+ghost use Rattle.relay_worker.specs.Rounds.{answered, asks_door, has_left, is_starved, is_written, starves};
 ghost use Rattle.relay_worker.specs.Running.{GoesAhead, label_of};
 ghost use Rattle.relay_worker.specs.Sessions.{Closes, TakesTurn, is_moved, is_spent, lacks_memory};
 
@@ -282,8 +283,8 @@ impl<P: StreamPort, D: Door> Bench<P, D> {
         requires offered { IsOffered (G.grants desk.now) (length (P.rules self.old.port).names) }
         ensures sound { IsSound P.fits P.rules D.told terms.now self.new }
         ensures ahead { GoesAhead P.fits P.rules P.root self.old.port self.new.port }
-        ensures turns { WalksAll (TurnsAt (TakesTurn (Asked P.fits P.rules P.root P.seen P.count P.wants P.busies) (GoesOn P.fits P.rules P.root P.seen P.busies)
-            (G.grants desk.now) D.Link.hears D.Link.says)) self.old self.new }
+        ensures turns { WalksAll (TurnsAt (TakesTurn (Asked P.fits P.rules P.root P.seen P.count P.wants P.busies)
+            (GoesOn P.fits P.rules P.root P.seen P.busies) (G.grants desk.now) D.Link.hears D.Link.says)) self.old self.new }
     {
         for key in 0..self.sessions.capacity() {
             self.turn_at(alloc, rest, desk, terms, key);
@@ -314,6 +315,7 @@ impl<P: StreamPort, D: Door> Bench<P, D> {
         ensures sound { IsSound P.fits P.rules D.told terms.now self.new }
         ensures ahead { GoesAhead P.fits P.rules P.root self.old.port self.new.port }
         ensures filed { IsFiled (P.fits self.new.port) (length (P.rules self.new.port).names) recorder.new }
+        ensures tallies { Tallies K.holds K.faults recorder.old → Tallies K.holds K.faults recorder.new }
         ensures records { Recorded (FileTurn P.fits P.rules P.root P.busies P.seen P.mine P.count K.takes K.holds) recorder.old self.old recorder.new self.new }
     {
         let _ = terms;
@@ -336,6 +338,7 @@ impl<P: StreamPort, D: Door> Bench<P, D> {
         ensures ahead { GoesAhead P.fits P.rules P.root self.old.port self.new.port }
         ensures filed { AreFiled P.fits P.rules self.new.port recorders.new }
         ensures labels { map label_of recorders.new ≡ map label_of recorders.old }
+        ensures tallies { All (Tallies K.holds K.faults) recorders.old → All (Tallies K.holds K.faults) recorders.new }
         ensures records { Walks (RecordsAt (FileTurn P.fits P.rules P.root P.busies P.seen P.mine P.count K.takes K.holds)) (length recorders.old)
             (self.old, recorders.old) (self.new, recorders.new) }
     {

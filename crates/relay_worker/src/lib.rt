@@ -11,7 +11,7 @@ mod worker;
 
 pub use bench::{Bench, Seated, Terms};
 pub use laws::settled_law;
-pub use recorder::{Parted, Recorder};
+pub use recorder::{Form, Parted, Recorder};
 pub use round::Round;
 pub use running::run_all;
 pub use worker::{Finished, Worker};

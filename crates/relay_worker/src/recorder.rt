@@ -6,11 +6,20 @@ ghost use Rattle.media_recorder.specs.Says.{Says};
 ghost use Rattle.media_recorder.specs.Seats.{StandIf};
 ghost use Rattle.media_recorder.specs.Taken.{taken};
 ghost use Rattle.media_recorder.specs.Turns.{Turns};
-ghost use Rattle.relay_worker.specs.Filed.{Leaves, form_of, sink_of, state_of, text_of};
+ghost use Rattle.relay_worker.specs.Filed.{Leaves, Tallies, form_of, sink_of, state_of, text_of};
 
 use media_recorder::{FlvRecorder, Leaving, RecEnd, RecTurn, TsRecorder};
 use relay_outside::Sink;
 use stream_registry::StreamPort;
+
+/// How a recording is written.
+#[derive(Clone, Copy, Debug, PartialEq, Eq)]
+pub enum Form {
+    /// As FLV.
+    Flv,
+    /// As a transport stream.
+    Ts,
+}
 
 /// A recorder with the file that it writes.
 #[derive(Drop)]
@@ -33,6 +42,26 @@ pub enum Parted<P: StreamPort, K: Sink> {
 }
 
 impl<P: StreamPort, K: Sink> Recorder<P, K> {
+    /// The place of its stream.
+    pub fn place(&self) -> u32
+        ensures { result ≡ (state_of self.now).seat.place }
+    {
+        match self {
+            Recorder::Flv(recorder, _) => recorder.place(),
+            Recorder::Ts(recorder, _) => recorder.place(),
+        }
+    }
+
+    /// How it writes.
+    pub fn form(&self) -> Form
+        ensures { result ≡ form_of self.now }
+    {
+        match self {
+            Recorder::Flv(_, _) => Form::Flv,
+            Recorder::Ts(_, _) => Form::Ts,
+        }
+    }
+
     /// What the file took and what is pending are the text of the items that the recorder's Takes were sent, or a beginning
     /// of it where there was no memory. Its calls stand in the stream's history.
     pub fn law(&self)
@@ -65,6 +94,7 @@ impl<P: StreamPort, K: Sink> Recorder<P, K> {
         ensures turn { Turns P.rules P.root P.busies P.seen P.mine P.count K.takes (state_of self.old).end port.old port.new
             (sink_of self.old) (sink_of self.new) (state_of self.old) result (state_of self.new) }
         ensures took { K.holds (sink_of self.old) ≡ Some (state_of self.old).tape.sent → K.holds (sink_of self.new) ≡ Some (state_of self.new).tape.sent }
+        ensures tallies { Tallies K.holds K.faults self.old → Tallies K.holds K.faults self.new }
         ensures says { Says P.mine (P.root port.old (state_of self.old).seat.place) (P.busies port.old) (P.busies port.new) result (state_of self.new) }
     {
         match self {

@@ -1,5 +1,5 @@
 //! A worker.
-ghost use Rattle.std.specs.Prelude.{◌≡◌, ◌≤◌, ◌<◌, ◌^◌, [], ◌∷◌, ◌++◌, ℕ, List, length, false, IfOk, OnOk, OnErr};
+ghost use Rattle.std.specs.Prelude.{◌≡◌, ◌≤◌, ◌<◌, ◌^◌, [], ◌∷◌, ◌++◌, ℕ, List, All, length, false, IfOk, OnOk, OnErr};
 ghost use Rattle.command_dialog.specs.declared.types.Ask.{Ask};
 ghost use Rattle.command_dialog.specs.declared.types.Grant.{Grant};
 ghost use Rattle.slab.specs.Slab.{slab_len};
@@ -11,7 +11,7 @@ ghost use Rattle.relay_session.specs.Onward.{GoesOn};
 ghost use Rattle.relay_session.specs.Places.{Asked, IsOffered};
 ghost use Rattle.relay_worker.specs.Benches.{AreFiled, IsFiled, IsSound};
 ghost use Rattle.relay_worker.specs.Books.{HasBooks, Settled};
-ghost use Rattle.relay_worker.specs.Filed.{TakesTurn as FileTurn};
+ghost use Rattle.relay_worker.specs.Filed.{TakesTurn as FileTurn, Tallies};
 ghost use Rattle.relay_worker.specs.Rounds.{Rounds};
 ghost use Rattle.relay_worker.specs.Running.{HasRun, KeepsOn};
 ghost use Rattle.relay_worker.specs.Sessions.{Closes, TakesTurn};
@@ -80,7 +80,7 @@ impl<P: StreamPort, D: Door, R: Rest, K: Sink> Worker<P, D, R, K> {
         ensures door { IfOk result (λ w. w.bench.door ≡ door) }
         ensures none { IfOk result (λ w. (slab_len w.bench.sessions ≡ 0) × (w.recorders ≡ [])) }
         ensures whole { IfOk result (λ w. w.bench.refused ≡ false) }
-        ensures books { IfOk result (λ w. (desk : Ask → Grant) → HasBooks P.rules P.root P.seen D.Link.told D.told desk w) }
+        ensures books { IfOk result (λ w. (desk : Ask → Grant) → HasBooks P.rules P.root P.seen D.Link.told D.Link.counts D.told desk w) }
     {
         let Ok(sessions) = Slab::with_capacity(alloc, links as usize) else {
             return Err(OutOfMemory);
@@ -146,8 +146,9 @@ impl<P: StreamPort, D: Door, R: Rest, K: Sink> Worker<P, D, R, K> {
             (Closes P.fits P.rules P.root P.seen P.count P.wants P.busies)
             (FileTurn P.fits P.rules P.root P.busies P.seen P.mine P.count K.takes K.holds) self.old result self.new }
         ensures keeps { KeepsOn P.fits P.rules P.root self.old self.new }
-        ensures books { HasBooks P.rules P.root P.seen D.Link.told D.told (G.grants desk.now) self.old
-            → HasBooks P.rules P.root P.seen D.Link.told D.told (G.grants desk.now) self.new }
+        ensures tallies { All (Tallies K.holds K.faults) self.old.recorders → All (Tallies K.holds K.faults) self.new.recorders }
+        ensures books { HasBooks P.rules P.root P.seen D.Link.told D.Link.counts D.told (G.grants desk.now) self.old
+            → HasBooks P.rules P.root P.seen D.Link.told D.Link.counts D.told (G.grants desk.now) self.new }
     {
         link_law::<D::Link>();
         self.bench.moved = false;
@@ -166,8 +167,9 @@ impl<P: StreamPort, D: Door, R: Rest, K: Sink> Worker<P, D, R, K> {
         requires offered { IsOffered (G.grants desk.now) (length (P.rules self.old.bench.port).names) }
         ensures keeps { KeepsOn P.fits P.rules P.root self.old self.new }
         ensures run { HasRun D.told self.new }
-        ensures books { HasBooks P.rules P.root P.seen D.Link.told D.told (G.grants desk.now) self.old
-            → HasBooks P.rules P.root P.seen D.Link.told D.told (G.grants desk.now) self.new }
+        ensures tallies { All (Tallies K.holds K.faults) self.old.recorders → All (Tallies K.holds K.faults) self.new.recorders }
+        ensures books { HasBooks P.rules P.root P.seen D.Link.told D.Link.counts D.told (G.grants desk.now) self.old
+            → HasBooks P.rules P.root P.seen D.Link.told D.Link.counts D.told (G.grants desk.now) self.new }
     {
         for _ in rt.forever() {
             let round = self.round(desk);
@@ -190,7 +192,7 @@ impl<P: StreamPort, D: Door, R: Rest, K: Sink> Worker<P, D, R, K> {
         ensures recorders { result.recorders.items ≡ self.recorders }
         ensures filed { AreFiled P.fits P.rules result.port result.recorders.items }
         ensures refused { result.refused ≡ self.bench.refused }
-        ensures books { (desk : Ask → Grant) → HasBooks P.rules P.root P.seen D.Link.told D.told desk self
+        ensures books { (desk : Ask → Grant) → HasBooks P.rules P.root P.seen D.Link.told D.Link.counts D.told desk self
             → Settled desk self.terms (P.rules result.port).limits (P.root result.port) (D.told result.door) result.refused }
     {
         let Worker {

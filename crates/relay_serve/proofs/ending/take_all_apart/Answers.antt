@@ -43,7 +43,7 @@ loop-worker-preserved g c =
         i.all,
       );
       rest = λ desk limits k n. (
-        (All-pop (IsKept desk limits g.D.Link.Link.told g.D.Door.told) c.loop-worker.workers.items c.pop.new.self.items (Some c.in-Some.worker) c.in-Some.ensures.items (i.rest desk limits k n).0).0,
+        (All-pop (IsKept desk limits g.D.Link.Link.told g.D.Link.Link.counts g.D.Door.told) c.loop-worker.workers.items c.pop.new.self.items (Some c.in-Some.worker) c.in-Some.ensures.items (i.rest desk limits k n).0).0,
         (numbered_pop c.loop-worker.workers.items c.pop.new.self.items c.in-Some.worker c.in-Some.ensures.items (i.rest desk limits k n).1).0,
       );
       balanced = λ desk limits k n r.
@@ -51,7 +51,7 @@ loop-worker-preserved g c =
           let l = told_at c.take_apart-left.new.first.roots in
           let streams = (shared_rules c.args.first.now).limits in
           let both = or_false c.loop-worker.refused c.take_apart-left.result.1 r in
-          let one = (All-pop (IsKept desk limits g.D.Link.Link.told g.D.Door.told) c.loop-worker.workers.items c.pop.new.self.items (Some c.in-Some.worker) c.in-Some.ensures.items (i.rest desk limits k n).0).1 in
+          let one = (All-pop (IsKept desk limits g.D.Link.Link.told g.D.Link.Link.counts g.D.Door.told) c.loop-worker.workers.items c.pop.new.self.items (Some c.in-Some.worker) c.in-Some.ensures.items (i.rest desk limits k n).0).1 in
           let number = (numbered_pop c.loop-worker.workers.items c.pop.new.self.items c.in-Some.worker c.in-Some.ensures.items (i.rest desk limits k n).1).1 in
           let new = c.take_apart-left.ensures.balanced desk limits one (omega (arith, number, c.pop.new.self.ok.0)) both.1 in
           All-same (λ x. IsBalanced desk limits streams l x.number (g.D.Door.told x.door)) _ _ pushed

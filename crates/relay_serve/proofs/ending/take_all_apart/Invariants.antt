@@ -21,9 +21,9 @@ invariant-loop-worker g l = record {
   rules : shared_rules l.first ≡ shared_rules l.fn.first;
   grown : Later (told_at l.fn.first.roots) (told_at l.first.roots);
   all : length l.list.items + length l.workers.items ≡ length l.fn.workers.items;
-  rest : (desk : Ask → Grant) (limits : Limits) → All (IsKept desk limits g.D.Link.Link.told g.D.Door.told) l.fn.workers.items → AreNumbered l.fn.workers.items
-      → All (IsKept desk limits g.D.Link.Link.told g.D.Door.told) l.workers.items × AreNumbered l.workers.items;
-  balanced : (desk : Ask → Grant) (limits : Limits) → All (IsKept desk limits g.D.Link.Link.told g.D.Door.told) l.fn.workers.items → AreNumbered l.fn.workers.items
+  rest : (desk : Ask → Grant) (limits : Limits) → All (IsKept desk limits g.D.Link.Link.told g.D.Link.Link.counts g.D.Door.told) l.fn.workers.items → AreNumbered l.fn.workers.items
+      → All (IsKept desk limits g.D.Link.Link.told g.D.Link.Link.counts g.D.Door.told) l.workers.items × AreNumbered l.workers.items;
+  balanced : (desk : Ask → Grant) (limits : Limits) → All (IsKept desk limits g.D.Link.Link.told g.D.Link.Link.counts g.D.Door.told) l.fn.workers.items → AreNumbered l.fn.workers.items
       → l.refused ≡ false
       → All (λ x. IsBalanced desk limits (shared_rules l.fn.first).limits (told_at l.first.roots) x.number (g.D.Door.told x.door)) l.list.items;
 }

@@ -53,10 +53,10 @@ returns-clause-kept g c = λ limits all.
     let long : length xs ≡ c.args.workers.len = search rules in
     let same : c.as_mut_slice.result.now ≡ c.args.workers.items = search rules in
     let desk = granted_from 0 c.new-desk.result.list.now in
-    let old = subst (All (IsKept desk limits g.D.Link.Link.told g.D.Door.told)) (sym same) (all desk) in
-    let kept : All (IsKept desk limits g.D.Link.Link.told g.D.Door.told) xs = λ i d l.
+    let old = subst (All (IsKept desk limits g.D.Link.Link.told g.D.Link.Link.counts g.D.Door.told)) (sym same) (all desk) in
+    let kept : All (IsKept desk limits g.D.Link.Link.told g.D.Link.Link.counts g.D.Door.told) xs = λ i d l.
     let m : i < length c.as_mut_slice.result.now = omega (arith, long, ap length same, c.args.workers.ok.0, l) in
     let o = old i d m in
     record { limited = ap (λ (t : Terms). t.limits) (c.run_all.ensures.keeps i d m).terms ∙ o.limited; books = c.run_all.ensures.books i d m o.books } in
-    subst (All (IsKept (granted_from 0 c.args.list.now) limits g.D.Link.Link.told g.D.Door.told)) (sym (kept_all c.args.workers.len xs _ long))
-    (subst (λ (l : List PlaceRule). All (IsKept (granted_from 0 l) limits g.D.Link.Link.told g.D.Door.told) xs) c.new-desk.ensures kept)
+    subst (All (IsKept (granted_from 0 c.args.list.now) limits g.D.Link.Link.told g.D.Link.Link.counts g.D.Door.told)) (sym (kept_all c.args.workers.len xs _ long))
+    (subst (λ (l : List PlaceRule). All (IsKept (granted_from 0 l) limits g.D.Link.Link.told g.D.Link.Link.counts g.D.Door.told) xs) c.new-desk.ensures kept)

@@ -29,8 +29,8 @@ loop-port-preserved g c =
       count = omega (arith, popped _ _ _ pushed, popped c.loop-port.ports.items c.pop.new.self.items c.in-Some.port c.in-Some.ensures.items, i.count);
       numbered = subst (λ l. AreNumbered l) (sym pushed)
           (numbered_push c.loop-port.workers.items c.in_ok-worker.worker i.numbered (omega (arith, c.in_ok-worker.ensures.number, c.loop-port.workers.ok.0)));
-      kept = λ desk. All-same (IsKept desk c.args.config.now.limits g.H.Door.Link.Link.told g.H.Door.Door.told) _ _ pushed
-          (All-push (IsKept desk c.args.config.now.limits g.H.Door.Link.Link.told g.H.Door.Door.told) c.loop-port.workers.items c.in_ok-worker.worker (i.kept desk)
+      kept = λ desk. All-same (IsKept desk c.args.config.now.limits g.H.Door.Link.Link.told g.H.Door.Link.Link.counts g.H.Door.Door.told) _ _ pushed
+          (All-push (IsKept desk c.args.config.now.limits g.H.Door.Link.Link.told g.H.Door.Link.Link.counts g.H.Door.Door.told) c.loop-port.workers.items c.in_ok-worker.worker (i.kept desk)
           (c.in_ok-worker.ensures.kept desk));
       house = c.in_ok-worker.ensures.house ∙ i.house;
     }

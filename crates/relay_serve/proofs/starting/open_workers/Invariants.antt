@@ -14,7 +14,7 @@ invariant-loop-port g l = record {
   workers : All (λ x. HasRules (shared_rules l.first) x.bench.port) l.workers.items;
   count : length l.workers.items + length l.ports.items ≡ length l.fn.ports.items;
   numbered : AreNumbered l.workers.items;
-  kept : (desk : Ask → Grant) → All (IsKept desk l.config.limits g.H.Door.Link.Link.told g.H.Door.Door.told) l.workers.items;
+  kept : (desk : Ask → Grant) → All (IsKept desk l.config.limits g.H.Door.Link.Link.told g.H.Door.Link.Link.counts g.H.Door.Door.told) l.workers.items;
   house : g.H.House.told l.house ≡ g.H.House.told l.fn.house;
 }
 

@@ -17,8 +17,11 @@ returns-clause-run g c = λ i d l. let t = (c.for_each_mut.ensures i d (subst (�
 pub returns-clause-keeps : goal.returns-clause-keeps
 returns-clause-keeps g c = λ i d l. let t = (c.for_each_mut.ensures i d l).1 in rw (← t.argument_is, ← t.left) t.call.1
 
+pub returns-clause-tallies : goal.returns-clause-tallies
+returns-clause-tallies g c = λ i d l. let t = (c.for_each_mut.ensures i d l).1 in rw (← t.argument_is, ← t.left) t.call.2
+
 pub returns-clause-books : goal.returns-clause-books
-returns-clause-books g c = λ i d l. let t = (c.for_each_mut.ensures i d l).1 in rw (← t.argument_is, ← t.left) t.call.2
+returns-clause-books g c = λ i d l. let t = (c.for_each_mut.ensures i d l).1 in rw (← t.argument_is, ← t.left) t.call.3
 
 pub for_each_mut-requires-clause-accepts : goal.for_each_mut-requires-clause-accepts
 for_each_mut-requires-clause-accepts g c κs within = λ i p l e.

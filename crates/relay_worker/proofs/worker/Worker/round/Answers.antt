@@ -1,8 +1,9 @@
 use Rattle.std.proofs.Common.{◌≡◌, ◌∙◌, ap, arith, length, map, refl, subst, sym}
+use Rattle.std.specs.Prelude.{All}
 use Rattle.std.proofs.lemmas.List.Elements.{All-same}
 use Rattle.relay_worker.specs.Benches.{IsFiled, IsSound}
 use Rattle.relay_worker.specs.Books.{Works}
-use Rattle.relay_worker.specs.Filed.{TakesTurn, state_of}
+use Rattle.relay_worker.specs.Filed.{TakesTurn, Tallies, state_of}
 use Rattle.relay_worker.specs.Running.{label_of}
 use Rattle.relay_worker.proofs.Booking.{round_works}
 use Rattle.relay_worker.proofs.Sounding.{ahead_serves, ahead_trans, keeps_at, kept, records_at, rounds_at}
@@ -51,6 +52,16 @@ returns-clause-keeps g c =
       labels = ap (map label_of) (kept c.self.inside.recorders.len new items a c.self.inside.recorders.ok.0) ∙ (c.record_all.ensures.labels ∙ ap (map label_of) c.as_mut_slice.ensures.value);
     })
 
+pub returns-clause-tallies : goal.returns-clause-tallies
+returns-clause-tallies g c was =
+    let new = c.record_all.new.recorders in
+    let items = c.self.inside.recorders.items in
+    let a : length new ≡ length items = omega (arith, c.record_all.auto.recorders, ap length c.as_mut_slice.ensures.value) in
+    let tally = Tallies g.K.Sink.holds g.K.Sink.faults in
+    let old = subst (λ v. All tally v.recorders) (sym c.self.view_is) was in
+    All-same tally _ new (kept c.self.inside.recorders.len new items a c.self.inside.recorders.ok.0)
+    (c.record_all.ensures.tallies (All-same tally c.as_mut_slice.result.now items c.as_mut_slice.ensures.value old))
+
 pub returns-clause-books : goal.returns-clause-books
 returns-clause-books g c works =
     let fits = g.P.StreamPort.fits in
@@ -61,7 +72,7 @@ returns-clause-books g c works =
     let files = TakesTurn fits rules root g.P.StreamPort.busies g.P.StreamPort.seen g.P.StreamPort.mine g.P.StreamPort.count g.K.Sink.takes g.K.Sink.holds in
     let r = returns-clause-rounds g c in
     let sound = subst (λ v. IsSound fits rules g.D.Door.told v.terms v.bench) c.self.view_is c.self.invariant.0 in
-    subst (λ t. Works rules root g.P.StreamPort.seen g.D.Link.Link.told g.D.Door.told desk t c.record_all.new.self) (sym r.terms)
+    subst (λ t. Works rules root g.P.StreamPort.seen g.D.Link.Link.told g.D.Link.Link.counts g.D.Door.told desk t c.record_all.new.self) (sym r.terms)
     (round_works rules root g.P.StreamPort.seen g.D.Link.Link.told g.D.Link.Link.counts g.D.Door.told desk w.terms fits g.P.StreamPort.count g.P.StreamPort.wants g.P.StreamPort.busies files
     (λ x q a y q' k. let s = ahead_serves fits rules root g.P.StreamPort.busies (state_of q).seat.place x y k.serves in (s.fixed, s.roots))
     g.D.Link.Link.hears c.link_law.ensures.heard g.D.Link.Link.says c.link_law.ensures.said fits w _ c.round.result refl sound r works)

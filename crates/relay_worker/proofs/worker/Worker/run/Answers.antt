@@ -1,6 +1,8 @@
 use Rattle.std.proofs.Common.{ap, length, subst, sym}
+use Rattle.std.specs.Prelude.{All}
 use Rattle.stream_registry.specs.Names.{PortRules}
 use Rattle.relay_worker.specs.Books.{HasBooks}
+use Rattle.relay_worker.specs.Filed.{Tallies}
 use Rattle.relay_worker.specs.Running.{KeepsOn}
 use Rattle.relay_worker.proofs.Sounding.{has_run, keeps_trans, offered_on}
 use Rattle.relay_worker.proofs.worker.Worker.run.Goals as goal
@@ -18,6 +20,7 @@ loop-preserved g c =
     record {
       offered = offered_on (g.G.Desk.grants c.args.desk.now) (length (g.P.StreamPort.rules c.loop.self.bench.port).names) (length (g.P.StreamPort.rules c.round-round.new.self.bench.port).names) (ap (λ (r : PortRules). length r.names) e.port.fixed) c.loop.invariant.offered;
       keeps = keeps_trans g.P.StreamPort.fits g.P.StreamPort.rules g.P.StreamPort.root c.args.self.now c.loop.self c.round-round.new.self c.loop.invariant.keeps e;
+      tallies = λ t. c.round-round.ensures.tallies (c.loop.invariant.tallies t);
       books = λ b. c.round-round.ensures.books (c.loop.invariant.books b);
     }
 
@@ -29,9 +32,13 @@ loop-preserved-then-not-round g c =
           (offered_on (g.G.Desk.grants c.args.desk.now) (length (g.P.StreamPort.rules c.loop.self.bench.port).names) (length (g.P.StreamPort.rules c.round-round.new.self.bench.port).names) (ap (λ (r : PortRules). length r.names) e.port.fixed) c.loop.invariant.offered);
       keeps = subst (λ w. KeepsOn g.P.StreamPort.fits g.P.StreamPort.rules g.P.StreamPort.root c.args.self.now w) (sym c.pause.ensures)
           (keeps_trans g.P.StreamPort.fits g.P.StreamPort.rules g.P.StreamPort.root c.args.self.now c.loop.self c.round-round.new.self c.loop.invariant.keeps e);
-      books = λ b. subst (λ w. HasBooks g.P.StreamPort.rules g.P.StreamPort.root g.P.StreamPort.seen g.D.Link.Link.told g.D.Door.told (g.G.Desk.grants c.args.desk.now) w) (sym c.pause.ensures)
+      tallies = λ t. subst (λ w. All (Tallies g.K.Sink.holds g.K.Sink.faults) w.recorders) (sym c.pause.ensures) (c.round-round.ensures.tallies (c.loop.invariant.tallies t));
+      books = λ b. subst (λ w. HasBooks g.P.StreamPort.rules g.P.StreamPort.root g.P.StreamPort.seen g.D.Link.Link.told g.D.Link.Link.counts g.D.Door.told (g.G.Desk.grants c.args.desk.now) w) (sym c.pause.ensures)
           (c.round-round.ensures.books (c.loop.invariant.books b));
     }
 
 pub returns-then-round-eq0-clause-books : goal.returns-then-round-eq0-clause-books
 returns-then-round-eq0-clause-books g c b = c.round-round.ensures.books (c.loop.invariant.books b)
+
+pub returns-then-round-eq0-clause-tallies : goal.returns-then-round-eq0-clause-tallies
+returns-then-round-eq0-clause-tallies g c t = c.round-round.ensures.tallies (c.loop.invariant.tallies t)
