@@ -31,3 +31,6 @@ mod words;
 
 pub use checks::check;
 pub use remuxes::remux;
+
+#[cfg(test)]
+mod tests;
