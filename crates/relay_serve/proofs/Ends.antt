@@ -11,21 +11,22 @@ use Rattle.relay_serve.specs.declared.starting.OpenFail.TheVariants as opened
 use Rattle.relay_serve.specs.Ends.{EndsAs, HouseCause, Outer, RefusesAs, RunsAs, seen, unopened_as}
 use Rattle.relay_serve.specs.Taking.{TakesText}
 use Rattle.relay_outside.specs.Houses.{HouseTold}
+use Rattle.stream_registry.specs.Told.{Histories}
 
-pub runs_unopened : (config : Config) (held : Option (List ℕ)) (faults : ℕ) (house house' : HouseTold) (cause : OpenFail)
-    → HouseCause cause house house' → RunsAs config (seen held faults house) (seen held faults house') (unopened_as cause)
-runs_unopened config held faults house house' opened.HouseFault h = (h, refl, refl)
-runs_unopened config held faults house house' opened.OutOfMemory h = (refl, ap (λ (x : HouseTold). x.faults) h)
+pub runs_unopened : (config : Config) (histories : Histories) (held : Option (List ℕ)) (faults : ℕ) (house house' : HouseTold) (cause : OpenFail)
+    → HouseCause cause house house' → RunsAs config histories (seen held faults house) (seen held faults house') (unopened_as cause)
+runs_unopened config histories held faults house house' opened.HouseFault h = (h, refl, refl)
+runs_unopened config histories held faults house house' opened.OutOfMemory h = (refl, ap (λ (x : HouseTold). x.faults) h)
 
 pub ends_accepted : (old new : Outer) (ending : Ending) (bytes : List ℕ) (config : Config) → new.source_faults ≡ old.source_faults
-    → TakesText old.left new.left bytes → Accepts bytes config → RunsAs config old.out new.out ending → EndsAs true old new ending
-ends_accepted old new end.Served bytes config s t a r = (refl, s, record { bytes = bytes; taken = t; config = config; accepts = a; runs = r })
-ends_accepted old new end.SinkFault bytes config s t a r = (refl, s, record { bytes = bytes; taken = t; config = config; accepts = a; runs = r })
-ends_accepted old new end.HouseFault bytes config s t a r = (refl, s, record { bytes = bytes; taken = t; config = config; accepts = a; runs = r })
-ends_accepted old new end.OutOfMemory bytes config s t a r = (refl, s, r.0, r.1)
-ends_accepted old new end.BadWords bytes config s t a r = absurd r
-ends_accepted old new end.SourceFault bytes config s t a r = absurd r
-ends_accepted old new end.Refused bytes config s t a r = absurd r
+    → TakesText old.left new.left bytes → Accepts bytes config → (histories : Histories) × RunsAs config histories old.out new.out ending → EndsAs true old new ending
+ends_accepted old new end.Served bytes config s t a r = (refl, s, record { bytes = bytes; taken = t; config = config; accepts = a; histories = r.0; runs = r.1 })
+ends_accepted old new end.SinkFault bytes config s t a r = (refl, s, record { bytes = bytes; taken = t; config = config; accepts = a; histories = r.0; runs = r.1 })
+ends_accepted old new end.HouseFault bytes config s t a r = (refl, s, record { bytes = bytes; taken = t; config = config; accepts = a; histories = r.0; runs = r.1 })
+ends_accepted old new end.OutOfMemory bytes config s t a r = (refl, s, r.1.0, r.1.1)
+ends_accepted old new end.BadWords bytes config s t a r = absurd r.1
+ends_accepted old new end.SourceFault bytes config s t a r = absurd r.1
+ends_accepted old new end.Refused bytes config s t a r = absurd r.1
 
 cause_is : (cause : ConfigFail) (bytes : List ℕ) → cause ≢ fail.OutOfMemory → (cause ≡ fail.OutOfMemory) ⊎ (refusal bytes ≡ Some cause) → refusal bytes ≡ Some cause
 cause_is cause bytes n (inl e) = absurd (n e)

@@ -12,7 +12,9 @@ use Rattle.stream_registry.specs.Roots.{gates}
 use Rattle.stream_registry.specs.SharedState.{Streams, shared_rules}
 use Rattle.stream_registry.specs.declared.desk.Site.{Site}
 use Rattle.relay_worker.specs.declared.recorder.Recorder.{Recorder}
-use Rattle.relay_worker.specs.Filed.{state_of}
+use Rattle.relay_worker.specs.Filed.{form_of, state_of}
+use Rattle.relay_worker.specs.Running.{Label, label_of}
+use Rattle.relay_worker.specs.declared.recorder.Form.{Form}
 use Rattle.relay_worker.specs.Benches.{IsFiled}
 use Rattle.std.proofs.lemmas.List.Elements.{All-weaker}
 use Rattle.std.specs.Prelude.{All, List}
@@ -30,7 +32,16 @@ same_rules names ids p q a b =
     ap (λ (n : List Name). record { names = n; limits = λ place. limits_of (slice_get (gates p.roots) place); gates = gates p.roots }) (a.names_are ∙ sym b.names_are)
     ∙ ap (λ (h : List (GateId Site)). record { names = q.names; limits = λ place. limits_of (slice_get h place); gates = h }) (a.gates_are ∙ sym b.gates_are)
 
+abbrev label : ℕ → ℕ → Form → Label
+label who place form = record { who = who; place = place; form = form }
+
 module _ {K : Type 0} where
+  pub label_same : (r s : Recorder Streams K (PassKnown Site Attempt)) → (state_of s).seat.who ≡ (state_of r).seat.who
+      → (state_of s).seat.place ≡ (state_of r).seat.place → form_of s ≡ form_of r → label_of s ≡ label_of r
+  label_same r s who place form =
+      ap (λ (n : ℕ). label n (state_of s).seat.place (form_of s)) who
+      ∙ (ap (λ (n : ℕ). label (state_of r).seat.who n (form_of s)) place ∙ ap (label (state_of r).seat.who (state_of r).seat.place) form)
+
   pub there_at : (rules : PortRules) (port : Streams) (r : Recorder Streams K (PassKnown Site Attempt)) → HasRules rules port → IsFiledBy rules r
       → (state_of r).seat.place < length (shared_rules port).names
   there_at rules port r e f = subst (λ (q : PortRules). (state_of r).seat.place < length q.names) (sym e) f.there

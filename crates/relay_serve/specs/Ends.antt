@@ -1,6 +1,7 @@
 -- How `serve` ends
 use Rattle.std.specs.Prelude.{◌≡◌, ◌≢◌, ◌<◌, ◌⊎◌, ℕ, Bool, true, false, List, Option, Some, length, map}
 use Rattle.std.specs.Io.KnownBytes.{append_known}
+use Rattle.std.specs.List.{range_with_len}
 use Rattle.relay_base.specs.declared.limits.Status.{Status}
 use Rattle.relay_config.specs.declared.config.Config.{Config}
 use Rattle.relay_config.specs.declared.config.ConfigFail.{ConfigFail}
@@ -21,11 +22,13 @@ use Rattle.relay_serve.specs.Taking.{TakesText}
 use Rattle.relay_serve.specs.Texts.{WritesPart, lines_from}
 use Rattle.relay_serve.specs.Counts.{counted_if}
 use Rattle.relay_serve.specs.Lasts.{AllEnd}
-use Rattle.relay_serve.specs.Settling.{IsShut, ShutsMore}
-use Rattle.relay_session.specs.Grants.{granted_from}
+use Rattle.relay_serve.specs.Recorded.{IsRecorded}
+use Rattle.relay_serve.specs.Recordings.{recordings_upto}
+use Rattle.relay_serve.specs.Settling.{IsShut, TellsMore}
 use Rattle.stream_model.specs.declared.calls.StreamLimits.{StreamLimits}
 use Rattle.relay_serve.specs.Places.{limits_in}
 use Rattle.relay_serve.specs.declared.counting.Counts.{Counts}
+use Rattle.stream_registry.specs.Roots.{Later}
 use Rattle.stream_registry.specs.Told.{Histories}
 
 -- ---- why a part fails
@@ -71,30 +74,35 @@ abbrev pub WritesOrFails : List ℕ → Option (List ℕ) → ℕ → Option (Li
 WritesOrFails text held faults held' faults' = ((held' ≡ append_known held text) × (faults' ≡ faults))
     ⊎ (WritesPart text held held' × Rose faults faults')
 
--- the report has a line for each stream, which tells what the last call of its history was answered: the server's own Count.
--- Each reply of that history is the one that the rules give after the calls before it
-pub record Reports (config : Config) (old new : Seen) : Type 0 where
+-- WHAT IS SEEN WHERE ALL WERE SERVED, by the streams' histories at the end: the report, the doors that were shut and the files that were kept
+pub record Reports (config : Config) (histories : Histories) (old new : Seen) : Type 0 where
   pub counts : List (Option Counts)
   pub each : length counts ≡ length config.places
   pub written : new.held ≡ append_known old.held (lines_from 0 (map counted_if counts))
   pub streams : ℕ → StreamLimits
   pub limited : (place : ℕ) → place < length config.places → streams place ≡ limits_in config
-  pub histories : Histories
+  -- the line of a stream tells what the last call of its history was answered: the server's own Count. Each reply of that
+  -- history is the one that the rules give after the calls before it
   pub last : AllEnd streams counts histories
+  -- the histories once no session lived any more
+  pub joined : Histories
+  pub later : Later joined histories
   -- each worker's door was shut, and what its links were sent is what they were owed
-  pub shut : ShutsMore (IsShut (granted_from 0 config.places) config.limits streams histories) config.workers old.house.shut new.house.shut
+  pub shut : TellsMore (IsShut config streams joined) (range_with_len 0 config.workers) old.house.shut new.house.shut
+  -- the file of each recording was kept, and holds what its recorder was sent
+  pub kept : TellsMore (IsRecorded streams joined histories config.places) (recordings_upto config config.workers) old.house.kept new.house.kept
 
--- HOW A CONFIGURATION THAT IS ACCEPTED IS SERVED
-abbrev pub RunsAs : Config → Seen → Seen → Ending → Type 0
-RunsAs config old new end.Served = Reports config old new × (new.sink_faults ≡ old.sink_faults)
+-- HOW A CONFIGURATION THAT IS ACCEPTED IS SERVED, by the streams' histories at the end
+abbrev pub RunsAs : Config → Histories → Seen → Seen → Ending → Type 0
+RunsAs config histories old new end.Served = Reports config histories old new × (new.sink_faults ≡ old.sink_faults)
     × (new.house.faults ≡ old.house.faults)
-RunsAs config old new end.SinkFault = Rose old.sink_faults new.sink_faults × (new.house.faults ≡ old.house.faults)
-RunsAs config old new end.HouseFault = Refuses old.house new.house × (new.held ≡ old.held)
+RunsAs config histories old new end.SinkFault = Rose old.sink_faults new.sink_faults × (new.house.faults ≡ old.house.faults)
+RunsAs config histories old new end.HouseFault = Refuses old.house new.house × (new.held ≡ old.held)
     × (new.sink_faults ≡ old.sink_faults)
-RunsAs config old new end.OutOfMemory = (new.sink_faults ≡ old.sink_faults) × (new.house.faults ≡ old.house.faults)
-RunsAs config old new end.BadWords = ⊥
-RunsAs config old new end.SourceFault = ⊥
-RunsAs config old new end.Refused = ⊥
+RunsAs config histories old new end.OutOfMemory = (new.sink_faults ≡ old.sink_faults) × (new.house.faults ≡ old.house.faults)
+RunsAs config histories old new end.BadWords = ⊥
+RunsAs config histories old new end.SourceFault = ⊥
+RunsAs config histories old new end.Refused = ⊥
 
 -- how it ends where nobody can be served
 abbrev pub unopened_as : OpenFail → Ending
@@ -126,7 +134,8 @@ pub record Accepted (old new : Outer) (ending : Ending) : Type 0 where
   pub taken : TakesText old.left new.left bytes
   pub config : Config
   pub accepts : Accepts bytes config
-  pub runs : RunsAs config old.out new.out ending
+  pub histories : Histories
+  pub runs : RunsAs config histories old.out new.out ending
 
 -- HOW `serve` ENDS, where `asked` says whether the words ask for it
 abbrev pub EndsAs : Bool → Outer → Outer → Ending → Type 0

@@ -5,5 +5,7 @@ pub mod Places
 pub mod Starts
 pub mod Counts
 pub mod Lasts
+pub mod Recordings
+pub mod Recorded
 pub mod Settling
 pub mod Ends

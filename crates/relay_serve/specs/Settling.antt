@@ -1,58 +1,87 @@
 -- What the doors that were shut tell of their links
-use Rattle.std.specs.Prelude.{◌≡◌, ◌<◌, ℕ, false, List, ◌++◌, length, All, slice_index_or, Option, Some}
-use Rattle.command_dialog.specs.declared.types.Ask.{Ask}
-use Rattle.command_dialog.specs.declared.types.Grant.{Grant}
-use Rattle.relay_base.specs.declared.limits.Limits.{Limits}
-use Rattle.relay_outside.specs.Doors.{DoorTold}
+use Rattle.std.specs.Prelude.{◌≡◌, ◌<◌, ℕ, false, List, ◌++◌, length, map, All, slice_index_or, Option, Some}
+use Rattle.std.specs.List.{AllZip}
+use Rattle.relay_config.specs.declared.config.Config.{Config}
+use Rattle.relay_outside.specs.Doors.{DoorTold, IsDone}
 use Rattle.relay_outside.specs.Houses.{Shut, shut_door}
 use Rattle.relay_outside.specs.Told.{LinkCounts, LinkTold}
+use Rattle.relay_session.specs.Grants.{granted_from}
 use Rattle.relay_worker.specs.Benches.{WorkerState}
 use Rattle.relay_worker.specs.Books.{HasBooks, Settled}
+use Rattle.relay_worker.specs.Filed.{Tallies}
+use Rattle.relay_worker.specs.Running.{Label, label_of}
 use Rattle.relay_worker.specs.declared.bench.Terms.{Terms}
+use Rattle.relay_worker.specs.declared.recorder.Recorder.{Recorder}
 use Rattle.stream_model.specs.declared.calls.StreamLimits.{StreamLimits}
 use Rattle.stream_registry.specs.Gates.{told, told_at}
+use Rattle.stream_registry.specs.Names.{PortRules}
 use Rattle.stream_registry.specs.Pasts.{Attempt}
 use Rattle.stream_registry.specs.SharedState.{Streams, shared_rules}
 use Rattle.stream_registry.specs.Told.{Histories}
 use Rattle.stream_registry.specs.declared.desk.Site.{Site}
 use Rattle.turn_gate.specs.Known.{PassKnown}
+use Rattle.relay_serve.specs.Recordings.{recordings_of}
+use Rattle.relay_serve.specs.Starts.{IsFiledBy}
 
--- each worker's number is its place in the list
-abbrev pub AreNumbered : {D K L : Type 0} → List (WorkerState Streams D K (PassKnown Site Attempt) L) → Type 0
-AreNumbered {D} {K} {L} workers =
-    (i : ℕ) (d : WorkerState Streams D K (PassKnown Site Attempt) L) → i < length workers → (slice_index_or workers i d).terms.number ≡ i
+-- each member of a list, by its place there
+abbrev pub EachAt : {X : Type 0} → (ℕ → X → Type 0) → List X → Type 0
+EachAt {X} P xs = (i : ℕ) (d : X) → i < length xs → P i (slice_index_or xs i d)
 
-module _ (desk : Ask → Grant) (limits : Limits) where
-  -- a worker whose books are kept, with these limits
-  pub record IsKept {D K L : Type 0} (links : L → Option LinkTold) (counts : L → LinkCounts) (doors : D → DoorTold)
-      (w : WorkerState Streams D K (PassKnown Site Attempt) L) : Type 0 where
-    pub limited : w.terms.limits ≡ limits
-    pub books : HasBooks shared_rules (λ s. told_at s.roots) (λ p. told p.seen) links counts doors desk w
+-- ---- a worker
 
-  module _ (streams : ℕ → StreamLimits) (histories : Histories) where
-    -- THE DOOR OF A WORKER at its end, where nothing was refused for want of memory: as many links are back as it gave, and each
-    -- was sent a beginning of what its session owes, whose calls stand in these histories
-    pub record IsBalanced (worker : ℕ) (door : DoorTold) : Type 0 where
-      pub terms : Terms
-      pub number : terms.number ≡ worker
-      pub limited : terms.limits ≡ limits
-      pub settled : Settled desk terms streams histories door false
+-- a worker that was given the recorders of these recordings too, each with a tally
+pub record Enlists {D K L : Type 0} (holds : K → Option (List ℕ)) (faults : K → ℕ) (recordings : List Label)
+    (w w' : WorkerState Streams D K (PassKnown Site Attempt) L) : Type 0 where
+  pub bench : w'.bench ≡ w.bench
+  pub terms : w'.terms ≡ w.terms
+  pub labels : map label_of w'.recorders ≡ map label_of w.recorders ++ recordings
+  pub tallies : All (Tallies holds faults) w.recorders → All (Tallies holds faults) w'.recorders
 
-    -- what a house tells of such a door
-    pub record IsShut (shut : Shut) : Type 0 where
-      pub door : DoorTold
-      pub told : shut_door shut.worker door ≡ Some shut
-      pub balanced : IsBalanced shut.worker door
+-- A WORKER OF THE SERVER: it has that number and the configured limits, its books are kept, and its recorders are those of its
+-- recordings, each with a tally
+pub record IsServing (config : Config) {D K L : Type 0} (links : L → Option LinkTold) (counts : L → LinkCounts) (doors : D → DoorTold)
+    (holds : K → Option (List ℕ)) (faults : K → ℕ) (number : ℕ) (w : WorkerState Streams D K (PassKnown Site Attempt) L) : Type 0 where
+  pub number_is : w.terms.number ≡ number
+  pub limited : w.terms.limits ≡ config.limits
+  pub books : HasBooks shared_rules (λ s. told_at s.roots) (λ p. told p.seen) links counts doors (granted_from 0 config.places) w
+  pub labels : map label_of w.recorders ≡ recordings_of config number
+  pub tallies : All (Tallies holds faults) w.recorders
 
--- the doors that a house tells are those that it told before, and so many more, each of which is such
-pub record ShutMore (P : Shut → Type 0) (count : ℕ) (before : Option (List Shut)) (now : List Shut) : Type 0 where
-  pub first : List Shut
+-- WHAT IS LEFT OF IT: its door, which is done, and its recorders
+pub record IsLeft (config : Config) {K : Type 0} (holds : K → Option (List ℕ)) (faults : K → ℕ) (rules : PortRules) (number : ℕ)
+    (door : DoorTold) (recorders : List (Recorder Streams K (PassKnown Site Attempt))) : Type 0 where
+  pub done : IsDone door
+  pub filed : All (IsFiledBy rules) recorders
+  pub labels : map label_of recorders ≡ recordings_of config number
+  pub tallies : All (Tallies holds faults) recorders
+
+-- ---- its door
+
+module _ (config : Config) (streams : ℕ → StreamLimits) (histories : Histories) where
+  -- THE DOOR OF A WORKER at its end, where nothing was refused for want of memory: as many links are back as it gave, and each
+  -- was sent a beginning of what its session owes, whose calls stand in these histories
+  pub record IsBalanced (worker : ℕ) (door : DoorTold) : Type 0 where
+    pub terms : Terms
+    pub number : terms.number ≡ worker
+    pub limited : terms.limits ≡ config.limits
+    pub settled : Settled (granted_from 0 config.places) terms streams histories door false
+
+  -- what a house tells of such a door
+  pub record IsShut (worker : ℕ) (shut : Shut) : Type 0 where
+    pub door : DoorTold
+    pub told : shut_door worker door ≡ Some shut
+    pub balanced : IsBalanced worker door
+
+-- ---- what a house tells
+
+-- what a house tells of what it took back: what it told before, and then one more for each of these, in their order
+pub record ToldMore {A X : Type 0} (R : A → X → Type 0) (items : List A) (before : Option (List X)) (now : List X) : Type 0 where
+  pub first : List X
   pub before_is : before ≡ Some first
-  pub more : List Shut
+  pub more : List X
   pub now_is : now ≡ first ++ more
-  pub each : All P more
-  pub all : length more ≡ count
+  pub each : AllZip R items more
 
 -- where it tells them
-abbrev pub ShutsMore : (Shut → Type 0) → ℕ → Option (List Shut) → Option (List Shut) → Type 0
-ShutsMore P count before now = (list : List Shut) → now ≡ Some list → ShutMore P count before list
+abbrev pub TellsMore : {A X : Type 0} → (A → X → Type 0) → List A → Option (List X) → Option (List X) → Type 0
+TellsMore {A} {X} R items before now = (list : List X) → now ≡ Some list → ToldMore R items before list

@@ -1,30 +1,27 @@
 //! What comes after the workers: ports are gathered, recorders take what is left and leave, files are kept and doors shut.
-ghost use Rattle.std.specs.Prelude.{◌≡◌, ◌≤◌, true, false, All, vec_len, IfOk};
-ghost use Rattle.command_dialog.specs.declared.types.Ask.{Ask};
-ghost use Rattle.command_dialog.specs.declared.types.Grant.{Grant};
-ghost use Rattle.relay_base.specs.declared.limits.Limits.{Limits};
-ghost use Rattle.relay_outside.specs.Doors.{IsDone, with_one};
-ghost use Rattle.relay_outside.specs.Houses.{shut_door};
-ghost use Rattle.relay_worker.specs.Running.{HasRun};
-ghost use Rattle.relay_serve.specs.Settling.{AreNumbered, IsBalanced, IsKept, IsShut, ShutsMore};
+ghost use Rattle.std.specs.Prelude.{◌≡◌, ◌+◌, ◌≤◌, ℕ, List, [], ◌∷◌, true, false, All, Some, length, map, vec_len, IfOk, option_map};
+ghost use Rattle.std.specs.List.{range_with_len};
+ghost use Rattle.relay_outside.specs.Doors.{with_one};
+ghost use Rattle.relay_outside.specs.Houses.{kept_file, shut_door};
+ghost use Rattle.relay_serve.specs.Recorded.{HasLeft, IsRecorded, IsSettled, Records, starved};
+ghost use Rattle.relay_serve.specs.Recordings.{file_name, recordings_of, recordings_upto};
+ghost use Rattle.relay_serve.specs.Settling.{EachAt, IsBalanced, IsLeft, IsServing, IsShut, TellsMore};
 ghost use Rattle.relay_serve.specs.Starts.{HasRules, IsFiledBy};
-ghost use Rattle.stream_registry.specs.Gates.{told_at};
+ghost use Rattle.relay_worker.specs.Filed.{Tallies, form_of, sink_of, state_of};
+ghost use Rattle.relay_worker.specs.Running.{HasRun, label_of};
+ghost use Rattle.stream_registry.specs.Gates.{numbers, told_at};
 ghost use Rattle.stream_registry.specs.Roots.{Later};
 ghost use Rattle.stream_registry.specs.SharedState.{shared_rules};
 
-use crate::starting::ServeWorker;
-use crate::titled::{Form, Titled};
+use crate::starting::{ServeRecorder, ServeWorker};
 use av_unit::OutOfMemory;
 use media_recorder::{RecEnd, RecTurn};
-use relay_config::PlaceRule;
+use relay_config::{Config, PlaceRule};
 use relay_outside::{Door, House, Rest, Sink};
-use relay_worker::{Parted, Recorder};
+use relay_worker::{Form, Parted};
 use std::alloc::Global;
 use std::sync::Wait;
 use stream_registry::{Desk, Shared};
-
-/// A recorder of the server.
-pub(crate) type ServeRecorder<K> = Recorder<Shared<Desk>, Titled<K>>;
 
 /// What is left of a worker.
 #[derive(Drop)]
@@ -43,20 +40,21 @@ pub(crate) struct AllLeft<D: Door, K: Sink> {
 
 // Takes a worker apart, whose port is gathered into the first. Whether it lacked memory.
 fn take_apart<D: Door, R: Rest, K: Sink>(
+    config: &Config,
     first: &mut Shared<Desk>,
     worker: ServeWorker<D, R, K>,
     number: u32,
 ) -> (Left<D, K>, bool)
     requires run { HasRun D.told worker }
     requires rules { HasRules (shared_rules first.old) worker.bench.port }
+    requires serving { IsServing config.now D.Link.told D.Link.counts D.told K.holds K.faults number worker }
     ensures rules { shared_rules first.new ≡ shared_rules first.old }
-    ensures number { result.0.number ≡ number }
-    ensures door { IsDone (D.told result.0.door) }
-    ensures filed { All (IsFiledBy (shared_rules first.old)) result.0.recorders.items }
     ensures grown { Later (told_at first.old.roots) (told_at first.new.roots) }
-    ensures balanced { (desk : Ask → Grant) (limits : Limits) → IsKept desk limits D.Link.told D.Link.counts D.told worker → worker.terms.number ≡ number → result.1 ≡ false
-        → IsBalanced desk limits (shared_rules first.old).limits (told_at first.new.roots) number (D.told result.0.door) }
+    ensures number { result.0.number ≡ number }
+    ensures left { IsLeft config.now K.holds K.faults (shared_rules first.old) number (D.told result.0.door) result.0.recorders.items }
+    ensures balanced { result.1 ≡ false → IsBalanced config.now (shared_rules first.old).limits (told_at first.new.roots) number (D.told result.0.door) }
 {
+    let _ = config;
     let finished = worker.finish();
     first.gather(finished.port);
     let left = Left {
@@ -67,28 +65,31 @@ fn take_apart<D: Door, R: Rest, K: Sink>(
     (left, finished.refused)
 }
 
-/// Takes all workers apart, whose ports are gathered into the first.
+/// Takes all workers apart, the last first. Their ports are gathered into the first.
 pub(crate) fn take_all_apart<D: Door, R: Rest, K: Sink>(
     alloc: Global,
+    config: &Config,
     first: &mut Shared<Desk>,
     mut workers: Vec<ServeWorker<D, R, K>>,
 ) -> Result<AllLeft<D, K>, OutOfMemory>
     requires few { vec_len workers ≤ 16 }
     requires run { All (λ x. HasRun D.told x) workers.items }
     requires rules { All (λ x. HasRules (shared_rules first.old) x.bench.port) workers.items }
+    requires serving { EachAt (IsServing config.now D.Link.told D.Link.counts D.told K.holds K.faults) workers.items }
     ensures rules { shared_rules first.new ≡ shared_rules first.old }
-    ensures left { IfOk result (λ all. All (λ l. IsDone (D.told l.door) × All (IsFiledBy (shared_rules first.old)) l.recorders.items) all.list.items) }
     ensures grown { Later (told_at first.old.roots) (told_at first.new.roots) }
     ensures each { IfOk result (λ all. vec_len all.list ≡ vec_len workers) }
-    ensures balanced { IfOk result (λ all. (desk : Ask → Grant) (limits : Limits) → All (IsKept desk limits D.Link.told D.Link.counts D.told) workers.items
-        → AreNumbered workers.items → all.refused ≡ false
-        → All (λ l. IsBalanced desk limits (shared_rules first.old).limits (told_at first.new.roots) l.number (D.told l.door)) all.list.items) }
+    ensures numbered { IfOk result (λ all. EachAt (λ i l. l.number + i + 1 ≡ vec_len workers) all.list.items) }
+    ensures left { IfOk result (λ all.
+        All (λ l. IsLeft config.now K.holds K.faults (shared_rules first.old) l.number (D.told l.door) l.recorders.items) all.list.items) }
+    ensures balanced { IfOk result (λ all. all.refused ≡ false
+        → All (λ l. IsBalanced config.now (shared_rules first.old).limits (told_at first.new.roots) l.number (D.told l.door)) all.list.items) }
 {
     let mut list = Vec::new(alloc);
     let mut refused = false;
     while let Some(worker) = workers.pop() {
         let number = workers.len() as u32;
-        let (left, lacked) = take_apart(first, worker, number);
+        let (left, lacked) = take_apart(config, first, worker, number);
         refused |= lacked;
         if list.push(left).is_err() {
             return Err(OutOfMemory);
@@ -97,83 +98,160 @@ pub(crate) fn take_all_apart<D: Door, R: Rest, K: Sink>(
     Ok(AllLeft { list, refused })
 }
 
-// Turns the recorder until its stream has nothing more for it, or it has ended. Whether it lacked memory.
+// Turns the recorder until its stream has nothing more for it, or it has ended. Why it has.
 fn settle<W: Wait, K: Sink>(
     rt: &W,
     port: &mut Shared<Desk>,
     recorder: &mut ServeRecorder<K>,
-) -> bool
-    requires { IsFiledBy (shared_rules port.old) recorder.old }
+) -> Option<RecEnd>
+    requires filed { IsFiledBy (shared_rules port.old) recorder.old }
+    requires tally { Tallies K.holds K.faults recorder.old }
     ensures filed { IsFiledBy (shared_rules port.old) recorder.new }
+    ensures tally { Tallies K.holds K.faults recorder.new }
+    ensures label { label_of recorder.new ≡ label_of recorder.old }
     ensures rules { shared_rules port.new ≡ shared_rules port.old }
     ensures grown { Later (told_at port.old.roots) (told_at port.new.roots) }
+    ensures settled { IsSettled (λ p. numbers p.seen p.mine) (told_at port.old.roots (state_of recorder.old).seat.place) result (state_of recorder.new) }
 {
     for _ in rt.forever() {
         match recorder.turn(port) {
             RecTurn::Moved => {}
             RecTurn::Busy => {}
-            RecTurn::Idle => return false,
-            RecTurn::Ended(end) => return matches!(end, RecEnd::OutOfMemory),
+            RecTurn::Idle => return None,
+            RecTurn::Ended(end) => return Some(end),
         }
     }
     unreachable!()
 }
 
-// The recorder leaves its stream, and gives its file. Nobody else has a pass then, so that it isn't busy.
-fn part<K: Sink>(port: &mut Shared<Desk>, recorder: ServeRecorder<K>) -> Titled<K>
-    requires { IsFiledBy (shared_rules port.old) recorder }
-    ensures rules { shared_rules port.new ≡ shared_rules port.old }
-    ensures grown { Later (told_at port.old.roots) (told_at port.new.roots) }
+// Whether a recorder has ended for want of memory.
+fn is_starved(end: Option<RecEnd>) -> bool
+    ensures { result ≡ starved end }
 {
-    match recorder.leave(port) {
-        Parted::Done(file) => file,
-        Parted::Busy(recorder) => recorder.into_file(),
-        Parted::OutOfMemory(recorder) => recorder.into_file(),
+    match end {
+        Some(RecEnd::OutOfMemory) => true,
+        Some(RecEnd::SinkFault) => false,
+        Some(RecEnd::Full) => false,
+        Some(RecEnd::Worn) => false,
+        None => false,
     }
 }
 
-// Hands a file to the house, under the name of its recording. Whether there was memory for it.
-fn keep<H: House>(house: &mut H, places: &[PlaceRule], titled: Titled<H::File>) -> bool
-    ensures faults { (H.told house.new).faults ≡ (H.told house.old).faults }
-    ensures shut { (H.told house.new).shut ≡ (H.told house.old).shut }
+// The recorder leaves its stream, and gives its file. Whether it has left: nobody else has a pass then, so that it isn't busy,
+// but there may be no memory for the call.
+fn part<K: Sink>(port: &mut Shared<Desk>, recorder: ServeRecorder<K>) -> (K, bool)
+    requires { IsFiledBy (shared_rules port.old) recorder }
+    ensures rules { shared_rules port.new ≡ shared_rules port.old }
+    ensures grown { Later (told_at port.old.roots) (told_at port.new.roots) }
+    ensures file { result.0 ≡ sink_of recorder }
+    ensures left { result.1 ≡ true → HasLeft (λ p. numbers p.seen p.mine) ((shared_rules port.old).limits (state_of recorder).seat.place)
+        (told_at port.new.roots (state_of recorder).seat.place) (state_of recorder).seat }
 {
-    let Titled {
-        place,
-        form,
-        who: _,
-        file,
-    } = titled;
-    let Some(rule) = places.get(place as usize) else {
-        return false;
-    };
-    let name = match form {
-        Form::Flv => &rule.flv,
-        Form::Ts => &rule.ts,
-    };
-    let Some(name) = name else {
-        return false;
-    };
-    house.keep(name.as_slice(), file).is_ok()
+    match recorder.leave(port) {
+        Parted::Done(file) => (file, true),
+        Parted::Busy(recorder) => (recorder.into_file(), false),
+        Parted::OutOfMemory(recorder) => (recorder.into_file(), false),
+    }
 }
 
-// Ends a recorder. Whether there was memory for all of it.
+// The recorder takes what is left of its stream, and leaves. Its file, and whether there was memory for all of it.
+fn finish<W: Wait, K: Sink>(
+    rt: &W,
+    port: &mut Shared<Desk>,
+    mut recorder: ServeRecorder<K>,
+) -> (K, bool)
+    requires filed { IsFiledBy (shared_rules port.old) recorder }
+    requires tally { Tallies K.holds K.faults recorder }
+    ensures rules { shared_rules port.new ≡ shared_rules port.old }
+    ensures grown { Later (told_at port.old.roots) (told_at port.new.roots) }
+    ensures records { result.1 ≡ true → (bytes : List ℕ) → K.holds result.0 ≡ Some bytes
+        → Records (shared_rules port.old).limits (told_at port.old.roots) (told_at port.new.roots) (label_of recorder) bytes (K.faults result.0) }
+{
+    let end = settle(rt, port, &mut recorder);
+    recorder.law();
+    let (file, left) = part(port, recorder);
+    let spared = !is_starved(end);
+    (file, left & spared)
+}
+
+// The name of the file of the stream at a place.
+fn file_name(places: &[PlaceRule], place: u32, form: Form) -> Option<&[u8]>
+    ensures { option_map (λ name. name.now) result ≡ file_name places.now place form }
+{
+    let rule = places.get(place as usize)?;
+    let name = match form {
+        Form::Flv => rule.flv.as_ref(),
+        Form::Ts => rule.ts.as_ref(),
+    };
+    Some(name?.as_slice())
+}
+
+// Hands a file to the house, under the name of its recording. Whether there was memory for it.
+fn keep<H: House>(
+    house: &mut H,
+    places: &[PlaceRule],
+    place: u32,
+    form: Form,
+    file: H::File,
+) -> bool
+    ensures faults { (H.told house.new).faults ≡ (H.told house.old).faults }
+    ensures shut { (H.told house.new).shut ≡ (H.told house.old).shut }
+    ensures kept { result ≡ true → (name : List ℕ) × (file_name places.now place form ≡ Some name)
+        × ((H.told house.new).kept ≡ with_one (H.told house.old).kept (kept_file name (H.File.holds file) (H.File.faults file))) }
+{
+    let Some(name) = file_name(places, place, form) else {
+        return false;
+    };
+    house.keep(name, file).is_ok()
+}
+
+// The recorder's last turns, after which its file is kept. Whether there was memory for all of it.
 fn end_recorder<W: Wait, H: House>(
     rt: &W,
     port: &mut Shared<Desk>,
     house: &mut H,
     places: &[PlaceRule],
-    mut recorder: ServeRecorder<H::File>,
+    recorder: ServeRecorder<H::File>,
 ) -> bool
-    requires { IsFiledBy (shared_rules port.old) recorder }
+    requires filed { IsFiledBy (shared_rules port.old) recorder }
+    requires tally { Tallies H.File.holds H.File.faults recorder }
     ensures rules { shared_rules port.new ≡ shared_rules port.old }
     ensures grown { Later (told_at port.old.roots) (told_at port.new.roots) }
     ensures faults { (H.told house.new).faults ≡ (H.told house.old).faults }
     ensures shut { (H.told house.new).shut ≡ (H.told house.old).shut }
+    ensures kept { result ≡ true → TellsMore (IsRecorded (shared_rules port.old).limits (told_at port.old.roots) (told_at port.new.roots) places.now)
+        (label_of recorder ∷ []) (H.told house.old).kept (H.told house.new).kept }
 {
-    let lacked = settle(rt, port, &mut recorder);
-    let file = part(port, recorder);
-    let kept = keep(house, places, file);
-    kept && !lacked
+    let place = recorder.place();
+    let form = recorder.form();
+    let (file, finished) = finish(rt, port, recorder);
+    let kept = keep(house, places, place, form, file);
+    kept & finished
+}
+
+// The same of each, the first of them first.
+fn end_recorders<W: Wait, H: House>(
+    rt: &W,
+    port: &mut Shared<Desk>,
+    house: &mut H,
+    places: &[PlaceRule],
+    mut recorders: Vec<ServeRecorder<H::File>>,
+) -> bool
+    requires filed { All (IsFiledBy (shared_rules port.old)) recorders.items }
+    requires tallies { All (Tallies H.File.holds H.File.faults) recorders.items }
+    ensures rules { shared_rules port.new ≡ shared_rules port.old }
+    ensures grown { Later (told_at port.old.roots) (told_at port.new.roots) }
+    ensures faults { (H.told house.new).faults ≡ (H.told house.old).faults }
+    ensures shut { (H.told house.new).shut ≡ (H.told house.old).shut }
+    ensures kept { result ≡ true → TellsMore (IsRecorded (shared_rules port.old).limits (told_at port.old.roots) (told_at port.new.roots) places.now)
+        (map label_of recorders.items) (H.told house.old).kept (H.told house.new).kept }
+{
+    recorders.reverse();
+    let mut whole = true;
+    while let Some(recorder) = recorders.pop() {
+        whole &= end_recorder(rt, port, house, places, recorder);
+    }
+    whole
 }
 
 // Ends what is left of a worker. Whether there was memory for all of it.
@@ -181,48 +259,51 @@ fn end_left<W: Wait, H: House>(
     rt: &W,
     port: &mut Shared<Desk>,
     house: &mut H,
-    places: &[PlaceRule],
+    config: &Config,
     left: Left<H::Door, H::File>,
 ) -> bool
-    requires door { IsDone (H.Door.told left.door) }
-    requires filed { All (IsFiledBy (shared_rules port.old)) left.recorders.items }
+    requires left { IsLeft config.now H.File.holds H.File.faults (shared_rules port.old) left.number (H.Door.told left.door) left.recorders.items }
     ensures rules { shared_rules port.new ≡ shared_rules port.old }
     ensures grown { Later (told_at port.old.roots) (told_at port.new.roots) }
     ensures faults { (H.told house.new).faults ≡ (H.told house.old).faults }
+    ensures kept { result ≡ true → TellsMore (IsRecorded (shared_rules port.old).limits (told_at port.old.roots) (told_at port.new.roots) config.now.places)
+        (recordings_of config.now left.number) (H.told house.old).kept (H.told house.new).kept }
     ensures shut { result ≡ true → (H.told house.new).shut ≡ with_one (H.told house.old).shut (shut_door left.number (H.Door.told left.door)) }
 {
     let Left {
         number,
         door,
-        mut recorders,
+        recorders,
     } = left;
-    let mut whole = true;
-    while let Some(recorder) = recorders.pop() {
-        whole &= end_recorder(rt, port, house, places, recorder);
-    }
-    whole &= house.shut(number, door).is_ok();
-    whole
+    let recorded = end_recorders(rt, port, house, config.places.as_slice(), recorders);
+    let shut = house.shut(number, door).is_ok();
+    recorded & shut
 }
 
-/// Ends what is left of all workers. Whether there was memory for all of it.
+/// Ends what is left of all workers, the last first. Whether there was memory for all of it.
 pub(crate) fn end_all<W: Wait, H: House>(
     rt: &W,
     port: &mut Shared<Desk>,
     house: &mut H,
-    places: &[PlaceRule],
+    config: &Config,
     mut list: Vec<Left<H::Door, H::File>>,
 ) -> bool
-    requires { All (λ l. IsDone (H.Door.told l.door) × All (IsFiledBy (shared_rules port.old)) l.recorders.items) list.items }
+    requires numbered { EachAt (λ i l. l.number + i + 1 ≡ vec_len list) list.items }
+    requires left { All (λ l. IsLeft config.now H.File.holds H.File.faults (shared_rules port.old) l.number (H.Door.told l.door) l.recorders.items)
+        list.items }
     ensures rules { shared_rules port.new ≡ shared_rules port.old }
     ensures grown { Later (told_at port.old.roots) (told_at port.new.roots) }
     ensures faults { (H.told house.new).faults ≡ (H.told house.old).faults }
-    ensures shut { result ≡ true → (desk : Ask → Grant) (limits : Limits)
-        → All (λ l. IsBalanced desk limits (shared_rules port.old).limits (told_at port.old.roots) l.number (H.Door.told l.door)) list.items
-        → ShutsMore (IsShut desk limits (shared_rules port.old).limits (told_at port.new.roots)) (vec_len list) (H.told house.old).shut (H.told house.new).shut }
+    ensures kept { result ≡ true → TellsMore (IsRecorded (shared_rules port.old).limits (told_at port.old.roots) (told_at port.new.roots) config.now.places)
+        (recordings_upto config.now (vec_len list)) (H.told house.old).kept (H.told house.new).kept }
+    ensures shut { result ≡ true
+        → All (λ l. IsBalanced config.now (shared_rules port.old).limits (told_at port.old.roots) l.number (H.Door.told l.door)) list.items
+        → TellsMore (IsShut config.now (shared_rules port.old).limits (told_at port.old.roots)) (range_with_len 0 (vec_len list))
+        (H.told house.old).shut (H.told house.new).shut }
 {
     let mut whole = true;
     while let Some(left) = list.pop() {
-        whole &= end_left(rt, port, house, places, left);
+        whole &= end_left(rt, port, house, config, left);
     }
     whole
 }

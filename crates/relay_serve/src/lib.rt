@@ -3,14 +3,14 @@
 
 mod counting;
 mod ending;
+mod laws;
 mod put;
 mod reading;
 mod serving;
 mod starting;
-mod titled;
 
+pub use laws::recordings_law;
 pub use serving::{Ending, serve};
-pub use titled::Titled;
 
 #[cfg(test)]
 mod tests;

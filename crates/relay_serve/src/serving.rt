@@ -1,26 +1,24 @@
 //! `relay serve`.
 ghost use Rattle.std.specs.Prelude.{◌≡◌, ◌≤◌, length, map, vec_len, All, IfOk, MatchResult};
 ghost use Rattle.relay_config.specs.Accepts.{Lawful};
-ghost use Rattle.relay_worker.specs.Running.{HasRun};
-ghost use Rattle.stream_registry.specs.SharedState.{shared_rules};
 ghost use Rattle.relay_serve.specs.Ends.{EndsAs, HouseCause, RefusesAs, RunsAs, Serves, code_of, outer, seen, unopened_as};
-ghost use Rattle.command_dialog.specs.declared.types.Ask.{Ask};
-ghost use Rattle.command_dialog.specs.declared.types.Grant.{Grant};
-ghost use Rattle.relay_base.specs.declared.limits.Limits.{Limits};
-ghost use Rattle.relay_session.specs.Grants.{granted_from};
 ghost use Rattle.relay_serve.specs.Places.{limits_in};
-ghost use Rattle.relay_serve.specs.Settling.{AreNumbered, IsKept};
+ghost use Rattle.relay_serve.specs.Settling.{EachAt, IsServing};
 ghost use Rattle.relay_serve.specs.Starts.{HasLimits, HasRules};
 ghost use Rattle.relay_serve.specs.Words.{is_serve};
+ghost use Rattle.relay_worker.specs.Running.{HasRun};
+ghost use Rattle.stream_registry.specs.Gates.{told_at};
+ghost use Rattle.stream_registry.specs.SharedState.{shared_rules};
+ghost use Rattle.stream_registry.specs.Told.{Histories};
 
 use crate::counting::{count_all, report_of};
 use crate::ending::{end_all, take_all_apart};
 use crate::put::{PutFail, put_all};
 use crate::reading::{ReadFail, read_text};
-use crate::starting::{OpenFail, ServeWorker, names_of, open_files, open_workers};
+use crate::starting::{OpenFail, ServeWorker, names_of, open_workers};
 use key_guard::Guards;
 use relay_base::Status;
-use relay_config::{Config, ConfigFail, PlaceList, read_config, report};
+use relay_config::{Config, ConfigFail, read_config, report};
 use relay_outside::{Door, House, Rest, Sink, Source};
 use relay_session::PlaceDesk;
 use relay_worker::run_all;
@@ -101,7 +99,7 @@ struct Ready<D: Door, R: Rest, K: Sink> {
     workers: Vec<ServeWorker<D, R, K>>,
 }
 
-// Asks the house for all files, doors and rests, and makes the workers.
+// Asks the house for all doors, rests and files, and makes the workers.
 fn make_ready<H: House>(
     alloc: Global,
     config: &Config,
@@ -114,8 +112,8 @@ fn make_ready<H: House>(
     ensures limits { IfOk result (λ ready. HasLimits (limits_in config.now) (length config.now.places) ready.port) }
     ensures rules { IfOk result (λ ready. All (λ x. HasRules (shared_rules ready.port) x.bench.port) ready.workers.items) }
     ensures each { IfOk result (λ ready. vec_len ready.workers ≡ config.now.workers) }
-    ensures numbered { IfOk result (λ ready. AreNumbered ready.workers.items) }
-    ensures kept { IfOk result (λ ready. (desk : Ask → Grant) → All (IsKept desk config.now.limits H.Door.Link.told H.Door.Link.counts H.Door.told) ready.workers.items) }
+    ensures serving { IfOk result (λ ready.
+        EachAt (IsServing config.now H.Door.Link.told H.Door.Link.counts H.Door.told H.File.holds H.File.faults) ready.workers.items) }
 {
     let places = config.places.as_slice();
     let Ok(names) = names_of(alloc, places) else {
@@ -128,8 +126,7 @@ fn make_ready<H: House>(
     let Some(port) = ports.pop() else {
         return Err(OpenFail::OutOfMemory);
     };
-    let files = open_files(alloc, house, places)?;
-    let workers = open_workers(alloc, house, config, &port, ports, files)?;
+    let workers = open_workers(alloc, house, config, &port, ports)?;
     Ok(Ready { port, workers })
 }
 
@@ -140,25 +137,25 @@ fn conclude<W: Wait, H: House, K: Sink>(
     config: &Config,
     house: &mut H,
     out: &mut K,
-    ready: Ready<H::Door, H::Rest, H::File>,
+    port: &mut Shared<Desk>,
+    workers: Vec<ServeWorker<H::Door, H::Rest, H::File>>,
 ) -> Ending
     requires lawful { Lawful config.now }
-    requires places { length config.now.places ≡ length (shared_rules ready.port).names }
-    requires limits { HasLimits (limits_in config.now) (length config.now.places) ready.port }
-    requires few { vec_len ready.workers ≤ 16 }
-    requires run { All (λ x. HasRun H.Door.told x) ready.workers.items }
-    requires rules { All (λ x. HasRules (shared_rules ready.port) x.bench.port) ready.workers.items }
-    requires each { vec_len ready.workers ≡ config.now.workers }
-    requires numbered { AreNumbered ready.workers.items }
-    requires kept { All (IsKept (granted_from 0 config.now.places) config.now.limits H.Door.Link.told H.Door.Link.counts H.Door.told) ready.workers.items }
-    ensures { RunsAs config.now (seen (K.holds out.old) (K.faults out.old) (H.told house.old)) (seen (K.holds out.new) (K.faults out.new) (H.told house.new)) result }
+    requires places { length config.now.places ≡ length (shared_rules port.old).names }
+    requires limits { HasLimits (limits_in config.now) (length config.now.places) port.old }
+    requires few { vec_len workers ≤ 16 }
+    requires run { All (λ x. HasRun H.Door.told x) workers.items }
+    requires rules { All (λ x. HasRules (shared_rules port.old) x.bench.port) workers.items }
+    requires each { vec_len workers ≡ config.now.workers }
+    requires serving { EachAt (IsServing config.now H.Door.Link.told H.Door.Link.counts H.Door.told H.File.holds H.File.faults) workers.items }
+    ensures { RunsAs config.now (told_at port.new.roots) (seen (K.holds out.old) (K.faults out.old) (H.told house.old))
+        (seen (K.holds out.new) (K.faults out.new) (H.told house.new)) result }
 {
-    let Ready { mut port, workers } = ready;
-    let Ok(left) = take_all_apart(alloc, &mut port, workers) else {
+    let Ok(left) = take_all_apart(alloc, config, port, workers) else {
         return Ending::OutOfMemory;
     };
-    let whole = end_all(rt, &mut port, house, config.places.as_slice(), left.list);
-    let Ok(counts) = count_all(rt, alloc, &mut port, config.places.len() as u32) else {
+    let whole = end_all(rt, port, house, config, left.list);
+    let Ok(counts) = count_all(rt, alloc, port, config.places.len() as u32) else {
         return Ending::OutOfMemory;
     };
     let Ok(text) = report_of(alloc, counts.as_slice()) else {
@@ -172,28 +169,27 @@ fn conclude<W: Wait, H: House, K: Sink>(
     }
 }
 
-// All workers run, each in a thread of its own, with the desk of these places.
+// All workers run, each in a thread of its own, with the desk of the configuration's places.
 fn run_workers<T: Threads + Wait + Sync, D: Door + Send, R: Rest + Send, K: Sink + Send>(
     rt: &T,
     mut workers: Vec<ServeWorker<D, R, K>>,
     port: &Shared<Desk>,
     guards: &Guards,
-    list: &PlaceList,
+    config: &Config,
 ) -> Vec<ServeWorker<D, R, K>>
 where
     D::Link: Send,
-    requires few { length list.now ≤ 64 }
-    requires places { length list.now ≡ length (shared_rules port.now).names }
+    requires few { length config.now.places ≤ 64 }
+    requires places { length config.now.places ≡ length (shared_rules port.now).names }
     requires rules { All (λ x. HasRules (shared_rules port.now) x.bench.port) workers.items }
+    requires serving { EachAt (IsServing config.now D.Link.told D.Link.counts D.told K.holds K.faults) workers.items }
     ensures run { All (λ x. HasRun D.told x) result.items }
     ensures rules { All (λ x. HasRules (shared_rules port.now) x.bench.port) result.items }
     ensures each { vec_len result ≡ vec_len workers }
-    ensures numbered { AreNumbered workers.items → AreNumbered result.items }
-    ensures kept { (limits : Limits) → ((desk : Ask → Grant) → All (IsKept desk limits D.Link.told D.Link.counts D.told) workers.items)
-        → All (IsKept (granted_from 0 list.now) limits D.Link.told D.Link.counts D.told) result.items }
+    ensures serving { EachAt (IsServing config.now D.Link.told D.Link.counts D.told K.holds K.faults) result.items }
 {
     let _ = port;
-    let desk = PlaceDesk::new(guards, list);
+    let desk = PlaceDesk::new(guards, &config.places);
     run_all(rt, workers.as_mut_slice(), &desk);
     let PlaceDesk { guards: _, list: _ } = desk;
     workers
@@ -209,12 +205,13 @@ fn run<T: Threads + Wait + Sync, H: House, K: Sink>(
     out: &mut K,
 ) -> Ending
     requires lawful { Lawful config.now }
-    ensures { RunsAs config.now (seen (K.holds out.old) (K.faults out.old) (H.told house.old)) (seen (K.holds out.new) (K.faults out.new) (H.told house.new)) result }
+    ensures { (histories : Histories) × RunsAs config.now histories (seen (K.holds out.old) (K.faults out.old) (H.told house.old))
+        (seen (K.holds out.new) (K.faults out.new) (H.told house.new)) result }
 {
     match make_ready(alloc, config, house) {
-        Ok(Ready { port, workers }) => {
-            let workers = run_workers(rt, workers, &port, guards, &config.places);
-            conclude(rt, alloc, config, house, out, Ready { port, workers })
+        Ok(Ready { mut port, workers }) => {
+            let workers = run_workers(rt, workers, &port, guards, config);
+            conclude(rt, alloc, config, house, out, &mut port, workers)
         }
         Err(fail) => unopened(fail),
     }
@@ -246,7 +243,8 @@ fn end<T: Threads + Wait + Sync, H: House, S: Source, K: Sink>(
     house: &mut H,
     out: &mut K,
 ) -> Ending
-    ensures ends { EndsAs (is_serve (map (λ w. w.items) words.now)) (outer (S.left config.old) (S.faults config.old) (seen (K.holds out.old) (K.faults out.old) (H.told house.old)))
+    ensures ends { EndsAs (is_serve (map (λ w. w.items) words.now))
+        (outer (S.left config.old) (S.faults config.old) (seen (K.holds out.old) (K.faults out.old) (H.told house.old)))
         (outer (S.left config.new) (S.faults config.new) (seen (K.holds out.new) (K.faults out.new) (H.told house.new))) result }
     ensures untouched { result ≡ Ending.BadWords → (config.new ≡ config.old) × (house.new ≡ house.old) × (out.new ≡ out.old) }
 {
@@ -292,7 +290,8 @@ pub fn serve<T: Threads + Wait + Sync, H: House, S: Source, K: Sink>(
     house: &mut H,
     report: &mut K,
 ) -> Status
-    ensures serves { Serves (is_serve (map (λ w. w.items) words.now)) (outer (S.left config.old) (S.faults config.old) (seen (K.holds report.old) (K.faults report.old) (H.told house.old)))
+    ensures serves { Serves (is_serve (map (λ w. w.items) words.now))
+        (outer (S.left config.old) (S.faults config.old) (seen (K.holds report.old) (K.faults report.old) (H.told house.old)))
         (outer (S.left config.new) (S.faults config.new) (seen (K.holds report.new) (K.faults report.new) (H.told house.new))) result }
     ensures untouched { result.code ≡ 2 → (config.new ≡ config.old) × (house.new ≡ house.old) × (report.new ≡ report.old) }
 {

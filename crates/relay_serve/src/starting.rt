@@ -1,25 +1,29 @@
-//! What is asked of the house before the first worker runs, and the workers.
-ghost use Rattle.std.specs.Prelude.{◌≡◌, ◌<◌, ◌≤◌, ℕ, All, length, map, vec_len, IfOk, MatchResult, OnOk};
+//! What is asked of the house before the first worker runs, and the workers with their recorders.
+ghost use Rattle.std.specs.Prelude.{◌≡◌, ◌<◌, ◌≤◌, All, None, length, map, vec_len, if◌then◌else◌, ◌%◌, ◌==◌, [], ◌∷◌, IfOk, MatchResult, OnOk};
 ghost use Rattle.relay_config.specs.Accepts.{Lawful};
+ghost use Rattle.relay_outside.specs.Houses.{IsNewFile};
 ghost use Rattle.relay_serve.specs.Ends.{HouseCause};
 ghost use Rattle.relay_serve.specs.Places.{name_of};
-ghost use Rattle.command_dialog.specs.declared.types.Ask.{Ask};
-ghost use Rattle.command_dialog.specs.declared.types.Grant.{Grant};
-ghost use Rattle.relay_serve.specs.Settling.{AreNumbered, IsKept};
+ghost use Rattle.relay_serve.specs.Recordings.{recorder_name, recording, recording_if, recordings_at, recordings_of};
+ghost use Rattle.relay_serve.specs.Settling.{EachAt, Enlists, IsServing};
 ghost use Rattle.relay_serve.specs.Starts.{HasRules};
+ghost use Rattle.relay_worker.specs.Filed.{Tallies, state_of};
+ghost use Rattle.relay_worker.specs.Running.{label_of};
 ghost use Rattle.stream_registry.specs.SharedState.{shared_rules};
 
-use crate::titled::{Form, Titled};
 use av_unit::{Bytes, OutOfMemory};
 use media_recorder::{FlvRecorder, TsRecorder};
 use relay_config::{Config, PlaceRule};
 use relay_outside::{Door, House, Rest, Sink};
-use relay_worker::{Recorder, Worker};
+use relay_worker::{Form, Recorder, Worker};
 use std::alloc::Global;
 use stream_registry::{Desk, Name, NameList, Shared};
 
 /// A worker of the server.
-pub(crate) type ServeWorker<D, R, K> = Worker<Shared<Desk>, D, R, Titled<K>>;
+pub(crate) type ServeWorker<D, R, K> = Worker<Shared<Desk>, D, R, K>;
+
+/// A recorder of the server.
+pub(crate) type ServeRecorder<K> = Recorder<Shared<Desk>, K>;
 
 /// The name of the first recorder.
 const RECORDERS: u64 = 1 << 60;
@@ -52,120 +56,139 @@ pub(crate) fn names_of(alloc: Global, places: &[PlaceRule]) -> Result<NameList, 
     Ok(names)
 }
 
-// The file of a recording, after those before it.
-fn open_file<H: House>(
+// The name of the recorder of the stream at a place.
+fn recorder_name(place: u32, form: Form) -> u64
+    ensures { result ≡ recorder_name place form }
+{
+    let first = RECORDERS + 2 * place as u64;
+    match form {
+        Form::Flv => first,
+        Form::Ts => first + 1,
+    }
+}
+
+// The recorder of the stream at a place, which writes to a new file.
+fn new_recorder<K: Sink>(
+    alloc: Global,
+    place: u32,
+    form: Form,
+    file: K,
+) -> Result<ServeRecorder<K>, OutOfMemory>
+    requires { IsNewFile (K.holds file) (K.faults file) }
+    ensures label { IfOk result (λ r. label_of r ≡ recording place form) }
+    ensures nowhere { IfOk result (λ r. (state_of r).seat.pass ≡ None) }
+    ensures tally { IfOk result (λ r. Tallies K.holds K.faults r) }
+{
+    let who = recorder_name(place, form);
+    match form {
+        Form::Flv => Ok(Recorder::Flv(FlvRecorder::new(alloc, place, who)?, file)),
+        Form::Ts => Ok(Recorder::Ts(TsRecorder::new(alloc, place, who)?, file)),
+    }
+}
+
+// Opens the file of a recording, and enlists its recorder.
+fn open_recording<H: House>(
+    alloc: Global,
     house: &mut H,
+    worker: &mut ServeWorker<H::Door, H::Rest, H::File>,
     place: u32,
     form: Form,
     name: &[u8],
-    files: &mut Vec<Titled<H::File>>,
 ) -> Result<(), OpenFail>
-    ensures files { (n : ℕ) → place < n → All (λ t. t.place < n) files.old.items → All (λ t. t.place < n) files.new.items }
+    requires { place < length (shared_rules worker.old.bench.port).names }
+    ensures enlists { OnOk result (Enlists H.File.holds H.File.faults (recording place form ∷ []) worker.old worker.new) }
     ensures house { MatchResult result (λ _. H.told house.new ≡ H.told house.old) (λ fail. HouseCause fail (H.told house.old) (H.told house.new)) }
 {
     let Some(file) = house.file(name) else {
         return Err(OpenFail::HouseFault);
     };
-    let who = RECORDERS.saturating_add(files.len() as u64);
-    let titled = Titled {
-        place,
-        form,
-        who,
-        file,
-    };
-    if files.push(titled).is_err() {
+    let Ok(recorder) = new_recorder(alloc, place, form, file) else {
         return Err(OpenFail::OutOfMemory);
-    }
+    };
+    let Ok(()) = worker.enlist(recorder) else {
+        return Err(OpenFail::OutOfMemory);
+    };
     Ok(())
 }
 
-// The file of a recording, if there is to be one.
+// The same where the recording has a file.
 fn open_if<H: House>(
+    alloc: Global,
     house: &mut H,
+    worker: &mut ServeWorker<H::Door, H::Rest, H::File>,
     place: u32,
     form: Form,
     name: &Option<Bytes>,
-    files: &mut Vec<Titled<H::File>>,
 ) -> Result<(), OpenFail>
-    ensures files { (n : ℕ) → place < n → All (λ t. t.place < n) files.old.items → All (λ t. t.place < n) files.new.items }
+    requires { place < length (shared_rules worker.old.bench.port).names }
+    ensures enlists { OnOk result (Enlists H.File.holds H.File.faults (recording_if name.now (recording place form)) worker.old worker.new) }
     ensures house { MatchResult result (λ _. H.told house.new ≡ H.told house.old) (λ fail. HouseCause fail (H.told house.old) (H.told house.new)) }
 {
-    let Some(name) = name else {
-        return Ok(());
-    };
-    open_file(house, place, form, name.as_slice(), files)
+    match name {
+        Some(name) => open_recording(alloc, house, worker, place, form, name.as_slice()),
+        None => Ok(()),
+    }
 }
 
-// The files of the recordings of a place.
-fn open_at<H: House>(
+// The recordings of a place.
+fn open_place<H: House>(
+    alloc: Global,
     house: &mut H,
+    worker: &mut ServeWorker<H::Door, H::Rest, H::File>,
     place: u32,
     rule: &PlaceRule,
-    files: &mut Vec<Titled<H::File>>,
 ) -> Result<(), OpenFail>
-    ensures files { (n : ℕ) → place < n → All (λ t. t.place < n) files.old.items → All (λ t. t.place < n) files.new.items }
+    requires { place < length (shared_rules worker.old.bench.port).names }
+    ensures enlists { OnOk result (Enlists H.File.holds H.File.faults (recordings_at place rule.now) worker.old worker.new) }
     ensures house { MatchResult result (λ _. H.told house.new ≡ H.told house.old) (λ fail. HouseCause fail (H.told house.old) (H.told house.new)) }
 {
-    open_if(house, place, Form::Flv, &rule.flv, files)?;
-    open_if(house, place, Form::Ts, &rule.ts, files)
+    open_if(alloc, house, worker, place, Form::Flv, &rule.flv)?;
+    open_if(alloc, house, worker, place, Form::Ts, &rule.ts)?;
+    Ok(())
 }
 
-/// The files of the recordings, in the order of their places.
-pub(crate) fn open_files<H: House>(
+// The same where the place is one of the worker's with that number, of so many.
+fn open_own_place<H: House>(
     alloc: Global,
     house: &mut H,
-    places: &[PlaceRule],
-) -> Result<Vec<Titled<H::File>>, OpenFail>
-    requires { length places.now ≤ 64 }
-    ensures files { IfOk result (λ files. All (λ t. t.place < length places.now) files.items) }
-    ensures house { MatchResult result (λ _. H.told house.new ≡ H.told house.old) (λ fail. HouseCause fail (H.told house.old) (H.told house.new)) }
-{
-    let mut files = Vec::new(alloc);
-    for place in 0..places.len() {
-        open_at(house, place as u32, &places[place], &mut files)?;
-    }
-    Ok(files)
-}
-
-// One recorder more.
-fn enlist<D: Door, R: Rest, K: Sink>(
-    alloc: Global,
-    worker: &mut ServeWorker<D, R, K>,
-    file: Titled<K>,
-) -> Result<(), OutOfMemory>
-    requires { file.place < length (shared_rules worker.old.bench.port).names }
-    ensures { (worker.new.bench ≡ worker.old.bench) × (worker.new.terms ≡ worker.old.terms) }
-{
-    let recorder = match file.form {
-        Form::Flv => Recorder::Flv(FlvRecorder::new(alloc, file.place, file.who)?, file),
-        Form::Ts => Recorder::Ts(TsRecorder::new(alloc, file.place, file.who)?, file),
-    };
-    worker.enlist(recorder)
-}
-
-// The recorders of the worker with that number, of so many: those whose place, modulo this, is its number. The files of the
-// others are left.
-fn enlist_own<D: Door, R: Rest, K: Sink>(
-    alloc: Global,
-    worker: &mut ServeWorker<D, R, K>,
-    files: &mut Vec<Titled<K>>,
+    worker: &mut ServeWorker<H::Door, H::Rest, H::File>,
     number: u32,
     workers: u32,
-) -> Result<(), OutOfMemory>
+    place: u32,
+    rule: &PlaceRule,
+) -> Result<(), OpenFail>
     requires some { 0 < workers }
-    requires files { All (λ t. t.place < length (shared_rules worker.old.bench.port).names) files.old.items }
-    ensures files { OnOk result (All (λ t. t.place < length (shared_rules worker.old.bench.port).names) files.new.items) }
-    ensures bench { (worker.new.bench ≡ worker.old.bench) × (worker.new.terms ≡ worker.old.terms) }
+    requires place { place < length (shared_rules worker.old.bench.port).names }
+    ensures enlists { OnOk result (Enlists H.File.holds H.File.faults (if place % workers == number then recordings_at place rule.now else [])
+        worker.old worker.new) }
+    ensures house { MatchResult result (λ _. H.told house.new ≡ H.told house.old) (λ fail. HouseCause fail (H.told house.old) (H.told house.new)) }
 {
-    let mut others = Vec::new(alloc);
-    while let Some(file) = files.pop() {
-        if file.place % workers == number {
-            enlist(alloc, worker, file)?;
-        } else {
-            others.push(file)?;
-        }
+    if place % workers != number {
+        return Ok(());
     }
-    *files = others;
+    open_place(alloc, house, worker, place, rule)
+}
+
+// The recordings of the worker with that number.
+fn open_own<H: House>(
+    alloc: Global,
+    house: &mut H,
+    worker: &mut ServeWorker<H::Door, H::Rest, H::File>,
+    config: &Config,
+    number: u32,
+) -> Result<(), OpenFail>
+    requires lawful { Lawful config.now }
+    requires places { length config.now.places ≡ length (shared_rules worker.old.bench.port).names }
+    ensures enlists { OnOk result (Enlists H.File.holds H.File.faults (recordings_of config.now number) worker.old worker.new) }
+    ensures house { MatchResult result (λ _. H.told house.new ≡ H.told house.old) (λ fail. HouseCause fail (H.told house.old) (H.told house.new)) }
+{
+    let mut place = 0;
+    let mut left = config.places.as_slice();
+    while let [rule, rest @ ..] = left {
+        open_own_place(alloc, house, worker, number, config.workers, place, rule)?;
+        place += 1;
+        left = rest;
+    }
     Ok(())
 }
 
@@ -176,16 +199,13 @@ fn open_worker<H: House>(
     config: &Config,
     number: u32,
     port: Shared<Desk>,
-    files: &mut Vec<Titled<H::File>>,
 ) -> Result<ServeWorker<H::Door, H::Rest, H::File>, OpenFail>
     requires number { number < 16 }
     requires lawful { Lawful config.now }
-    requires files { All (λ t. t.place < length (shared_rules port).names) files.old.items }
-    ensures files { IfOk result (λ _. All (λ t. t.place < length (shared_rules port).names) files.new.items) }
+    requires places { length config.now.places ≡ length (shared_rules port).names }
     ensures house { MatchResult result (λ _. H.told house.new ≡ H.told house.old) (λ fail. HouseCause fail (H.told house.old) (H.told house.new)) }
     ensures port { IfOk result (λ x. x.bench.port ≡ port) }
-    ensures number { IfOk result (λ x. x.terms.number ≡ number) }
-    ensures kept { IfOk result (λ x. (desk : Ask → Grant) → IsKept desk config.now.limits H.Door.Link.told H.Door.Link.counts H.Door.told x) }
+    ensures serving { IfOk result (λ x. IsServing config.now H.Door.Link.told H.Door.Link.counts H.Door.told H.File.holds H.File.faults number x) }
 {
     let Some(door) = house.door(number, config.listen.as_slice(), config.accept) else {
         return Err(OpenFail::HouseFault);
@@ -197,9 +217,7 @@ fn open_worker<H: House>(
     else {
         return Err(OpenFail::OutOfMemory);
     };
-    let Ok(()) = enlist_own(alloc, &mut worker, files, number, config.workers) else {
-        return Err(OpenFail::OutOfMemory);
-    };
+    open_own(alloc, house, &mut worker, config, number)?;
     Ok(worker)
 }
 
@@ -210,23 +228,22 @@ pub(crate) fn open_workers<H: House>(
     config: &Config,
     first: &Shared<Desk>,
     mut ports: Vec<Shared<Desk>>,
-    mut files: Vec<Titled<H::File>>,
 ) -> Result<Vec<ServeWorker<H::Door, H::Rest, H::File>>, OpenFail>
     requires lawful { Lawful config.now }
     requires few { vec_len ports ≤ 16 }
+    requires places { length config.now.places ≡ length (shared_rules first.now).names }
     requires rules { All (HasRules (shared_rules first.now)) ports.items }
-    requires files { All (λ t. t.place < length (shared_rules first.now).names) files.items }
     ensures house { MatchResult result (λ _. H.told house.new ≡ H.told house.old) (λ fail. HouseCause fail (H.told house.old) (H.told house.new)) }
     ensures rules { IfOk result (λ workers. All (λ x. HasRules (shared_rules first.now) x.bench.port) workers.items) }
     ensures each { IfOk result (λ workers. vec_len workers ≡ vec_len ports) }
-    ensures numbered { IfOk result (λ workers. AreNumbered workers.items) }
-    ensures kept { IfOk result (λ workers. (desk : Ask → Grant) → All (IsKept desk config.now.limits H.Door.Link.told H.Door.Link.counts H.Door.told) workers.items) }
+    ensures serving { IfOk result (λ workers.
+        EachAt (IsServing config.now H.Door.Link.told H.Door.Link.counts H.Door.told H.File.holds H.File.faults) workers.items) }
 {
     let _ = first;
     let mut workers = Vec::new(alloc);
     while let Some(port) = ports.pop() {
         let number = workers.len() as u32;
-        let worker = open_worker(alloc, house, config, number, port, &mut files)?;
+        let worker = open_worker(alloc, house, config, number, port)?;
         if workers.push(worker).is_err() {
             return Err(OpenFail::OutOfMemory);
         }

@@ -1,11 +1,22 @@
+use Rattle.std.proofs.Common.{rules}
 use Rattle.stream_registry.specs.Gates.{told_at}
-use Rattle.relay_serve.proofs.Counted.{later_then}
+use Rattle.stream_registry.specs.SharedState.{shared_rules}
+use Rattle.relay_outside.specs.Houses.{kept_file}
+use Rattle.relay_worker.specs.Running.{label_of}
+use Rattle.relay_serve.specs.Recorded.{IsRecorded}
+use Rattle.relay_serve.proofs.Recording.{recorded_by}
+use Rattle.relay_serve.proofs.Settling.{and_true}
+use Rattle.relay_serve.proofs.Telling.{one_more}
 use Rattle.relay_serve.proofs.ending.end_recorder.Goals as goal
 
-pub returns-then-kept-clause-grown : goal.returns-then-kept-clause-grown
-returns-then-kept-clause-grown g c =
-    later_then (told_at c.args.port.now.roots) (told_at c.settle-lacked.new.port.roots) (told_at c.part-file.new.port.roots) c.settle-lacked.ensures.grown c.part-file.ensures.grown
-
-pub returns-else-kept-clause-grown : goal.returns-else-kept-clause-grown
-returns-else-kept-clause-grown g c =
-    later_then (told_at c.args.port.now.roots) (told_at c.settle-lacked.new.port.roots) (told_at c.part-file.new.port.roots) c.settle-lacked.ensures.grown c.part-file.ensures.grown
+pub returns-clause-kept : goal.returns-clause-kept
+returns-clause-kept g c = λ whole.
+    let both = and_true c.keep-kept.result c.finish-file.result.1 whole in
+    let kept = c.keep-kept.ensures.kept both.0 in
+    let label = label_of c.args.recorder in
+    let R = IsRecorded (shared_rules c.args.port.now).limits (told_at c.args.port.now.roots) (told_at c.finish-file.new.port.roots) c.args.places.now in
+    one_more R label (g.H.House.told c.args.house.now).kept (g.H.House.told c.keep-kept.new.house).kept
+    (kept_file kept.0 (g.H.File.Sink.holds c.finish-file.result.0) (g.H.File.Sink.faults c.finish-file.result.0)) kept.2
+    (recorded_by (shared_rules c.args.port.now).limits (told_at c.args.port.now.roots) (told_at c.finish-file.new.port.roots) c.args.places.now label kept.0
+    (g.H.File.Sink.holds c.finish-file.result.0) (g.H.File.Sink.faults c.finish-file.result.0)
+    (search (rules, kept.1)) (c.finish-file.ensures.records both.1))

@@ -1,47 +1,61 @@
-use Rattle.std.proofs.Common.{rules, ◌≡◌, ◌∙◌, ℕ, sym, subst}
+use Rattle.std.proofs.Common.{rules, ◌≡◌, ◌∙◌, refl, sym, ap, subst}
+use Rattle.std.specs.List.{range_with_len}
 use Rattle.std.specs.Prelude.{All}
-use Rattle.relay_outside.specs.Doors.{IsDone}
 use Rattle.stream_registry.specs.Names.{PortRules}
-use Rattle.relay_session.specs.Grants.{granted_from}
 use Rattle.stream_registry.specs.Gates.{told_at}
 use Rattle.stream_registry.specs.SharedState.{shared_rules}
 use Rattle.relay_serve.specs.Ends.{Reports, seen}
 use Rattle.relay_serve.specs.Lasts.{AllEnd}
-use Rattle.relay_serve.specs.Settling.{IsBalanced, IsShut, ShutsMore}
-use Rattle.relay_serve.specs.Starts.{IsFiledBy}
-use Rattle.relay_serve.proofs.Settling.{more_later, not_true}
+use Rattle.relay_serve.specs.Recorded.{IsRecorded}
+use Rattle.relay_serve.specs.Recordings.{recordings_upto}
+use Rattle.relay_serve.specs.Settling.{IsBalanced, IsLeft, IsShut, TellsMore}
+use Rattle.relay_serve.proofs.Counted.{later_same, later_then}
+use Rattle.relay_serve.proofs.Recording.{recorded_later}
+use Rattle.relay_serve.proofs.Settling.{not_true}
+use Rattle.relay_serve.proofs.Telling.{more_same, more_weaker}
 use Rattle.relay_serve.proofs.serving.conclude.Goals as goal
 
-pub end_all-whole-requires-after_bounds : goal.end_all-whole-requires-after_bounds
-end_all-whole-requires-after_bounds g c κs within =
-    subst (λ (q : PortRules). All (λ x. IsDone (g.H.Door.Door.told x.door) × All (IsFiledBy q) x.recorders.items) c.in-Ok.left.list.items)
+pub end_all-whole-requires-clause-numbered : goal.end_all-whole-requires-clause-numbered
+end_all-whole-requires-clause-numbered g c κs within = λ i d l. c.in-Ok.ensures.numbered i d l ∙ sym c.in-Ok.ensures.each
+
+pub end_all-whole-requires-clause-left : goal.end_all-whole-requires-clause-left
+end_all-whole-requires-clause-left g c κs within =
+    subst (λ (q : PortRules). All (λ x. IsLeft c.args.config.now g.H.File.Sink.holds g.H.File.Sink.faults q x.number (g.H.Door.Door.told x.door) x.recorders.items) c.in-Ok.left.list.items)
     (sym c.take_all_apart.ensures.rules) c.in-Ok.ensures.left
 
 pub returns-in-Ok-put_all : goal.returns-in-Ok-put_all
 returns-in-Ok-put_all g c =
-    let desk = granted_from 0 c.args.config.now.places in
-    let limits = c.args.config.now.limits in
-    let streams = (shared_rules c.args.ready.port).limits in
+    let config = c.args.config.now in
+    let streams = (shared_rules c.args.port.now).limits in
+    let joined = told_at c.take_all_apart.new.first.roots in
     let h = told_at c.end_all-whole.new.port.roots in
     let k = told_at c.count_all.new.port.roots in
-    let before = (g.H.House.told c.args.house.now).shut in
-    let now = (g.H.House.told c.end_all-whole.new.house).shut in
-    let count = c.in-Ok.left.list.len in
-    let same : shared_rules c.take_all_apart.new.first ≡ shared_rules c.args.ready.port = c.take_all_apart.ensures.rules in
+    let before = g.H.House.told c.args.house.now in
+    let now = g.H.House.told c.end_all-whole.new.house in
+    let same : shared_rules c.take_all_apart.new.first ≡ shared_rules c.args.port.now = c.take_all_apart.ensures.rules in
+    let count : c.in-Ok.left.list.len ≡ config.workers = c.in-Ok.ensures.each ∙ c.requires.each in
     let whole = not_true c.in-Ok.left.refused c.if-not-left.true in
-    let balanced = subst (λ (q : PortRules). All (λ x. IsBalanced desk limits q.limits (told_at c.take_all_apart.new.first.roots) x.number (g.H.Door.Door.told x.door))
-    c.in-Ok.left.list.items) (sym same) (c.in-Ok.ensures.balanced desk limits c.requires.kept c.requires.numbered whole) in
-    let shut = subst (λ (q : PortRules). ShutsMore (IsShut desk limits q.limits h) count before now) same (c.end_all-whole.ensures.shut c.if-whole.true desk limits balanced) in
-    let later = more_later desk limits streams h k c.count_all.ensures.grown count before now shut in
-    let reports : Reports c.args.config.now (seen (g.K.Sink.holds c.args.out.now) (g.K.Sink.faults c.args.out.now) (g.H.House.told c.args.house.now))
-    (seen (g.K.Sink.holds c.put_all.new.out) (g.K.Sink.faults c.put_all.new.out) (g.H.House.told c.end_all-whole.new.house)) = record {
+    let balanced = subst (λ (q : PortRules). All (λ x. IsBalanced config q.limits joined x.number (g.H.Door.Door.told x.door)) c.in-Ok.left.list.items)
+    (sym same) (c.in-Ok.ensures.balanced whole) in
+    let shut = subst (λ (q : PortRules). TellsMore (IsShut config q.limits joined) (range_with_len 0 c.in-Ok.left.list.len) before.shut now.shut) same
+    (c.end_all-whole.ensures.shut c.if-whole.true balanced) in
+    let kept = subst (λ (q : PortRules). TellsMore (IsRecorded q.limits joined h config.places) (recordings_upto config c.in-Ok.left.list.len) before.kept now.kept) same
+    (c.end_all-whole.ensures.kept c.if-whole.true) in
+    let reports : Reports config k (seen (g.K.Sink.holds c.args.out.now) (g.K.Sink.faults c.args.out.now) before)
+    (seen (g.K.Sink.holds c.put_all.new.out) (g.K.Sink.faults c.put_all.new.out) now) = record {
       counts = c.in-Ok-count_all.counts.items;
       each = search rules;
       written = search rules;
       streams = streams;
       limited = c.requires.limits;
-      histories = k;
       last = subst (λ (q : PortRules). AllEnd q.limits c.in-Ok-count_all.counts.items k) (c.end_all-whole.ensures.rules ∙ same) c.in-Ok-count_all.ensures.last;
-      shut = subst (λ (n : ℕ). ShutsMore (IsShut desk limits streams k) n before now) (c.in-Ok.ensures.each ∙ c.requires.each) later;
+      joined = joined;
+      later = later_then joined h k c.end_all-whole.ensures.grown c.count_all.ensures.grown;
+      shut = more_same (IsShut config streams joined) (range_with_len 0 c.in-Ok.left.list.len) (range_with_len 0 config.workers) before.shut before.shut now.shut
+          (ap (range_with_len 0) count) refl shut;
+      kept = more_weaker (IsRecorded streams joined h config.places) (IsRecorded streams joined k config.places)
+          (recorded_later streams joined joined h k (later_same joined) c.count_all.ensures.grown config.places) (recordings_upto config config.workers) before.kept now.kept
+          (more_same (IsRecorded streams joined h config.places) (recordings_upto config c.in-Ok.left.list.len) (recordings_upto config config.workers)
+          before.kept before.kept now.kept (ap (recordings_upto config) count) refl kept);
     } in
     (reports, c.in-Ok-put_all.ensures.faults, c.end_all-whole.ensures.faults)

@@ -1,19 +1,19 @@
-use Rattle.std.proofs.Common.{rules, subst}
+use Rattle.std.proofs.Common.{rules, subst, []}
 use Rattle.relay_outside.specs.Houses.{HouseTold}
+use Rattle.stream_registry.specs.Gates.{told_at}
 use Rattle.relay_serve.specs.Ends.{RunsAs, seen}
 use Rattle.relay_serve.proofs.Ends.{runs_unopened}
 use Rattle.relay_serve.proofs.serving.run.Goals as goal
 
-pub conclude-requires-clause-kept : goal.conclude-requires-clause-kept
-conclude-requires-clause-kept g c κs within = c.run_workers-workers.ensures.kept c.args.config.now.limits c.in-Ok.ensures.kept
-
 pub returns-in-Ok : goal.returns-in-Ok
-returns-in-Ok g c =
-    subst (λ (h : HouseTold). RunsAs c.args.config.now (seen (g.K.Sink.holds c.args.out.now) (g.K.Sink.faults c.args.out.now) h)
-    (seen (g.K.Sink.holds c.conclude.new.out) (g.K.Sink.faults c.conclude.new.out) (g.H.House.told c.conclude.new.house)) c.conclude.result) c.in-Ok.ensures.house c.conclude.ensures
+returns-in-Ok g c = (
+  told_at c.conclude.new.port.roots,
+  subst (λ (h : HouseTold). RunsAs c.args.config.now (told_at c.conclude.new.port.roots) (seen (g.K.Sink.holds c.args.out.now) (g.K.Sink.faults c.args.out.now) h)
+      (seen (g.K.Sink.holds c.conclude.new.out) (g.K.Sink.faults c.conclude.new.out) (g.H.House.told c.conclude.new.house)) c.conclude.result) c.in-Ok.ensures.house c.conclude.ensures,
+)
 
 pub returns-in-Err : goal.returns-in-Err
 returns-in-Err g c =
-    let r = runs_unopened c.args.config.now (g.K.Sink.holds c.args.out.now) (g.K.Sink.faults c.args.out.now) (g.H.House.told c.args.house.now)
+    let r = runs_unopened c.args.config.now (λ q. []) (g.K.Sink.holds c.args.out.now) (g.K.Sink.faults c.args.out.now) (g.H.House.told c.args.house.now)
     (g.H.House.told c.make_ready.new.house) c.in-Err.fail c.in-Err.ensures.house in
-    search (rules, r)
+    (λ q. [], search (rules, r))

@@ -1,8 +1,11 @@
 use Rattle.std.proofs.Common.{rules, ◌≡◌, ◌<◌, ◌∙◌, sym, ap, subst, arith, length}
-use Rattle.std.specs.Prelude.{All, List}
-use Rattle.relay_config.specs.declared.config.PlaceRule.{PlaceRule}
+use Rattle.std.specs.Prelude.{All, slice_index_or}
+use Rattle.command_dialog.specs.declared.types.Ask.{Ask}
+use Rattle.command_dialog.specs.declared.types.Grant.{Grant}
+use Rattle.relay_worker.specs.Books.{HasBooks}
 use Rattle.relay_worker.specs.declared.bench.Terms.{Terms}
-use Rattle.relay_serve.specs.Settling.{IsKept}
+use Rattle.relay_serve.specs.Settling.{EachAt, IsServing}
+use Rattle.stream_registry.specs.Gates.{told, told_at}
 use denote.Exit.{yes}
 use denote.Param.Send.{arg_send, param_send}
 use Rattle.stream_registry.specs.Names.{PortRules}
@@ -47,16 +50,26 @@ returns-clause-rules g c =
     (λ i d l. let m : i < length c.as_mut_slice.result.now = omega (arith, long, ap length same, c.args.workers.ok.0, l) in
     (c.run_all.ensures.keeps i d m).port.fixed ∙ old i d m)
 
-pub returns-clause-kept : goal.returns-clause-kept
-returns-clause-kept g c = λ limits all.
+pub returns-clause-serving : goal.returns-clause-serving
+returns-clause-serving g c =
     let xs = c.run_all.new.workers in
     let long : length xs ≡ c.args.workers.len = search rules in
     let same : c.as_mut_slice.result.now ≡ c.args.workers.items = search rules in
-    let desk = granted_from 0 c.new-desk.result.list.now in
-    let old = subst (All (IsKept desk limits g.D.Link.Link.told g.D.Link.Link.counts g.D.Door.told)) (sym same) (all desk) in
-    let kept : All (IsKept desk limits g.D.Link.Link.told g.D.Link.Link.counts g.D.Door.told) xs = λ i d l.
+    let P = IsServing c.args.config.now g.D.Link.Link.told g.D.Link.Link.counts g.D.Door.told g.K.Sink.holds g.K.Sink.faults in
+    let desk : granted_from 0 c.new-desk.result.list.now ≡ granted_from 0 c.args.config.now.places = ap (granted_from 0) c.new-desk.ensures in
+    let old = subst (EachAt P) (sym same) c.requires.serving in
+    let kept : EachAt P xs = λ i d l.
     let m : i < length c.as_mut_slice.result.now = omega (arith, long, ap length same, c.args.workers.ok.0, l) in
     let o = old i d m in
-    record { limited = ap (λ (t : Terms). t.limits) (c.run_all.ensures.keeps i d m).terms ∙ o.limited; books = c.run_all.ensures.books i d m o.books } in
-    subst (All (IsKept (granted_from 0 c.args.list.now) limits g.D.Link.Link.told g.D.Link.Link.counts g.D.Door.told)) (sym (kept_all c.args.workers.len xs _ long))
-    (subst (λ (l : List PlaceRule). All (IsKept (granted_from 0 l) limits g.D.Link.Link.told g.D.Link.Link.counts g.D.Door.told) xs) c.new-desk.ensures kept)
+    let k = c.run_all.ensures.keeps i d m in
+    record {
+      number_is = ap (λ (t : Terms). t.number) k.terms ∙ o.number_is;
+      limited = ap (λ (t : Terms). t.limits) k.terms ∙ o.limited;
+      books = subst (λ (f : Ask → Grant). HasBooks shared_rules (λ s. told_at s.roots) (λ p. told p.seen) g.D.Link.Link.told g.D.Link.Link.counts g.D.Door.told f (slice_index_or xs i d)) desk
+          (c.run_all.ensures.books i d m
+          (subst (λ (f : Ask → Grant). HasBooks shared_rules (λ s. told_at s.roots) (λ p. told p.seen) g.D.Link.Link.told g.D.Link.Link.counts g.D.Door.told f (slice_index_or c.as_mut_slice.result.now i d))
+          (sym desk) o.books));
+      labels = k.labels ∙ o.labels;
+      tallies = c.run_all.ensures.tallies i d m o.tallies;
+    } in
+    subst (EachAt P) (sym (kept_all c.args.workers.len xs _ long)) kept

@@ -1,20 +1,16 @@
-use Rattle.std.proofs.Common.{◌≡◌, ◌<◌, ◌+◌, length}
+use Rattle.std.proofs.Common.{◌≡◌, ◌+◌, length}
 use Rattle.std.specs.Prelude.{All}
 use Rattle.stream_registry.specs.SharedState.{shared_rules}
-use Rattle.command_dialog.specs.declared.types.Ask.{Ask}
-use Rattle.command_dialog.specs.declared.types.Grant.{Grant}
-use Rattle.relay_serve.specs.Settling.{AreNumbered, IsKept}
+use Rattle.relay_serve.specs.Settling.{EachAt, IsServing}
 use Rattle.relay_serve.specs.Starts.{HasRules}
 use Rattle.relay_serve.proofs.starting.open_workers.Given as goal
 
 abbrev pub invariant-loop-port : goal.invariant-loop-port
 invariant-loop-port g l = record {
   ports : All (HasRules (shared_rules l.first)) l.ports.items;
-  files : All (λ t. t.place < length (shared_rules l.first).names) l.files.items;
   workers : All (λ x. HasRules (shared_rules l.first) x.bench.port) l.workers.items;
   count : length l.workers.items + length l.ports.items ≡ length l.fn.ports.items;
-  numbered : AreNumbered l.workers.items;
-  kept : (desk : Ask → Grant) → All (IsKept desk l.config.limits g.H.Door.Link.Link.told g.H.Door.Link.Link.counts g.H.Door.Door.told) l.workers.items;
+  serving : EachAt (IsServing l.config g.H.Door.Link.Link.told g.H.Door.Link.Link.counts g.H.Door.Door.told g.H.File.Sink.holds g.H.File.Sink.faults) l.workers.items;
   house : g.H.House.told l.house ≡ g.H.House.told l.fn.house;
 }
 

@@ -1,0 +1,20 @@
+use Rattle.std.proofs.Common.{◌≡◌, ◌+◌, ◌++◌, length}
+use Rattle.std.specs.Prelude.{All, map}
+use Rattle.relay_worker.specs.Filed.{Tallies}
+use Rattle.relay_worker.specs.Running.{label_of}
+use Rattle.relay_serve.specs.Recordings.{own_from, recordings_of}
+use Rattle.relay_serve.proofs.starting.open_own.Given as goal
+
+abbrev pub invariant-loop-left : goal.invariant-loop-left
+invariant-loop-left g l = record {
+  at : l.place + length l.left ≡ length l.config.places;
+  bench : l.worker.bench ≡ l.fn.worker.bench;
+  terms : l.worker.terms ≡ l.fn.worker.terms;
+  labels : map label_of l.worker.recorders ++ own_from l.config.workers l.number l.place l.left
+      ≡ map label_of l.fn.worker.recorders ++ recordings_of l.config l.number;
+  tallies : All (Tallies g.H.File.Sink.holds g.H.File.Sink.faults) l.fn.worker.recorders → All (Tallies g.H.File.Sink.holds g.H.File.Sink.faults) l.worker.recorders;
+  house : g.H.House.told l.house ≡ g.H.House.told l.fn.house;
+}
+
+abbrev pub decreases-loop-left : goal.decreases-loop-left
+decreases-loop-left g l = length l.left
