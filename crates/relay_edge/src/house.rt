@@ -246,6 +246,8 @@ where
 
     ghost told = { λ h. h };
 
+    ghost asked = { λ _. None };
+
     fn door(&mut self, worker: u32, listen: &[u8], accept: u32) -> Option<RealDoor> {
         match self.sockets.door(self.rt, worker, listen, accept) {
             Ok(door) => Some(door),

@@ -32,6 +32,15 @@ pub record HouseTold : Type 0 where
   -- the doors that were shut, in order, where it tells them
   pub shut : Option (List Shut)
 
+-- a door that was given: for which worker, at which address it was to listen, and after how many links to close
+pub record Asked : Type 0 where
+  pub worker : ℕ
+  pub listen : List ℕ
+  pub accept : ℕ
+
+abbrev pub asked_door : ℕ → List ℕ → ℕ → Option Asked
+asked_door worker listen accept = Some (record { worker = worker; listen = listen; accept = accept })
+
 -- a file that has no faults and, where it tells, holds nothing
 pub record IsNewFile (holds : Option (List ℕ)) (faults : ℕ) : Type 0 where
   pub none : faults ≡ 0

@@ -1,5 +1,5 @@
 -- What a door and a house in memory are, and what their calls do.
-use Rattle.std.specs.Prelude.{◌≡◌, ℕ, ◌+◌, Bool, true, false, List, [], ◌∷◌, map, Option, Some, nat_eq, slice_get}
+use Rattle.std.specs.Prelude.{◌≡◌, ℕ, ◌+◌, Bool, true, false, List, [], ◌∷◌, ◌++◌, map, Option, Some, nat_eq, slice_get, slice_set}
 use Rattle.std.specs.List.{find}
 use Rattle.std.specs.Option.{option_map, option_and_then}
 use Rattle.std.specs.Cmp.Lexicographic.{pointwise}
@@ -7,7 +7,7 @@ use Rattle.relay_outside.specs.Counts.{CallCount, next_fails, called}
 use Rattle.relay_outside.specs.Memory.{MemSinkState}
 use Rattle.relay_outside.specs.MemLinks.{MemLinkState, mem_told}
 use Rattle.relay_outside.specs.Doors.{DoorTold, Returned, IsNewLink, IsNewDoor}
-use Rattle.relay_outside.specs.Houses.{HouseTold}
+use Rattle.relay_outside.specs.Houses.{Asked, HouseTold}
 use Rattle.relay_outside.specs.declared.door.Knock.{Knock}
 use Rattle.relay_outside.specs.declared.door.Knock.TheVariants as knock
 
@@ -68,6 +68,8 @@ pub record MemHouseState : Type 0 where
   pub gone : List MemShutState
   -- how many of the files had faults
   pub spoiled : ℕ
+  -- the doors that it gave, as they were asked for
+  pub asked : List Asked
   -- its calls `door`, `rest` and `file`
   pub count : CallCount
 
@@ -77,6 +79,14 @@ house_told h = record {
   spoiled = h.spoiled;
   kept = Some (map (λ f. record { name = f.name; bytes = f.sink.bytes; faults = f.sink.count.faults }) h.files);
   shut = Some (map (λ g. record { worker = g.worker; given = g.door.given; back = map mem_returned g.door.home }) h.gone);
+}
+
+-- the door of a worker was given, and one without links is there in its place
+abbrev pub house_gave : MemHouseState → ℕ → List ℕ → ℕ → MemHouseState
+house_gave h worker listen accept = record h {
+  doors = slice_set h.doors worker no_door;
+  asked = h.asked ++ record { worker = worker; listen = listen; accept = accept } ∷ [];
+  count = called h.count;
 }
 
 -- with one call of `door`, `rest` or `file` more

@@ -1,6 +1,6 @@
-ghost use Rattle.std.specs.Prelude.{◌≡◌, IfSome, IfNone, OnOk, OnErr};
-ghost use Rattle.relay_outside.specs.Doors.{IsNewDoor, IsDone};
-ghost use Rattle.relay_outside.specs.Houses.{HouseTold, IsNewFile, Refuses, Keeps, kept_file, with_shut, shut_door};
+ghost use Rattle.std.specs.Prelude.{◌≡◌, List, Option, Some, IfSome, IfNone, OnOk, OnErr};
+ghost use Rattle.relay_outside.specs.Doors.{IsNewDoor, IsDone, with_one};
+ghost use Rattle.relay_outside.specs.Houses.{Asked, HouseTold, IsNewFile, asked_door, Refuses, Keeps, kept_file, with_shut, shut_door};
 
 use crate::{Door, Sink};
 use std::alloc::AllocError;
@@ -27,33 +27,42 @@ pub trait House: Drop {
     /// last value of a u64 stays there, and is said to rise.
     ghost told: { Self → HouseTold };
 
+    /// The doors that it gave, as they were asked for, in order, where it tells them.
+    ghost asked: { Self → Option (List Asked) };
+
     /// Gives the door of a worker, which is new. It is to listen at that address and to close after so many
     /// links, 0 being any number. `None` comes only where the house's faults rose.
     fn door(&mut self, worker: u32, listen: &[u8], accept: u32) -> Option<Self::Door>
         ensures new { IfSome result (λ d. IsNewDoor (Self.Door.told d) × (told self.new ≡ told self.old)) }
-        ensures none { IfNone result (Refuses (told self.old) (told self.new)) };
+        ensures none { IfNone result (Refuses (told self.old) (told self.new)) }
+        ensures asked { IfSome result (λ _. asked self.new ≡ with_one (asked self.old) (asked_door worker listen.now accept)) }
+        ensures unasked { IfNone result (asked self.new ≡ asked self.old) };
 
     /// Gives the rest of a worker. `None` comes only where the house's faults rose.
     fn rest(&mut self, worker: u32) -> Option<Self::Rest>
         ensures new { IfSome result (λ _. told self.new ≡ told self.old) }
-        ensures none { IfNone result (Refuses (told self.old) (told self.new)) };
+        ensures none { IfNone result (Refuses (told self.old) (told self.new)) }
+        ensures asked { asked self.new ≡ asked self.old };
 
     /// Gives a new file of that name. `None` comes only where the house's faults rose.
     fn file(&mut self, name: &[u8]) -> Option<Self::File>
         ensures new { IfSome result (λ f. IsNewFile (Self.File.holds f) (Self.File.faults f) × (told self.new ≡ told self.old)) }
-        ensures none { IfNone result (Refuses (told self.old) (told self.new)) };
+        ensures none { IfNone result (Refuses (told self.old) (told self.new)) }
+        ensures asked { asked self.new ≡ asked self.old };
 
     /// Keeps a file under a name. It counts as spoiled exactly where the file has faults. A refusal, for
     /// want of memory, drops the file and changes nothing.
     fn keep(&mut self, name: &[u8], file: Self::File) -> Result<(), AllocError>
         ensures kept { OnOk result (Keeps (told self.old) (told self.new) (Self.File.faults file)
             (kept_file name.now (Self.File.holds file) (Self.File.faults file))) }
-        ensures refused { OnErr result (told self.new ≡ told self.old) };
+        ensures refused { OnErr result (told self.new ≡ told self.old) }
+        ensures asked { asked self.new ≡ asked self.old };
 
     /// Takes back the door of a worker, which is closed or has given 2^40 links. A refusal, for want of
     /// memory, drops the door and changes nothing.
     fn shut(&mut self, worker: u32, door: Self::Door) -> Result<(), AllocError>
         requires { IsDone (Self.Door.told door) }
         ensures shut { OnOk result (told self.new ≡ with_shut (told self.old) (shut_door worker (Self.Door.told door))) }
-        ensures refused { OnErr result (told self.new ≡ told self.old) };
+        ensures refused { OnErr result (told self.new ≡ told self.old) }
+        ensures asked { asked self.new ≡ asked self.old };
 }

@@ -1,13 +1,14 @@
 ghost use Rattle.std.specs.Prelude.{◌≡◌, [], ◌++◌, ◌∷◌, All, Some, IfSome, IfNone, OnOk, OnErr, true, false};
-ghost use Rattle.std.specs.Prelude.{slice_set, slice_index_or, nat_eq, if◌then◌else◌};
+ghost use Rattle.std.specs.Prelude.{slice_index_or, nat_eq, if◌then◌else◌};
 ghost use Rattle.std.specs.Option.{option_copied};
 ghost use Rattle.relay_outside.specs.Counts.{next_fails, risen};
-ghost use Rattle.relay_outside.specs.Doors.{IsNewDoor, IsDone};
-ghost use Rattle.relay_outside.specs.Houses.{IsNewFile, Refuses, Keeps, kept_file, with_shut, shut_door};
-ghost use Rattle.relay_outside.specs.MemDoors.{IsNewMemDoor, door_told, house_told, house_called, no_door, bytes_kept, door_of, took_back};
+ghost use Rattle.relay_outside.specs.Doors.{IsNewDoor, IsDone, with_one};
+ghost use Rattle.relay_outside.specs.Houses.{IsNewFile, Refuses, Keeps, asked_door, kept_file, with_shut, shut_door};
+ghost use Rattle.relay_outside.specs.MemDoors.{IsNewMemDoor, door_told, house_told, house_called, house_gave, no_door, bytes_kept, door_of, took_back};
 
 use crate::calls::Calls;
 use crate::{House, MemDoor, MemSink, Rest};
+use past::Flow;
 use std::alloc::{AllocError, Global};
 use std::marker::Model;
 
@@ -51,6 +52,36 @@ impl Model for ShutDoor {
     ghost view = { λ s. record { worker = s.by; door = s.shut } };
 }
 
+// A door that was given, as only clauses see it, of no bytes for its address.
+#[derive(Drop)]
+struct GivenDoor {
+    by: u32,
+    at: Flow<u8>,
+    after: u32,
+}
+
+impl Model for GivenDoor {
+    ghost use Rattle.relay_outside.specs.Houses.{Asked};
+
+    ghost Value = { Asked };
+
+    ghost view = { λ g. record { worker = g.by; listen = g.at; accept = g.after } };
+}
+
+impl GivenDoor {
+    fn new(worker: u32, listen: &[u8], accept: u32) -> GivenDoor
+        ensures { result ≡ record { worker = worker; listen = listen.now; accept = accept } }
+    {
+        let mut at = Flow::new();
+        at.add_all(listen);
+        GivenDoor {
+            by: worker,
+            at,
+            after: accept,
+        }
+    }
+}
+
 /// A house in memory. It tells the files that were kept and the doors that were shut.
 ///
 /// A call that doesn't fail gives the worker with a number the door with that number, and a door without
@@ -62,6 +93,7 @@ pub struct MemHouse {
     stored: Vec<MemFile>,
     returned: Vec<ShutDoor>,
     spoilt: u64,
+    given: Flow<GivenDoor>,
     made: Calls,
 }
 
@@ -76,6 +108,7 @@ impl Model for MemHouse {
       files = h.stored.items;
       gone = h.returned.items;
       spoiled = h.spoilt;
+      asked = h.given;
       count = h.made;
     } };
 
@@ -93,6 +126,7 @@ impl MemHouse {
           files = [];
           gone = [];
           spoiled = 0;
+          asked = [];
           count = record { fails = fails.items; calls = 0; faults = 0 };
         } }
     {
@@ -102,6 +136,7 @@ impl MemHouse {
             stored: Vec::new(alloc),
             returned: Vec::new(alloc),
             spoilt: 0,
+            given: Flow::new(),
             made: Calls::new(fails),
         }
     }
@@ -149,16 +184,21 @@ impl House for MemHouse {
 
     ghost told = { house_told };
 
-    fn door(&mut self, worker: u32, _listen: &[u8], _accept: u32) -> Option<MemDoor>
+    ghost asked = { λ h. Some h.asked };
+
+    fn door(&mut self, worker: u32, listen: &[u8], accept: u32) -> Option<MemDoor>
         ensures new { IfSome result (λ d. IsNewDoor (door_told d) × (house_told self.new ≡ house_told self.old)) }
         ensures none { IfNone result (Refuses (house_told self.old) (house_told self.new)) }
         ensures given { IfSome result (λ d. (next_fails self.old.count ≡ false) × (d ≡ slice_index_or self.old.doors worker no_door)
-            × (self.new ≡ record (house_called self.old) { doors = slice_set self.old.doors worker no_door })) }
+            × (self.new ≡ house_gave self.old worker listen.now accept)) }
         ensures refused { IfNone result ((next_fails self.old.count ≡ true) × (self.new ≡ house_called self.old)) }
+        ensures asked { IfSome result (λ _. Some self.new.asked ≡ with_one (Some self.old.asked) (asked_door worker listen.now accept)) }
+        ensures unasked { IfNone result (Some self.new.asked ≡ Some self.old.asked) }
     {
         if self.made.fails_next() {
             return None;
         }
+        self.given.add(&GivenDoor::new(worker, listen, accept));
         let index = worker as usize;
         let empty = self.empty_door();
         if index < self.list.len() {
@@ -173,6 +213,7 @@ impl House for MemHouse {
         ensures none { IfNone result (Refuses (house_told self.old) (house_told self.new)) }
         ensures given { IfSome result (λ _. (next_fails self.old.count ≡ false) × (self.new ≡ house_called self.old)) }
         ensures refused { IfNone result ((next_fails self.old.count ≡ true) × (self.new ≡ house_called self.old)) }
+        ensures asked { Some self.new.asked ≡ Some self.old.asked }
     {
         if self.made.fails_next() {
             return None;
@@ -186,6 +227,7 @@ impl House for MemHouse {
         ensures given { IfSome result (λ f. (next_fails self.old.count ≡ false) × (self.new ≡ house_called self.old)
             × (f ≡ record { bytes = []; count = record { fails = []; calls = 0; faults = 0 } })) }
         ensures refused { IfNone result ((next_fails self.old.count ≡ true) × (self.new ≡ house_called self.old)) }
+        ensures asked { Some self.new.asked ≡ Some self.old.asked }
     {
         if self.made.fails_next() {
             return None;
@@ -202,6 +244,7 @@ impl House for MemHouse {
           spoiled = if nat_eq file.count.faults 0 then self.old.spoiled else risen self.old.spoiled;
         }) }
         ensures same { OnErr result (self.new ≡ self.old) }
+        ensures asked { Some self.new.asked ≡ Some self.old.asked }
     {
         let title = name.to_vec(self.alloc)?;
         let spoils = file.faults() > 0;
@@ -222,6 +265,7 @@ impl House for MemHouse {
         ensures refused { OnErr result (house_told self.new ≡ house_told self.old) }
         ensures exact { OnOk result (self.new ≡ record self.old { gone = self.old.gone ++ record { worker = worker; door = door } ∷ [] }) }
         ensures same { OnErr result (self.new ≡ self.old) }
+        ensures asked { Some self.new.asked ≡ Some self.old.asked }
     {
         match self.returned.push(ShutDoor {
             by: worker,
