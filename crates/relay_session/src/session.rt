@@ -8,7 +8,7 @@ ghost use Rattle.relay_session.specs.Keeping.{past_of};
 ghost use Rattle.relay_session.specs.Owing.{pending};
 ghost use Rattle.relay_session.specs.Onward.{GoesOn};
 ghost use Rattle.relay_session.specs.Places.{Asked, IsAt, IsOffered};
-ghost use Rattle.relay_session.specs.SeatState.{GoOn, HasFit, LeaveFails, LeavesFrom, StandsAt, left_at, place_of};
+ghost use Rattle.relay_session.specs.SeatState.{GoOn, HasFit, IsElsewhere, LeaveFails, LeavesFrom, StandsAt, left_at, place_of};
 ghost use Rattle.relay_session.specs.SessionState.{BeginsOwed, IsUnsent, Publishes, StandsFor, end_or_quit, ended_by, gone_but_kept, life_at};
 ghost use Rattle.relay_session.specs.Turns.{EndedBy};
 
@@ -139,9 +139,11 @@ impl<P: StreamPort> Session<P> {
         ensures roots { GoOn (P.root port.old) (P.root port.new) }
         ensures fixed { P.rules port.new ≡ P.rules port.old }
         ensures busies { P.busies port.old ≤ P.busies port.new }
+        ensures others { (q : ℕ) → IsElsewhere self.old.seat.spot q → P.root port.new q ≡ P.root port.old q }
         ensures passes { (q : ℕ) (p : P.Pass) → P.fits port.old q p → P.fits port.new q p }
         ensures ended { self.new.ended ≡ Some (end_or_quit self.old.ended) }
         ensures gone { gone_but_kept self.new.parts ≡ gone_but_kept self.old.parts }
+        ensures untouched { (self.new.quit ≡ self.old.quit) × (self.new.input ≡ self.old.input) }
     {
         let who = self.body.core.who;
         let fed = self.body.core.fed;
