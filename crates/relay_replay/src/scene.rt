@@ -533,12 +533,13 @@ impl Scene {
     }
 
     /// Does what a line says. The answer is `Outside` exactly where the line may not stand here, or names a stream, a
-    /// recorder or a session that isn't there.
+    /// recorder or a session that isn't there; then nothing is done.
     pub fn act(&mut self, guards: &Guards, line: ReplayLine) -> Result<(), LineFail>
         requires sound { IsSound self.old }
         ensures does { OnOk result (Does line self.old self.new) }
         ensures sound { OnOk result (IsSound self.new) }
         ensures outside { (result ≡ Err LineFail.Outside) ↔ (allows line (stand_of self.old) ≡ false) }
+        ensures refused { result ≡ Err LineFail.Outside → self.new ≡ self.old }
     {
         if !self.allows(&line) {
             return Err(LineFail::Outside);
@@ -550,10 +551,11 @@ impl Scene {
     }
 
     /// What is printed at the script's end: of each session what it was sent and how it ended, of each recorder its file
-    /// and how it ended, what each stream holds, and what all hold together, beside the most that they may.
+    /// and how it ended, what each stream holds, and what all hold together, beside the most that they may. Nothing runs then.
     pub fn report(&mut self) -> Result<Bytes, OutOfMemory>
         requires { IsSound self.old }
-        ensures { IfOk result (λ text. Prints self.old text) }
+        ensures prints { IfOk result (λ text. Prints self.old text) }
+        ensures over { self.new ≡ record self.old { cast = None } }
     {
         let cast = self.opened()?;
         report(self.alloc, &self.limits, self.places.len(), &cast)
