@@ -93,6 +93,7 @@ pub fn run<S: Source, K: Sink>(
     ensures check_codes { command_of (map (λ w. w.items) words.now) ≡ Some Check → result.code ≡ 8 → ⊥ }
     ensures none { command_of (map (λ w. w.items) words.now) ≡ None → result.code ≡ 2 }
     ensures words { result.code ≡ 2 → command_of (map (λ w. w.items) words.now) ≡ None }
+    ensures place { (result.code ≡ 4 → ⊥) → result.place ≡ 0 }
     ensures untouched { result.code ≡ 2 → (input.new ≡ input.old) × (out.new ≡ out.old) }
 {
     match command_of(words) {
