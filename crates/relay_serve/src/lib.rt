@@ -11,6 +11,3 @@ mod starting;
 
 pub use laws::recordings_law;
 pub use serving::{Ending, serve};
-
-#[cfg(test)]
-mod tests;

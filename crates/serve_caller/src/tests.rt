@@ -1,0 +1,182 @@
+//! Servers that run until the last link is gone, or that serve nobody.
+ghost use Rattle.std.specs.Prelude.{◌≡◌, IfOk};
+ghost use Rattle.key_guard.specs.Allowed.{is_allowed};
+ghost use Rattle.relay_outside.specs.MemDoors.{IsNewMemLink};
+
+use crate::waiting::WaitingHouse;
+use key_guard::{Grants, Guard, Guards, Mode, by_digest, by_name};
+use relay_outside::{House, MemDoor, MemHouse, MemLink, MemSink, MemSource};
+use relay_serve::serve;
+use std::alloc::{AllocError, Global};
+use std::sync::Wait;
+use std::test::Fail;
+use std::thread::Threads;
+
+const RECORDS: &[u8] =
+    b"[relay]\nlisten = \"127.0.0.1:1935\"\nworkers = 2\naccept = 1\n[[stream]]\napp = \"live\"\nname = \"one\"\nflv = \"one.flv\"\nts = \"one.ts\"\n";
+
+const KEEPS_NOTHING: &[u8] =
+    b"[relay]\nlisten = \"127.0.0.1:1935\"\nworkers = 2\n[[stream]]\napp = \"live\"\nname = \"one\"\n";
+
+// What a client sends after its handshake to connect to an app.
+const CONNECTS: &[u8] =
+    b"\x03\x00\x00\x00\x00\x00\x23\x14\x00\x00\x00\x00\x02\x00\x07connect\x00\x3f\xf0\x00\x00\x00\x00\x00\x00\x03\x00\x03app\x02\x00\x04live\x00\x00\x09";
+
+// And then to open a message stream and to publish there, and an AAC configuration.
+const PUBLISHES: &[u8] =
+    b"\x03\x00\x00\x00\x00\x00\x19\x14\x00\x00\x00\x00\x02\x00\x0ccreateStream\x00\x40\x00\x00\x00\x00\x00\x00\x00\x05\
+\x03\x00\x00\x00\x00\x00\x21\x14\x01\x00\x00\x00\x02\x00\x07publish\x00\x40\x14\x00\x00\x00\x00\x00\x00\x05\x02\x00\x03one\x02\x00\x04live\
+\x06\x00\x00\x00\x00\x00\x04\x08\x01\x00\x00\x00\xaf\x00\x12\x10";
+
+// A frame.
+const FRAME: &[u8] = b"\x06\x00\x00\x00\x00\x00\x03\x08\x01\x00\x00\x00\xaf\x01\x21";
+
+// Whether the grants allow the key in mode `Plain`.
+fn is_named(grants: &Grants, key: &[u8]) -> bool
+    ensures { result ≡ is_allowed Mode.Plain grants.now key.now }
+{
+    by_name(grants, key)
+}
+
+// Whether the grants allow the key in mode `Digest`.
+fn is_digested(grants: &Grants, key: &[u8]) -> bool
+    ensures { result ≡ is_allowed Mode.Digest grants.now key.now }
+{
+    by_digest(grants, key)
+}
+
+fn words(alloc: Global) -> Result<Vec<Vec<u8>>, AllocError> {
+    let mut words = Vec::new(alloc);
+    words.push(b"serve".to_vec(alloc)?)?;
+    words.push(b"relay.toml".to_vec(alloc)?)?;
+    Ok(words)
+}
+
+fn source(alloc: Global, text: &[u8]) -> Result<MemSource, AllocError> {
+    let mut pieces = Vec::new(alloc);
+    pieces.push(text.to_vec(alloc)?)?;
+    Ok(MemSource::new(pieces, Vec::new(alloc)))
+}
+
+// Serves by that configuration, and tells the code.
+fn served<T: Threads + Wait + Sync, H: House>(
+    rt: &T,
+    alloc: Global,
+    config: &[u8],
+    house: &mut H,
+    report: &mut MemSink,
+) -> Result<u8, AllocError> {
+    let guards = Guards::new(
+        Guard::new(Mode::Plain, Box::new(alloc, is_named)?),
+        Guard::new(Mode::Digest, Box::new(alloc, is_digested)?),
+    );
+    let words = words(alloc)?;
+    let mut config = source(alloc, config)?;
+    let status = serve(rt, alloc, &words, &guards, &mut config, house, report);
+    Ok(status.code)
+}
+
+// The handshake of a client.
+fn handshake(alloc: Global) -> Result<Vec<u8>, AllocError> {
+    let mut input = Vec::new(alloc);
+    input.push(3)?;
+    input.extend_from_slice(&vec![in alloc; 0; 3_072]?)?;
+    Ok(input)
+}
+
+// What a client sends that publishes a configuration, and a frame if it is to, and ends.
+fn input(alloc: Global, frame: bool) -> Result<Vec<u8>, AllocError> {
+    let mut input = handshake(alloc)?;
+    input.extend_from_slice(CONNECTS)?;
+    input.extend_from_slice(PUBLISHES)?;
+    if frame {
+        input.extend_from_slice(FRAME)?;
+    }
+    Ok(input)
+}
+
+// The link of such a client.
+fn link(alloc: Global, frame: bool) -> Result<MemLink, AllocError>
+    ensures { IfOk result IsNewMemLink }
+{
+    let mut link = MemLink::new(alloc);
+    link.give(input(alloc, frame)?)?;
+    link.end();
+    Ok(link)
+}
+
+// The first byte of a file.
+fn front(file: Option<&[u8]>) -> u8 {
+    match file {
+        Some([first, ..]) => *first,
+        Some([]) => b'0',
+        None => b'-',
+    }
+}
+
+// Serves over a house whose first door has one such link. The calls of the house and of the door with these numbers fail. The
+// code, how the files begin, whether the link was sent more than the handshake's answer, and the report.
+fn told<T: Threads + Wait + Sync>(
+    rt: &T,
+    alloc: Global,
+    frame: bool,
+    fails: Vec<u64>,
+    door_fails: Vec<u64>,
+) -> Result<Vec<u8>, AllocError> {
+    let links = vec![in alloc; link(alloc, frame)?]?;
+    let doors = vec![in alloc; MemDoor::new(alloc, links, door_fails)]?;
+    let mut house = MemHouse::new(alloc, doors, fails);
+    let mut report = MemSink::new(alloc, Vec::new(alloc));
+    let code = served(rt, alloc, RECORDS, &mut house, &mut report)?;
+    let sent = house.link_sent(0, 0).is_some_and(|sent| sent.len() > 3_073);
+    let mut told = Vec::new(alloc);
+    told.push(b'0'.saturating_add(code))?;
+    told.push(front(house.file_bytes(b"one.flv")))?;
+    told.push(front(house.file_bytes(b"one.ts")))?;
+    told.push(if sent { b'+' } else { b'-' })?;
+    told.extend_from_slice(report.bytes())?;
+    Ok(told)
+}
+
+#[test]
+fn serves_until_the_last_link_is_gone(rt: HostRuntime) -> Result<(), Fail> {
+    let alloc = rt.alloc();
+    let none = Vec::new(alloc);
+    let whole = told(&rt, alloc, false, none, Vec::new(alloc))?;
+    assert_eq!(rt;
+        whole.as_slice(),
+        b"0F0+stream 0 began 1 pushed 1 ended 1 joined 2 skips 0\n".as_slice()
+    );
+    let recorded = told(&rt, alloc, true, Vec::new(alloc), vec![in alloc; 0]?)?;
+    assert_eq!(rt;
+        recorded.as_slice(),
+        b"0FG+stream 0 began 1 pushed 2 ended 1 joined 2 skips 0\n".as_slice()
+    );
+    Ok(())
+}
+
+// Two files, two doors and two rests are asked for before the first worker.
+#[test]
+fn nobody_is_served_where_the_house_fails(rt: HostRuntime) -> Result<(), Fail> {
+    let alloc = rt.alloc();
+    for number in 0..6 {
+        let failed = told(&rt, alloc, true, vec![in alloc; number]?, Vec::new(alloc))?;
+        assert_eq!(rt; failed.as_slice(), b"7---".as_slice());
+    }
+    Ok(())
+}
+
+// Either link ends only once the other's client was answered, and then has been sent more than the handshake's answer.
+#[test]
+fn two_links_at_once(rt: HostRuntime) -> Result<(), Fail> {
+    let alloc = rt.alloc();
+    let mut house = WaitingHouse::new(alloc, &handshake(alloc)?, CONNECTS)?;
+    let mut report = MemSink::new(alloc, Vec::new(alloc));
+    let code = served(&rt, alloc, KEEPS_NOTHING, &mut house, &mut report)?;
+    assert!(rt; code == 0);
+    assert!(rt; house.took().len() == 2);
+    for took in house.took() {
+        assert!(rt; *took > 3_073);
+    }
+    Ok(())
+}
