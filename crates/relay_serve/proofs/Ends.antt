@@ -10,13 +10,13 @@ use Rattle.relay_serve.specs.declared.starting.OpenFail.{OpenFail}
 use Rattle.relay_serve.specs.declared.starting.OpenFail.TheVariants as opened
 use Rattle.relay_serve.specs.Ends.{EndsAs, HouseCause, Outer, RefusesAs, RunsAs, seen, unopened_as}
 use Rattle.relay_serve.specs.Taking.{TakesText}
-use Rattle.relay_outside.specs.Houses.{HouseTold}
+use Rattle.relay_outside.specs.Houses.{Asked, HouseTold}
 use Rattle.stream_registry.specs.Told.{Histories}
 
-pub runs_unopened : (config : Config) (histories : Histories) (held : Option (List ℕ)) (faults : ℕ) (house house' : HouseTold) (cause : OpenFail)
-    → HouseCause cause house house' → RunsAs config histories (seen held faults house) (seen held faults house') (unopened_as cause)
-runs_unopened config histories held faults house house' opened.HouseFault h = (h, refl, refl)
-runs_unopened config histories held faults house house' opened.OutOfMemory h = (refl, ap (λ (x : HouseTold). x.faults) h)
+pub runs_unopened : (config : Config) (histories : Histories) (held : Option (List ℕ)) (faults : ℕ) (house house' : HouseTold) (asked asked' : Option (List Asked)) (cause : OpenFail)
+    → HouseCause cause house house' → RunsAs config histories (seen held faults house asked) (seen held faults house' asked') (unopened_as cause)
+runs_unopened config histories held faults house house' asked asked' opened.HouseFault h = (h, refl, refl)
+runs_unopened config histories held faults house house' asked asked' opened.OutOfMemory h = (refl, ap (λ (x : HouseTold). x.faults) h)
 
 pub ends_accepted : (old new : Outer) (ending : Ending) (bytes : List ℕ) (config : Config) → new.source_faults ≡ old.source_faults
     → TakesText old.left new.left bytes → Accepts bytes config → (histories : Histories) × RunsAs config histories old.out new.out ending → EndsAs true old new ending

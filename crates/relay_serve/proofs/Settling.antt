@@ -6,7 +6,7 @@ use Rattle.std.proofs.lemmas.List.Concat.{flat_map-append}
 use Rattle.std.proofs.lemmas.List.FromFn.{map-range_with_len_more}
 use Rattle.relay_config.specs.declared.config.Config.{Config}
 use Rattle.relay_outside.specs.Doors.{DoorTold}
-use Rattle.relay_outside.specs.Houses.{Shut, shut_door}
+use Rattle.relay_outside.specs.Houses.{Asked, Shut, asked_door, shut_door}
 use Rattle.relay_session.specs.Grants.{granted_from}
 use Rattle.relay_session.specs.SeatState.{GoOn}
 use Rattle.relay_worker.proofs.Booking.{settled_later}
@@ -23,7 +23,7 @@ use Rattle.stream_registry.specs.Told.{Histories}
 use Rattle.stream_registry.specs.declared.desk.Site.{Site}
 use Rattle.turn_gate.specs.Known.{PassKnown}
 use Rattle.relay_serve.specs.Recordings.{recordings_of, recordings_upto}
-use Rattle.relay_serve.specs.Settling.{IsBalanced, IsLeft, IsShut}
+use Rattle.relay_serve.specs.Settling.{AsksFor, IsBalanced, IsLeft, IsShut, asked_of}
 
 goes_on : (h k : Histories) → Later h k → GoOn h k
 goes_on h k l = record { at_each = l.at }
@@ -94,3 +94,9 @@ and_true false b e = absurd (let f : false ≡ true = e in cc)
 pub not_true : (b : Bool) → not b ≡ true → b ≡ false
 not_true false e = refl
 not_true true e = absurd (let f : false ≡ true = e in cc)
+
+-- a door that was asked for so
+pub asks_for : (config : Config) (n worker : ℕ) → worker ≡ n → (asked : Asked) → asked_door worker config.listen config.accept ≡ Some asked → AsksFor config n asked
+asks_for config n worker e asked f =
+    let same : asked ≡ asked_of config worker = let h : Some asked ≡ Some (asked_of config worker) = sym f in cc in
+    same ∙ ap (asked_of config) e

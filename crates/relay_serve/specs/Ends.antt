@@ -9,7 +9,7 @@ use Rattle.relay_config.specs.declared.config.ConfigFail.TheVariants as fail
 use Rattle.relay_config.specs.Accepts.{Accepts, refusal}
 use Rattle.relay_config.specs.Report.{report_text}
 use Rattle.relay_outside.specs.Counts.{Rose}
-use Rattle.relay_outside.specs.Houses.{HouseTold, Refuses}
+use Rattle.relay_outside.specs.Houses.{Asked, HouseTold, Refuses}
 use Rattle.relay_serve.specs.declared.put.PutFail.{PutFail}
 use Rattle.relay_serve.specs.declared.put.PutFail.TheVariants as put
 use Rattle.relay_serve.specs.declared.reading.ReadFail.{ReadFail}
@@ -24,7 +24,7 @@ use Rattle.relay_serve.specs.Counts.{counted_if}
 use Rattle.relay_serve.specs.Lasts.{AllEnd}
 use Rattle.relay_serve.specs.Recorded.{IsRecorded}
 use Rattle.relay_serve.specs.Recordings.{recordings_upto}
-use Rattle.relay_serve.specs.Settling.{IsShut, TellsMore}
+use Rattle.relay_serve.specs.Settling.{AsksFor, IsShut, TellsMore}
 use Rattle.stream_model.specs.declared.calls.StreamLimits.{StreamLimits}
 use Rattle.relay_serve.specs.Places.{limits_in}
 use Rattle.relay_serve.specs.declared.counting.Counts.{Counts}
@@ -51,14 +51,15 @@ HouseCause opened.OutOfMemory before now = now ≡ before
 
 -- ---- the codes
 
--- what is seen of a report and a house: what the report holds, where it tells it, its faults, and what the house tells
+-- what is seen of a report and a house: what the report holds, where it tells it, its faults, what the house tells, and how its doors were asked for
 pub record Seen : Type 0 where
   pub held : Option (List ℕ)
   pub sink_faults : ℕ
   pub house : HouseTold
+  pub asked : Option (List Asked)
 
-abbrev pub seen : Option (List ℕ) → ℕ → HouseTold → Seen
-seen held sink_faults house = record { held = held; sink_faults = sink_faults; house = house }
+abbrev pub seen : Option (List ℕ) → ℕ → HouseTold → Option (List Asked) → Seen
+seen held sink_faults house asked = record { held = held; sink_faults = sink_faults; house = house; asked = asked }
 
 -- and of the configuration's file: what is left of it, where it tells that, and its faults
 pub record Outer : Type 0 where
@@ -87,6 +88,8 @@ pub record Reports (config : Config) (histories : Histories) (old new : Seen) : 
   -- the histories once no session lived any more
   pub joined : Histories
   pub later : Later joined histories
+  -- each worker's door was asked for with the configured address and number of links
+  pub asked : TellsMore (AsksFor config) (range_with_len 0 config.workers) old.asked new.asked
   -- each worker's door was shut, and what its links were sent is what they were owed
   pub shut : TellsMore (IsShut config streams joined) (range_with_len 0 config.workers) old.house.shut new.house.shut
   -- the file of each recording was kept, and holds what its recorder was sent

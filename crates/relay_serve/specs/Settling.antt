@@ -3,7 +3,7 @@ use Rattle.std.specs.Prelude.{◌≡◌, ◌<◌, ℕ, false, List, ◌++◌, le
 use Rattle.std.specs.List.{AllZip}
 use Rattle.relay_config.specs.declared.config.Config.{Config}
 use Rattle.relay_outside.specs.Doors.{DoorTold, IsDone}
-use Rattle.relay_outside.specs.Houses.{Shut, shut_door}
+use Rattle.relay_outside.specs.Houses.{Asked, Shut, shut_door}
 use Rattle.relay_outside.specs.Told.{LinkCounts, LinkTold}
 use Rattle.relay_session.specs.Grants.{granted_from}
 use Rattle.relay_worker.specs.Benches.{WorkerState}
@@ -56,6 +56,13 @@ pub record IsLeft (config : Config) {K : Type 0} (holds : K → Option (List ℕ
   pub tallies : All (Tallies holds faults) recorders
 
 -- ---- its door
+
+-- it was asked for so: at the configured address, and to close after as many links as are configured
+abbrev pub asked_of : Config → ℕ → Asked
+asked_of config worker = record { worker = worker; listen = config.listen; accept = config.accept }
+
+abbrev pub AsksFor : Config → ℕ → Asked → Type 0
+AsksFor config worker asked = asked ≡ asked_of config worker
 
 module _ (config : Config) (streams : ℕ → StreamLimits) (histories : Histories) where
   -- THE DOOR OF A WORKER at its end, where nothing was refused for want of memory: as many links are back as it gave, and each

@@ -195,6 +195,7 @@ fn keep<H: House>(
     file: H::File,
 ) -> bool
     ensures faults { (H.told house.new).faults ≡ (H.told house.old).faults }
+    ensures asked { H.asked house.new ≡ H.asked house.old }
     ensures shut { (H.told house.new).shut ≡ (H.told house.old).shut }
     ensures kept { result ≡ true → (name : List ℕ) × (file_name places.now place form ≡ Some name)
         × ((H.told house.new).kept ≡ with_one (H.told house.old).kept (kept_file name (H.File.holds file) (H.File.faults file))) }
@@ -218,6 +219,7 @@ fn end_recorder<W: Wait, H: House>(
     ensures rules { shared_rules port.new ≡ shared_rules port.old }
     ensures grown { Later (told_at port.old.roots) (told_at port.new.roots) }
     ensures faults { (H.told house.new).faults ≡ (H.told house.old).faults }
+    ensures asked { H.asked house.new ≡ H.asked house.old }
     ensures shut { (H.told house.new).shut ≡ (H.told house.old).shut }
     ensures kept { result ≡ true → TellsMore (IsRecorded (shared_rules port.old).limits (told_at port.old.roots) (told_at port.new.roots) places.now)
         (label_of recorder ∷ []) (H.told house.old).kept (H.told house.new).kept }
@@ -242,6 +244,7 @@ fn end_recorders<W: Wait, H: House>(
     ensures rules { shared_rules port.new ≡ shared_rules port.old }
     ensures grown { Later (told_at port.old.roots) (told_at port.new.roots) }
     ensures faults { (H.told house.new).faults ≡ (H.told house.old).faults }
+    ensures asked { H.asked house.new ≡ H.asked house.old }
     ensures shut { (H.told house.new).shut ≡ (H.told house.old).shut }
     ensures kept { result ≡ true → TellsMore (IsRecorded (shared_rules port.old).limits (told_at port.old.roots) (told_at port.new.roots) places.now)
         (map label_of recorders.items) (H.told house.old).kept (H.told house.new).kept }
@@ -266,6 +269,7 @@ fn end_left<W: Wait, H: House>(
     ensures rules { shared_rules port.new ≡ shared_rules port.old }
     ensures grown { Later (told_at port.old.roots) (told_at port.new.roots) }
     ensures faults { (H.told house.new).faults ≡ (H.told house.old).faults }
+    ensures asked { H.asked house.new ≡ H.asked house.old }
     ensures kept { result ≡ true → TellsMore (IsRecorded (shared_rules port.old).limits (told_at port.old.roots) (told_at port.new.roots) config.now.places)
         (recordings_of config.now left.number) (H.told house.old).kept (H.told house.new).kept }
     ensures shut { result ≡ true → (H.told house.new).shut ≡ with_one (H.told house.old).shut (shut_door left.number (H.Door.told left.door)) }
@@ -294,6 +298,7 @@ pub(crate) fn end_all<W: Wait, H: House>(
     ensures rules { shared_rules port.new ≡ shared_rules port.old }
     ensures grown { Later (told_at port.old.roots) (told_at port.new.roots) }
     ensures faults { (H.told house.new).faults ≡ (H.told house.old).faults }
+    ensures asked { H.asked house.new ≡ H.asked house.old }
     ensures kept { result ≡ true → TellsMore (IsRecorded (shared_rules port.old).limits (told_at port.old.roots) (told_at port.new.roots) config.now.places)
         (recordings_upto config.now (vec_len list)) (H.told house.old).kept (H.told house.new).kept }
     ensures shut { result ≡ true

@@ -1,9 +1,11 @@
 //! `relay serve`.
-ghost use Rattle.std.specs.Prelude.{◌≡◌, ◌≤◌, length, map, vec_len, All, IfOk, MatchResult};
+ghost use Rattle.std.specs.Prelude.{◌≡◌, ◌≤◌, length, map, vec_len, All, IfOk, MatchResult, List, Option};
 ghost use Rattle.relay_config.specs.Accepts.{Lawful};
 ghost use Rattle.relay_serve.specs.Ends.{EndsAs, HouseCause, RefusesAs, RunsAs, Serves, code_of, outer, seen, unopened_as};
 ghost use Rattle.relay_serve.specs.Places.{limits_in};
-ghost use Rattle.relay_serve.specs.Settling.{EachAt, IsServing};
+ghost use Rattle.std.specs.List.{range_with_len};
+ghost use Rattle.relay_outside.specs.Houses.{Asked};
+ghost use Rattle.relay_serve.specs.Settling.{AsksFor, EachAt, IsServing, TellsMore};
 ghost use Rattle.relay_serve.specs.Starts.{HasLimits, HasRules};
 ghost use Rattle.relay_serve.specs.Words.{is_serve};
 ghost use Rattle.relay_worker.specs.Running.{HasRun};
@@ -107,6 +109,7 @@ fn make_ready<H: House>(
 ) -> Result<Ready<H::Door, H::Rest, H::File>, OpenFail>
     requires lawful { Lawful config.now }
     ensures house { MatchResult result (λ _. H.told house.new ≡ H.told house.old) (λ fail. HouseCause fail (H.told house.old) (H.told house.new)) }
+    ensures asked { IfOk result (λ ready. TellsMore (AsksFor config.now) (range_with_len 0 (vec_len ready.workers)) (H.asked house.old) (H.asked house.new)) }
     ensures few { IfOk result (λ ready. vec_len ready.workers ≤ 16) }
     ensures places { IfOk result (λ ready. length config.now.places ≡ length (shared_rules ready.port).names) }
     ensures limits { IfOk result (λ ready. HasLimits (limits_in config.now) (length config.now.places) ready.port) }
@@ -148,8 +151,9 @@ fn conclude<W: Wait, H: House, K: Sink>(
     requires rules { All (λ x. HasRules (shared_rules port.old) x.bench.port) workers.items }
     requires each { vec_len workers ≡ config.now.workers }
     requires serving { EachAt (IsServing config.now H.Door.Link.told H.Door.Link.counts H.Door.told H.File.holds H.File.faults) workers.items }
-    ensures { RunsAs config.now (told_at port.new.roots) (seen (K.holds out.old) (K.faults out.old) (H.told house.old))
-        (seen (K.holds out.new) (K.faults out.new) (H.told house.new)) result }
+    ensures { (before : Option (List Asked)) → TellsMore (AsksFor config.now) (range_with_len 0 config.now.workers) before (H.asked house.old)
+        → RunsAs config.now (told_at port.new.roots) (seen (K.holds out.old) (K.faults out.old) (H.told house.old) before)
+        (seen (K.holds out.new) (K.faults out.new) (H.told house.new) (H.asked house.new)) result }
 {
     let Ok(left) = take_all_apart(alloc, config, port, workers) else {
         return Ending::OutOfMemory;
@@ -205,8 +209,8 @@ fn run<T: Threads + Wait + Sync, H: House, K: Sink>(
     out: &mut K,
 ) -> Ending
     requires lawful { Lawful config.now }
-    ensures { (histories : Histories) × RunsAs config.now histories (seen (K.holds out.old) (K.faults out.old) (H.told house.old))
-        (seen (K.holds out.new) (K.faults out.new) (H.told house.new)) result }
+    ensures { (histories : Histories) × RunsAs config.now histories (seen (K.holds out.old) (K.faults out.old) (H.told house.old) (H.asked house.old))
+        (seen (K.holds out.new) (K.faults out.new) (H.told house.new) (H.asked house.new)) result }
 {
     match make_ready(alloc, config, house) {
         Ok(Ready { mut port, workers }) => {
@@ -244,8 +248,8 @@ fn end<T: Threads + Wait + Sync, H: House, S: Source, K: Sink>(
     out: &mut K,
 ) -> Ending
     ensures ends { EndsAs (is_serve (map (λ w. w.items) words.now))
-        (outer (S.left config.old) (S.faults config.old) (seen (K.holds out.old) (K.faults out.old) (H.told house.old)))
-        (outer (S.left config.new) (S.faults config.new) (seen (K.holds out.new) (K.faults out.new) (H.told house.new))) result }
+        (outer (S.left config.old) (S.faults config.old) (seen (K.holds out.old) (K.faults out.old) (H.told house.old) (H.asked house.old)))
+        (outer (S.left config.new) (S.faults config.new) (seen (K.holds out.new) (K.faults out.new) (H.told house.new) (H.asked house.new))) result }
     ensures untouched { result ≡ Ending.BadWords → (config.new ≡ config.old) × (house.new ≡ house.old) × (out.new ≡ out.old) }
 {
     if !is_serve(words) {
@@ -291,8 +295,8 @@ pub fn serve<T: Threads + Wait + Sync, H: House, S: Source, K: Sink>(
     report: &mut K,
 ) -> Status
     ensures serves { Serves (is_serve (map (λ w. w.items) words.now))
-        (outer (S.left config.old) (S.faults config.old) (seen (K.holds report.old) (K.faults report.old) (H.told house.old)))
-        (outer (S.left config.new) (S.faults config.new) (seen (K.holds report.new) (K.faults report.new) (H.told house.new))) result }
+        (outer (S.left config.old) (S.faults config.old) (seen (K.holds report.old) (K.faults report.old) (H.told house.old) (H.asked house.old)))
+        (outer (S.left config.new) (S.faults config.new) (seen (K.holds report.new) (K.faults report.new) (H.told house.new) (H.asked house.new))) result }
     ensures untouched { result.code ≡ 2 → (config.new ≡ config.old) × (house.new ≡ house.old) × (report.new ≡ report.old) }
 {
     let ending = end(rt, alloc, words, guards, config, house, report);

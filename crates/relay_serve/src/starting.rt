@@ -1,11 +1,13 @@
 //! What is asked of the house before the first worker runs, and the workers with their recorders.
 ghost use Rattle.std.specs.Prelude.{◌≡◌, ◌<◌, ◌≤◌, All, None, length, map, vec_len, if◌then◌else◌, ◌%◌, ◌==◌, [], ◌∷◌, IfOk, MatchResult, OnOk};
 ghost use Rattle.relay_config.specs.Accepts.{Lawful};
-ghost use Rattle.relay_outside.specs.Houses.{IsNewFile};
+ghost use Rattle.relay_outside.specs.Doors.{with_one};
+ghost use Rattle.relay_outside.specs.Houses.{IsNewFile, asked_door};
+ghost use Rattle.std.specs.List.{range_with_len};
 ghost use Rattle.relay_serve.specs.Ends.{HouseCause};
 ghost use Rattle.relay_serve.specs.Places.{name_of};
 ghost use Rattle.relay_serve.specs.Recordings.{recorder_name, recording, recording_if, recordings_at, recordings_of};
-ghost use Rattle.relay_serve.specs.Settling.{EachAt, Enlists, IsServing};
+ghost use Rattle.relay_serve.specs.Settling.{AsksFor, EachAt, Enlists, IsServing, TellsMore};
 ghost use Rattle.relay_serve.specs.Starts.{HasRules};
 ghost use Rattle.relay_worker.specs.Filed.{Tallies, state_of};
 ghost use Rattle.relay_worker.specs.Running.{label_of};
@@ -98,6 +100,7 @@ fn open_recording<H: House>(
     requires { place < length (shared_rules worker.old.bench.port).names }
     ensures enlists { OnOk result (Enlists H.File.holds H.File.faults (recording place form ∷ []) worker.old worker.new) }
     ensures house { MatchResult result (λ _. H.told house.new ≡ H.told house.old) (λ fail. HouseCause fail (H.told house.old) (H.told house.new)) }
+    ensures asked { H.asked house.new ≡ H.asked house.old }
 {
     let Some(file) = house.file(name) else {
         return Err(OpenFail::HouseFault);
@@ -123,6 +126,7 @@ fn open_if<H: House>(
     requires { place < length (shared_rules worker.old.bench.port).names }
     ensures enlists { OnOk result (Enlists H.File.holds H.File.faults (recording_if name.now (recording place form)) worker.old worker.new) }
     ensures house { MatchResult result (λ _. H.told house.new ≡ H.told house.old) (λ fail. HouseCause fail (H.told house.old) (H.told house.new)) }
+    ensures asked { H.asked house.new ≡ H.asked house.old }
 {
     match name {
         Some(name) => open_recording(alloc, house, worker, place, form, name.as_slice()),
@@ -141,6 +145,7 @@ fn open_place<H: House>(
     requires { place < length (shared_rules worker.old.bench.port).names }
     ensures enlists { OnOk result (Enlists H.File.holds H.File.faults (recordings_at place rule.now) worker.old worker.new) }
     ensures house { MatchResult result (λ _. H.told house.new ≡ H.told house.old) (λ fail. HouseCause fail (H.told house.old) (H.told house.new)) }
+    ensures asked { H.asked house.new ≡ H.asked house.old }
 {
     open_if(alloc, house, worker, place, Form::Flv, &rule.flv)?;
     open_if(alloc, house, worker, place, Form::Ts, &rule.ts)?;
@@ -162,6 +167,7 @@ fn open_own_place<H: House>(
     ensures enlists { OnOk result (Enlists H.File.holds H.File.faults (if place % workers == number then recordings_at place rule.now else [])
         worker.old worker.new) }
     ensures house { MatchResult result (λ _. H.told house.new ≡ H.told house.old) (λ fail. HouseCause fail (H.told house.old) (H.told house.new)) }
+    ensures asked { H.asked house.new ≡ H.asked house.old }
 {
     if place % workers != number {
         return Ok(());
@@ -181,6 +187,7 @@ fn open_own<H: House>(
     requires places { length config.now.places ≡ length (shared_rules worker.old.bench.port).names }
     ensures enlists { OnOk result (Enlists H.File.holds H.File.faults (recordings_of config.now number) worker.old worker.new) }
     ensures house { MatchResult result (λ _. H.told house.new ≡ H.told house.old) (λ fail. HouseCause fail (H.told house.old) (H.told house.new)) }
+    ensures asked { H.asked house.new ≡ H.asked house.old }
 {
     let mut place = 0;
     let mut left = config.places.as_slice();
@@ -204,6 +211,7 @@ fn open_worker<H: House>(
     requires lawful { Lawful config.now }
     requires places { length config.now.places ≡ length (shared_rules port).names }
     ensures house { MatchResult result (λ _. H.told house.new ≡ H.told house.old) (λ fail. HouseCause fail (H.told house.old) (H.told house.new)) }
+    ensures asked { IfOk result (λ _. H.asked house.new ≡ with_one (H.asked house.old) (asked_door number config.now.listen config.now.accept)) }
     ensures port { IfOk result (λ x. x.bench.port ≡ port) }
     ensures serving { IfOk result (λ x. IsServing config.now H.Door.Link.told H.Door.Link.counts H.Door.told H.File.holds H.File.faults number x) }
 {
@@ -234,6 +242,7 @@ pub(crate) fn open_workers<H: House>(
     requires places { length config.now.places ≡ length (shared_rules first.now).names }
     requires rules { All (HasRules (shared_rules first.now)) ports.items }
     ensures house { MatchResult result (λ _. H.told house.new ≡ H.told house.old) (λ fail. HouseCause fail (H.told house.old) (H.told house.new)) }
+    ensures asked { IfOk result (λ workers. TellsMore (AsksFor config.now) (range_with_len 0 (vec_len workers)) (H.asked house.old) (H.asked house.new)) }
     ensures rules { IfOk result (λ workers. All (λ x. HasRules (shared_rules first.now) x.bench.port) workers.items) }
     ensures each { IfOk result (λ workers. vec_len workers ≡ vec_len ports) }
     ensures serving { IfOk result (λ workers.

@@ -46,6 +46,7 @@ loop-left-preserved g c =
       rules = e.rules ∙ i.rules;
       grown = later_then first h k i.grown e.grown;
       faults = e.faults ∙ i.faults;
+      asked = e.asked ∙ i.asked;
       fewer = omega (arith, shorter, i.fewer);
       rest = λ a. (All-pop (λ x. IsBalanced config streams first x.number (g.H.Door.Door.told x.door)) xs ys (Some x) c.in-Some.ensures.items (i.rest a)).0;
       kept = λ w.

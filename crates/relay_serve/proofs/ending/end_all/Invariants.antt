@@ -16,6 +16,7 @@ invariant-loop-left g l = record {
   rules : shared_rules l.port ≡ shared_rules l.fn.port;
   grown : Later (told_at l.fn.port.roots) (told_at l.port.roots);
   faults : (g.H.House.told l.house).faults ≡ (g.H.House.told l.fn.house).faults;
+  asked : g.H.House.asked l.house ≡ g.H.House.asked l.fn.house;
   fewer : length l.list.items ≤ length l.fn.list.items;
   rest : All (λ x. IsBalanced l.config (shared_rules l.fn.port).limits (told_at l.fn.port.roots) x.number (g.H.Door.Door.told x.door)) l.fn.list.items
       → All (λ x. IsBalanced l.config (shared_rules l.fn.port).limits (told_at l.fn.port.roots) x.number (g.H.Door.Door.told x.door)) l.list.items;

@@ -17,6 +17,7 @@ invariant-loop-recorder g l = record {
   rules : shared_rules l.port ≡ shared_rules l.fn.port;
   grown : Later (told_at l.fn.port.roots) (told_at l.port.roots);
   faults : (g.H.House.told l.house).faults ≡ (g.H.House.told l.fn.house).faults;
+  asked : g.H.House.asked l.house ≡ g.H.House.asked l.fn.house;
   shut : (g.H.House.told l.house).shut ≡ (g.H.House.told l.fn.house).shut;
   done : List Label;
   left : done ++ map label_of (reverse l.recorders.items) ≡ map label_of l.fn.recorders.items;

@@ -1,6 +1,7 @@
-use Rattle.std.proofs.Common.{rules, ◌≡◌, ◌∙◌, refl, sym, ap, subst}
+use Rattle.std.proofs.Common.{rules, List, Option, ◌≡◌, ◌∙◌, refl, sym, ap, subst}
 use Rattle.std.specs.List.{range_with_len}
 use Rattle.std.specs.Prelude.{All}
+use Rattle.relay_outside.specs.Houses.{Asked}
 use Rattle.stream_registry.specs.Names.{PortRules}
 use Rattle.stream_registry.specs.Gates.{told_at}
 use Rattle.stream_registry.specs.SharedState.{shared_rules}
@@ -8,7 +9,7 @@ use Rattle.relay_serve.specs.Ends.{Reports, seen}
 use Rattle.relay_serve.specs.Lasts.{AllEnd}
 use Rattle.relay_serve.specs.Recorded.{IsRecorded}
 use Rattle.relay_serve.specs.Recordings.{recordings_upto}
-use Rattle.relay_serve.specs.Settling.{IsBalanced, IsLeft, IsShut, TellsMore}
+use Rattle.relay_serve.specs.Settling.{AsksFor, IsBalanced, IsLeft, IsShut, TellsMore}
 use Rattle.relay_serve.proofs.Counted.{later_same, later_then}
 use Rattle.relay_serve.proofs.Recording.{recorded_later}
 use Rattle.relay_serve.proofs.Settling.{not_true}
@@ -24,7 +25,7 @@ end_all-whole-requires-clause-left g c κs within =
     (sym c.take_all_apart.ensures.rules) c.in-Ok.ensures.left
 
 pub returns-in-Ok-put_all : goal.returns-in-Ok-put_all
-returns-in-Ok-put_all g c =
+returns-in-Ok-put_all g c = λ before_asked all.
     let config = c.args.config.now in
     let streams = (shared_rules c.args.port.now).limits in
     let joined = told_at c.take_all_apart.new.first.roots in
@@ -41,14 +42,15 @@ returns-in-Ok-put_all g c =
     (c.end_all-whole.ensures.shut c.if-whole.true balanced) in
     let kept = subst (λ (q : PortRules). TellsMore (IsRecorded q.limits joined h config.places) (recordings_upto config c.in-Ok.left.list.len) before.kept now.kept) same
     (c.end_all-whole.ensures.kept c.if-whole.true) in
-    let reports : Reports config k (seen (g.K.Sink.holds c.args.out.now) (g.K.Sink.faults c.args.out.now) before)
-    (seen (g.K.Sink.holds c.put_all.new.out) (g.K.Sink.faults c.put_all.new.out) now) = record {
+    let reports : Reports config k (seen (g.K.Sink.holds c.args.out.now) (g.K.Sink.faults c.args.out.now) before before_asked)
+    (seen (g.K.Sink.holds c.put_all.new.out) (g.K.Sink.faults c.put_all.new.out) now (g.H.House.asked c.end_all-whole.new.house)) = record {
       counts = c.in-Ok-count_all.counts.items;
       each = search rules;
       written = search rules;
       streams = streams;
       limited = c.requires.limits;
       last = subst (λ (q : PortRules). AllEnd q.limits c.in-Ok-count_all.counts.items k) (c.end_all-whole.ensures.rules ∙ same) c.in-Ok-count_all.ensures.last;
+      asked = subst (λ (o : Option (List Asked)). TellsMore (AsksFor config) (range_with_len 0 config.workers) before_asked o) (sym c.end_all-whole.ensures.asked) all;
       joined = joined;
       later = later_then joined h k c.end_all-whole.ensures.grown c.count_all.ensures.grown;
       shut = more_same (IsShut config streams joined) (range_with_len 0 c.in-Ok.left.list.len) (range_with_len 0 config.workers) before.shut before.shut now.shut

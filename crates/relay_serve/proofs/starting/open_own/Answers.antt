@@ -25,4 +25,5 @@ loop-left-preserved g c =
           (own_more workers c.args.number c.loop-left.place left c.rule-item.result some c.rule-item.is) i.labels;
       tallies = λ all. e.tallies (i.tallies all);
       house = c.in_ok-open_own_place.ensures.house ∙ i.house;
+      asked = c.open_own_place.ensures.asked ∙ i.asked;
     }

@@ -14,6 +14,7 @@ invariant-loop-left g l = record {
       ≡ map label_of l.fn.worker.recorders ++ recordings_of l.config l.number;
   tallies : All (Tallies g.H.File.Sink.holds g.H.File.Sink.faults) l.fn.worker.recorders → All (Tallies g.H.File.Sink.holds g.H.File.Sink.faults) l.worker.recorders;
   house : g.H.House.told l.house ≡ g.H.House.told l.fn.house;
+  asked : g.H.House.asked l.house ≡ g.H.House.asked l.fn.house;
 }
 
 abbrev pub decreases-loop-left : goal.decreases-loop-left

@@ -1,11 +1,15 @@
-use Rattle.std.proofs.Common.{◌≡◌, ◌∙◌, ap, sym, subst, Some, arith, length}
-use Rattle.std.proofs.lemmas.List.Elements.{All-pop, All-push, All-same}
+use Rattle.std.proofs.Common.{◌≡◌, ◌∙◌, ℕ, [], ◌∷◌, ◌++◌, ap, sym, subst, refl, Some, arith, length}
+use Rattle.std.specs.List.{range_with_len}
+use Rattle.std.proofs.lemmas.List.Elements.{All-nil, All-pop, All-push, All-same}
 use Rattle.stream_registry.specs.Names.{PortRules}
 use Rattle.stream_registry.specs.SharedState.{Streams, shared_rules}
-use Rattle.relay_serve.specs.Settling.{EachAt, IsServing}
+use Rattle.relay_outside.specs.Houses.{asked_door}
+use Rattle.relay_serve.specs.Settling.{AsksFor, EachAt, IsServing, TellsMore}
 use Rattle.relay_serve.specs.Starts.{HasRules}
 use Rattle.relay_serve.proofs.Numbered.{each_push}
 use Rattle.relay_serve.proofs.Ruled.{popped}
+use Rattle.relay_serve.proofs.Settling.{asks_for, range_more}
+use Rattle.relay_serve.proofs.Telling.{more_same, more_then, none_more, one_more}
 use Rattle.relay_serve.proofs.starting.open_workers.Goals as goal
 
 pub open_worker-requires-clause-places : goal.open_worker-requires-clause-places
@@ -13,6 +17,20 @@ open_worker-requires-clause-places g c κs within =
     let r = (All-pop (HasRules (shared_rules c.args.first.now)) c.loop-port.ports.items c.pop.new.self.items (Some c.in-Some.port) c.in-Some.ensures.items
     c.loop-port.invariant.ports).1 in
     c.requires.places ∙ ap (λ (q : PortRules). length q.names) (sym r)
+
+pub loop-port-init : goal.loop-port-init
+loop-port-init g c =
+    let none = c.new-workers.ensures.items in
+    let before = g.H.House.asked c.args.house.now in
+    let P = IsServing c.args.config.now g.H.Door.Link.Link.told g.H.Door.Link.Link.counts g.H.Door.Door.told g.H.File.Sink.holds g.H.File.Sink.faults in
+    record {
+      ports = c.requires.rules;
+      workers = All-same (λ x. HasRules (shared_rules c.args.first.now) x.bench.port) _ _ none (All-nil (λ x. HasRules (shared_rules c.args.first.now) x.bench.port));
+      count = omega (arith, ap length none);
+      serving = subst (λ l. EachAt P l) (sym none) (λ i d lt. absurd (omega (arith, lt)));
+      house = refl;
+      asked = subst (λ (n : ℕ). TellsMore (AsksFor c.args.config.now) (range_with_len 0 n) before before) (sym (ap length none)) (none_more (AsksFor c.args.config.now) before);
+    }
 
 pub loop-port-preserved : goal.loop-port-preserved
 loop-port-preserved g c =
@@ -30,4 +48,20 @@ loop-port-preserved g c =
       serving = subst (λ l. EachAt P l) (sym pushed) (each_push P c.loop-port.workers.items c.in_ok-worker.worker i.serving
           (subst (λ n. P n c.in_ok-worker.worker) number c.in_ok-worker.ensures.serving));
       house = c.in_ok-worker.ensures.house ∙ i.house;
+      asked =
+          let R = AsksFor c.args.config.now in
+          let n : ℕ = length c.loop-port.workers.items in
+          let before = g.H.House.asked c.args.house.now in
+          let mid = g.H.House.asked c.loop-port.house in
+          let now = g.H.House.asked c.open_worker.new.house in
+          let last = one_more R n mid now (asked_door c.len-number.result c.args.config.now.listen c.args.config.now.accept) c.in_ok-worker.ensures.asked
+          (asks_for c.args.config.now n c.len-number.result number) in
+          more_same R (range_with_len 0 n ++ n ∷ []) _ before before now (range_more n ∙ ap (range_with_len 0) (sym (popped _ _ _ pushed))) refl
+          (more_then R (range_with_len 0 n) (n ∷ []) before mid now i.asked last);
     }
+
+pub returns-clause-asked : goal.returns-clause-asked
+returns-clause-asked g c =
+    let all : length c.loop-port.workers.items ≡ c.loop-port.workers.len = omega (arith, c.loop-port.workers.ok.0) in
+    subst (λ (n : ℕ). TellsMore (AsksFor c.args.config.now) (range_with_len 0 n) (g.H.House.asked c.args.house.now) (g.H.House.asked c.loop-port.house)) all
+    c.loop-port.invariant.asked

@@ -1,7 +1,8 @@
 use Rattle.std.proofs.Common.{◌≡◌, ◌+◌, length}
+use Rattle.std.specs.List.{range_with_len}
 use Rattle.std.specs.Prelude.{All}
 use Rattle.stream_registry.specs.SharedState.{shared_rules}
-use Rattle.relay_serve.specs.Settling.{EachAt, IsServing}
+use Rattle.relay_serve.specs.Settling.{AsksFor, EachAt, IsServing, TellsMore}
 use Rattle.relay_serve.specs.Starts.{HasRules}
 use Rattle.relay_serve.proofs.starting.open_workers.Given as goal
 
@@ -12,6 +13,7 @@ invariant-loop-port g l = record {
   count : length l.workers.items + length l.ports.items ≡ length l.fn.ports.items;
   serving : EachAt (IsServing l.config g.H.Door.Link.Link.told g.H.Door.Link.Link.counts g.H.Door.Door.told g.H.File.Sink.holds g.H.File.Sink.faults) l.workers.items;
   house : g.H.House.told l.house ≡ g.H.House.told l.fn.house;
+  asked : TellsMore (AsksFor l.config) (range_with_len 0 (length l.workers.items)) (g.H.House.asked l.fn.house) (g.H.House.asked l.house);
 }
 
 abbrev pub decreases-loop-port : goal.decreases-loop-port
