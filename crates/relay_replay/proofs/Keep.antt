@@ -1,6 +1,6 @@
 -- What stays true of the cast.
 use Rattle.std.proofs.Common.{◌≡◌, ◌<◌, ◌+◌, ℕ, zero, suc, true, false, if◌then◌else◌, List, [], ◌∷◌, length, get_or, slice_get, slice_set}
-use Rattle.std.proofs.Common.{Option, Some, None, Result, Ok, Err, OnOk, refl, ap, sym, ◌∙◌, subst, arith, is_some}
+use Rattle.std.proofs.Common.{Option, Some, None, Result, Ok, Err, IfOk, OnOk, refl, ap, sym, ◌∙◌, subst, arith, is_some}
 use Rattle.std.proofs.lemmas.List.Elements.{All-set, All-weaker}
 use Rattle.av_unit.specs.declared.bytes.OutOfMemory.{OutOfMemory}
 use Rattle.command_dialog.specs.declared.types.Ask.{Ask}
@@ -19,7 +19,7 @@ use Rattle.relay_session.specs.SessionState.{BeginsOwed, SessionState, StandsFor
 use Rattle.relay_session.specs.Turns.{EndedBy}
 use Rattle.relay_session.specs.declared.end.End.{End}
 use Rattle.relay_session.specs.declared.turn.Turn.{Turn}
-use Rattle.relay_replay.specs.Cast.{ConnState, RecState, CastState, AfterTurn, SessionTurn, Turned, TurnOf, Times, Each}
+use Rattle.relay_replay.specs.Cast.{ConnState, RecState, CastState, AfterTurn, AnsweredBy, AnsweredTurn, Turned, Times, Each}
 use Rattle.relay_replay.specs.Scenes.{Fits, Ready, ReadyBy, Sits}
 
 -- ---- the desk grants places that are there
@@ -81,7 +81,7 @@ fits_on port port' r same fits h = (
 
 -- ---- after a turn
 
-pub session_sits : (r : Result (Unit {0}) OutOfMemory) (streams files n : ℕ) (c : CastState) (port' : SoleState) (d : ConnState) → Sits streams files c
+pub session_sits : (r : Result (Option Turn) OutOfMemory) (streams files n : ℕ) (c : CastState) (port' : SoleState) (d : ConnState) → Sits streams files c
     → sole_rules port'.rules ≡ sole_rules c.port.rules → ((q : ℕ) (p : SeenState) → FitsSole c.port q p → FitsSole port' q p) → OnOk r (Ready port' d)
     → OnOk r (Sits streams files (record { port = port'; sessions = slice_set c.sessions n d; recorders = c.recorders }))
 session_sits (Ok x) streams files n c port' d s same fits ready = record {
@@ -109,34 +109,36 @@ recorder_sits (Err e) streams files n c port' d s same fits fit = tt
 -- ---- a session's turn
 
 turned_by : (e : Option End) (desk : Ask → Grant) (port : SoleState) (c : ConnState) (port' : SoleState) (d : ConnState) → is_some e ≡ false
-    → Turned desk port c port' d → SessionTurn e desk port c port' d
-turned_by None desk port c port' d h t = t
+    → (t : Turned desk port c port' d) → AnsweredBy (Some t.answer) e desk port c port' d
+turned_by None desk port c port' d h t = (t, refl)
 turned_by (Some e) desk port c port' d h t = absurd (cc)
 
-pub turned : (r : Result (Unit {0}) OutOfMemory) (desk : Ask → Grant) (port between port' : SoleState) (c d : ConnState) (mid : SessionState SeenState) (a : Turn)
+pub turned : (desk : Ask → Grant) (port between port' : SoleState) (c d : ConnState) (mid : SessionState SeenState) (a : Turn)
     → is_some c.ended ≡ false
     → EndedBy (Asked FitsSole (λ s. sole_rules s.rules) (λ s. journal_at s.books) (λ p. p.seen) (λ p. length p.seen) (λ _. Unit {0}) (λ _. 0)) desk
     MemHears MemSays c.session.ended c.session.quit (life_at c.session port) c.link a (life_at mid between) d.link
-    → (StandsFor desk c.session → StandsFor desk mid) → (StandsFor desk mid → BeginsOwed desk mid.parts) → OnOk r (AfterTurn a mid between d.session d.ended port') → OnOk r (SessionTurn c.ended desk port c port' d)
-turned (Ok x) desk port between port' c d mid a lives turn stands owed leads =
+    → (StandsFor desk c.session → StandsFor desk mid) → (StandsFor desk mid → BeginsOwed desk mid.parts) → AfterTurn a mid between d.session d.ended port' → AnsweredBy (Some a) c.ended desk port c port' d
+turned desk port between port' c d mid a lives turn stands owed leads =
     turned_by c.ended desk port c port' d lives (record { answer = a; between = between; mid = mid; turn = turn; stands = stands; owed = owed; leads = leads })
-turned (Err e) desk port between port' c d mid a lives turn stands owed leads = tt
 
 get_some : {A : Type 0} → (xs : List A) (n : ℕ) (x : A) → n < length xs → x ≡ get_or xs n x → slice_get xs n ≡ Some x
 get_some [] n x h e = absurd (omega (arith, h))
 get_some (y ∷ ys) zero x h e = ap Some (sym e)
 get_some (y ∷ ys) (suc n) x h e = get_some ys n x (omega (arith, h)) e
 
-pub turn_of : (r : Result (Unit {0}) OutOfMemory) (desk : Ask → Grant) (n : ℕ) (c : CastState) (x : ConnState) (port' : SoleState) (y : ConnState)
-    → n < length c.sessions → x ≡ get_or c.sessions n x → OnOk r (SessionTurn x.ended desk c.port x port' y)
-    → OnOk r (TurnOf desk n c (record { port = port'; sessions = slice_set c.sessions n y; recorders = c.recorders }))
-turn_of (Ok v) desk n c x port' y h e turn = record {
-  old = x;
-  new = y;
-  there = get_some c.sessions n x h e;
-  turn = turn;
-  sessions = refl;
-  recorders = refl;
+pub turn_of : (r : Result (Option Turn) OutOfMemory) (desk : Ask → Grant) (n : ℕ) (c : CastState) (x : ConnState) (port' : SoleState) (y : ConnState)
+    → n < length c.sessions → x ≡ get_or c.sessions n x → IfOk r (λ a. AnsweredBy a x.ended desk c.port x port' y)
+    → IfOk r (λ a. AnsweredTurn desk n a c (record { port = port'; sessions = slice_set c.sessions n y; recorders = c.recorders }))
+turn_of (Ok a) desk n c x port' y h e turn = record {
+  turn = record {
+    old = x;
+    new = y;
+    there = get_some c.sessions n x h e;
+    turn = turn.0;
+    sessions = refl;
+    recorders = refl;
+  };
+  answer_is = turn.1;
 }
 turn_of (Err e) desk n c x port' y h same turn = tt
 

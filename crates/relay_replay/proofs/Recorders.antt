@@ -16,8 +16,8 @@ use Rattle.relay_replay.specs.Cast.{CastState, RecState, RecTurnOf, RecorderTurn
 use Rattle.relay_replay.specs.Files.{FileState}
 use Rattle.relay_replay.specs.Plays.{Plays, ToldBy}
 use Rattle.relay_replay.specs.Recorded.{AreRecorded, IsRecorded, RecordedIf, RecordedIn}
-use Rattle.relay_replay.specs.Scenes.{AreNew, CastBy, Does, IsNewRecorder, IsOpen, SceneState, is_acting}
-use Rattle.relay_replay.proofs.Serving.{all_at, each_keep, times_keep}
+use Rattle.relay_replay.specs.Scenes.{AreNew, CastBy, Does, IsNewRecorder, IsOpen, SceneState, SettledIn, is_acting}
+use Rattle.relay_replay.proofs.Serving.{all_at, each_keep, settled_keep, times_keep}
 
 -- ---- a new recorder
 
@@ -94,6 +94,12 @@ line_recorded true line s t a k =
 
 pub does_recorded : (line : ReplayLine) (s t : SceneState) → Does line s t → AreRecorded s → AreRecorded t
 does_recorded line s t d k = line_recorded (is_acting line) line s t d.cast k
+
+pub settled_recorded : (done : Bool) (most n : ℕ) (s t : SceneState) → SettledIn done most n s t → AreRecorded s → AreRecorded t
+settled_recorded done most n s t x k =
+    let desk = granted_from 0 s.places in
+    subst RecordedIf (sym x.cast)
+    (settled_keep RecordedIn desk n (recorded_of desk n) done most x.before x.now x.turns (opened_recorded s.cast s x.before x.opened k))
 
 pub cast_recorded : (s : SceneState) (c : CastState) → IsOpen s.cast s c → AreRecorded s → RecordedIn c
 cast_recorded s c o k = opened_recorded s.cast s c o k

@@ -1,5 +1,5 @@
 -- What each session of a replay was sent begins what it owes, after each line
-use Rattle.std.proofs.Common.{◌≡◌, ◌++◌, ℕ, zero, suc, Bool, true, ◌&&◌, List, [], ◌∷◌, length, drop, slice_get, All, Option, Some, None, refl, sym, ap, ◌∙◌, subst}
+use Rattle.std.proofs.Common.{◌≡◌, ◌++◌, ℕ, zero, suc, Bool, true, false, ◌&&◌, List, [], ◌∷◌, length, drop, slice_get, All, Option, Some, None, refl, sym, ap, ◌∙◌, subst}
 use Rattle.std.specs.Option.{option_map}
 use Rattle.std.proofs.lemmas.List.Elements.{All-head, All-nil, All-push, All-set, All-tail}
 use Rattle.chunk_reader.specs.Sound.{IsRead}
@@ -24,9 +24,9 @@ use Rattle.relay_session.specs.declared.turn.Turn.{Turn as TurnAnswer}
 use Rattle.relay_session.specs.declared.turn.Turn.TheVariants.{Moved, Idle, Ended}
 use Rattle.relay_script.specs.declared.replay.ReplayLine.{ReplayLine}
 use Rattle.relay_script.specs.declared.replay.ReplayLine.TheVariants.{Nothing, Limits, Stream, Guard, Recorder, Session, Piece, Eof, Room, FailRecv, FailSend, FailPut, Turn, Rec, All as Rounds, Quit}
-use Rattle.relay_replay.specs.Cast.{AfterTurn, CastState, ConnState, Each, RecTurnOf, Round, SessionTurn, Times, TurnOf}
+use Rattle.relay_replay.specs.Cast.{AfterTurn, AnsweredTurn, CastState, ConnState, Each, RecTurnOf, Round, SessionTurn, SettledBy, Times, TurnOf}
 use Rattle.relay_replay.specs.Plays.{IsNewSession, Plays, ToldBy, told_of}
-use Rattle.relay_replay.specs.Scenes.{Acts, CastBy, Does, IsOpen, SceneState, is_acting, stand_of}
+use Rattle.relay_replay.specs.Scenes.{Acts, CastBy, Does, IsOpen, SceneState, SettledIn, is_acting, stand_of}
 use Rattle.relay_replay.specs.Served.{AreServed, IsServed, ServedIf, ServedIn, StandsIf}
 use Rattle.relay_replay.specs.Stand.{Stand, after, allows, is_setting}
 use Rattle.relay_replay.proofs.Taking.{turn_took}
@@ -96,6 +96,12 @@ times_keep Q step f (suc k) c d t q = f t.0 d t.1.1 (times_keep Q step f k c t.0
 pub each_keep : {A : Type 0} (Q : A → Type 0) (step : ℕ → A → A → Type 0) → ((n : ℕ) (c d : A) → step n c d → Q c → Q d) → (k : ℕ) (c d : A) → Each k step c d → Q c → Q d
 each_keep Q step f zero c d t q = subst Q (sym t) q
 each_keep Q step f (suc k) c d t q = f k t.0 d t.1.1 (each_keep Q step f k c t.0 t.1.0 q)
+
+-- what each turn of a session keeps, turns until it is idle keep
+pub settled_keep : (Q : CastState → Type 0) (desk : Ask → Grant) (n : ℕ) → ((c d : CastState) → TurnOf desk n c d → Q c → Q d) → (done : Bool) (most : ℕ) (c d : CastState) → SettledBy done most desk n c d → Q c → Q d
+settled_keep Q desk n f true most c d t q =
+    f t.between d t.last.turn (times_keep Q (AnsweredTurn desk n (Some Moved)) (λ x y a. f x y a.turn) t.moved c t.between t.moves q)
+settled_keep Q desk n f false most c d t q = times_keep Q (AnsweredTurn desk n (Some Moved)) (λ x y a. f x y a.turn) most c d t q
 
 served_round : (desk : Ask → Grant) (c d : CastState) → Round desk c d → ServedIn desk c → ServedIn desk d
 served_round desk c d r s =
@@ -177,11 +183,14 @@ none_served s t more e c = by_cast s.cast e c
     by_cast None e c = subst (ServedIf (granted_from 0 t.places)) (sym c) tt
     by_cast (Some x) e c = absurd (cc)
 
-acts_served : (line : ReplayLine) (s t : SceneState) → t.places ≡ s.places → Acts line s t → AreServed s → AreServed t
+now_served : (s t : SceneState) (c : CastState) → t.places ≡ s.places → t.cast ≡ Some c → ServedIn (granted_from 0 s.places) c → AreServed t
+now_served s t c p e k =
+    subst (λ (l : List PlaceRule). ServedIf (granted_from 0 l) t.cast) (sym p) (subst (ServedIf (granted_from 0 s.places)) (sym e) k)
+
+pub acts_served : (line : ReplayLine) (s t : SceneState) → t.places ≡ s.places → Acts line s t → AreServed s → AreServed t
 acts_served line s t p a k =
     let desk = granted_from 0 s.places in
-    let now = plays_served line s.limits desk a.before a.now a.plays (opened_served s.cast s desk a.before a.opened k) in
-    subst (λ (l : List PlaceRule). ServedIf (granted_from 0 l) t.cast) (sym p) (subst (ServedIf desk) (sym a.cast) now)
+    now_served s t a.now p a.cast (plays_served line s.limits desk a.before a.now a.plays (opened_served s.cast s desk a.before a.opened k))
 
 line_served : (line : ReplayLine) (s t : SceneState) → allows line (stand_of s) ≡ true → stand_of t ≡ after line (stand_of s) → CastBy (is_acting line) line s t → AreServed s → AreServed t
 line_served Nothing s t e p c k = same_served s t (ap (λ (x : Stand). x.places) p) c k
@@ -203,6 +212,12 @@ line_served (Quit n) s t e p c k = acts_served (Quit n) s t (ap (λ (x : Stand).
 
 pub does_served : (line : ReplayLine) (s t : SceneState) → allows line (stand_of s) ≡ true → Does line s t → AreServed s → AreServed t
 does_served line s t e d k = line_served line s t e d.stand d.cast k
+
+pub settled_served : (done : Bool) (most n : ℕ) (s t : SceneState) → SettledIn done most n s t → AreServed s → AreServed t
+settled_served done most n s t x k =
+    let desk = granted_from 0 s.places in
+    now_served s t x.now (ap (λ (y : Stand). y.places) x.stand) x.cast
+    (settled_keep (ServedIn desk) desk n (served_of desk n) done most x.before x.now x.turns (opened_served s.cast s desk x.before x.opened k))
 
 pub cast_served : (s : SceneState) (c : CastState) → IsOpen s.cast s c → AreServed s → ServedIn (granted_from 0 s.places) c
 cast_served s c o k = opened_served s.cast s (granted_from 0 s.places) c o k

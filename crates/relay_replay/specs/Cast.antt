@@ -1,5 +1,5 @@
 -- What runs in a replay, and a turn of each of its parts.
-use Rattle.std.specs.Prelude.{◌≡◌, ℕ, zero, suc, List, ◌++◌, length, slice_get, slice_set, Option, None, Some}
+use Rattle.std.specs.Prelude.{◌≡◌, ◌<◌, ℕ, zero, suc, Bool, true, false, List, ◌++◌, length, slice_get, slice_set, Option, None, Some}
 use Rattle.av_unit.specs.declared.item.Item.{Item}
 use Rattle.command_dialog.specs.declared.types.Ask.{Ask}
 use Rattle.command_dialog.specs.declared.types.Grant.{Grant}
@@ -106,6 +106,15 @@ abbrev pub SessionTurn : Option End → (Ask → Grant) → SoleState → ConnSt
 SessionTurn (Some e) desk port c port' d = (d ≡ c) × (port' ≡ port)
 SessionTurn None desk port c port' d = Turned desk port c port' d
 
+-- what a turn was answered; one that has ended is asked nothing
+abbrev pub answer_in : (e : Option End) (desk : Ask → Grant) (port : SoleState) (c : ConnState) (port' : SoleState) (d : ConnState) → SessionTurn e desk port c port' d → Option Turn
+answer_in None desk port c port' d t = Some t.answer
+answer_in (Some e) desk port c port' d t = None
+
+-- a turn that was answered so
+abbrev pub AnsweredBy : Option Turn → Option End → (Ask → Grant) → SoleState → ConnState → SoleState → ConnState → Type 0
+AnsweredBy a e desk port c port' d = (t : SessionTurn e desk port c port' d) × (answer_in e desk port c port' d t ≡ a)
+
 -- ---- a recorder's turn
 
 -- it didn't end for want of memory
@@ -157,6 +166,11 @@ pub record RecTurnOf (n : ℕ) (c d : CastState) : Type 0 where
   pub recorders : d.recorders ≡ slice_set c.recorders n new
   pub sessions : d.sessions ≡ c.sessions
 
+-- the same of a turn that was answered so
+pub record AnsweredTurn (desk : Ask → Grant) (n : ℕ) (answer : Option Turn) (c d : CastState) : Type 0 where
+  pub turn : TurnOf desk n c d
+  pub answer_is : answer_in turn.old.ended desk c.port turn.old d.port turn.new turn.turn ≡ answer
+
 -- so many steps, one after another
 abbrev pub Times : {A : Type 0} → ℕ → (A → A → Type 0) → A → A → Type 0
 Times zero step c d = d ≡ c
@@ -172,3 +186,26 @@ pub record Round (desk : Ask → Grant) (c d : CastState) : Type 0 where
   pub between : CastState
   pub sessions : Each (length c.sessions) (TurnOf desk) c between
   pub recorders : Each (length between.recorders) RecTurnOf between d
+
+-- ---- turns of a session until it is idle
+
+abbrev pub is_moved : Option Turn → Bool
+is_moved None = false
+is_moved (Some Moved) = true
+is_moved (Some Idle) = false
+is_moved (Some (Ended e)) = false
+
+-- TURNS UNTIL IT IS IDLE, or has ended, so many at most: all but the last moved something
+pub record Settles (most : ℕ) (desk : Ask → Grant) (n : ℕ) (c d : CastState) : Type 0 where
+  pub moved : ℕ
+  pub few : moved < most
+  pub between : CastState
+  pub moves : Times moved (AnsweredTurn desk n (Some Moved)) c between
+  pub answer : Option Turn
+  pub last : AnsweredTurn desk n answer between d
+  pub still : is_moved answer ≡ false
+
+-- the same, or so many turns that all moved something
+abbrev pub SettledBy : Bool → ℕ → (Ask → Grant) → ℕ → CastState → CastState → Type 0
+SettledBy true most desk n c d = Settles most desk n c d
+SettledBy false most desk n c d = Times most (AnsweredTurn desk n (Some Moved)) c d

@@ -6,3 +6,4 @@ pub mod Scenes
 pub mod Served
 pub mod Recorded
 pub mod Prints
+pub mod Sums

@@ -15,8 +15,8 @@ use Rattle.relay_script.specs.declared.replay.ReplayLine.{ReplayLine}
 use Rattle.relay_script.specs.declared.replay.ReplayLine.TheVariants.{Nothing, Limits, Stream, Guard, Recorder, Session, Piece, Eof, Room, FailRecv, FailSend}
 use Rattle.relay_script.specs.declared.replay.ReplayLine.TheVariants.{FailPut, Turn, Rec, Quit}
 use Rattle.relay_replay.specs.declared.recording.Plan.{Plan}
-use Rattle.relay_replay.specs.Stand.{Stand, defaults, after}
-use Rattle.relay_replay.specs.Cast.{ConnState, RecState, CastState, text_in}
+use Rattle.relay_replay.specs.Stand.{Stand, acted, after, count, defaults}
+use Rattle.relay_replay.specs.Cast.{ConnState, RecState, CastState, SettledBy, text_in}
 use Rattle.relay_replay.specs.Plays.{Plays}
 
 pub record SceneState : Type 0 where
@@ -104,6 +104,15 @@ CastBy true line s t = Acts line s t
 pub record Does (line : ReplayLine) (s t : SceneState) : Type 0 where
   pub stand : stand_of t ≡ after line (stand_of s)
   pub cast : CastBy (is_acting line) line s t
+
+-- TURNS OF A SESSION until it is idle, or has ended, so many at most; where it isn't done, all of them moved something
+pub record SettledIn (done : Bool) (most n : ℕ) (s t : SceneState) : Type 0 where
+  pub stand : stand_of t ≡ acted (count (stand_of s).sessions) (stand_of s)
+  pub before : CastState
+  pub opened : IsOpen s.cast s before
+  pub now : CastState
+  pub turns : SettledBy done most (granted_from 0 s.places) n before now
+  pub cast : t.cast ≡ Some now
 
 -- ---- what stays true
 

@@ -1,6 +1,6 @@
-ghost use Rattle.std.specs.Prelude.{◌≡◌, ◌<◌, ◌≤◌, [], length, OnOk};
+ghost use Rattle.std.specs.Prelude.{◌≡◌, ◌<◌, ◌≤◌, [], length, IfOk, OnOk};
 ghost use Rattle.relay_session.specs.Grants.{granted_from};
-ghost use Rattle.relay_replay.specs.Cast.{Each, Round, RecTurnOf, Times, TurnOf};
+ghost use Rattle.relay_replay.specs.Cast.{AnsweredTurn, Each, Round, RecTurnOf, SettledBy, Times, TurnOf, is_moved};
 ghost use Rattle.relay_replay.specs.Plays.{Opens, PutFails, Told};
 ghost use Rattle.relay_replay.specs.Scenes.{Sits};
 
@@ -9,10 +9,22 @@ use crate::recording::Recording;
 use av_unit::OutOfMemory;
 use relay_base::Limits;
 use relay_script::ReplayLine;
-use relay_session::PlaceDesk;
+use relay_session::{PlaceDesk, Turn};
 use std::alloc::Global;
 use std::marker::Model;
 use stream_registry::Sole;
+
+// Whether a turn moved something.
+fn is_moved(answer: Option<Turn>) -> bool
+    ensures { result ≡ is_moved answer }
+{
+    match answer {
+        None => false,
+        Some(Turn::Moved) => true,
+        Some(Turn::Idle) => false,
+        Some(Turn::Ended(_)) => false,
+    }
+}
 
 /// All that runs in a replay.
 #[derive(Drop)]
@@ -89,15 +101,37 @@ impl Cast {
         self.recorders[n as usize].fail_put();
     }
 
-    // One turn of a session.
-    fn turn(&mut self, n: usize, desk: &PlaceDesk<'_>) -> Result<(), OutOfMemory>
+    // One turn of a session, and what it was answered; none of one that has ended.
+    fn turn(&mut self, n: usize, desk: &PlaceDesk<'_>) -> Result<Option<Turn>, OutOfMemory>
         requires there { n < length self.old.sessions }
         requires sits { Sits (length desk.now.list.now) (length self.old.recorders) self.old }
-        ensures turn { OnOk result (TurnOf (granted_from 0 desk.now.list.now) n self.old self.new) }
+        ensures turn { IfOk result (λ a. AnsweredTurn (granted_from 0 desk.now.list.now) n a self.old self.new) }
         ensures sits { OnOk result (Sits (length desk.now.list.now) (length self.old.recorders) self.new) }
         ensures count { OnOk result (length self.new.sessions ≡ length self.old.sessions) }
     {
         self.sessions[n].turn(self.alloc, &mut self.port, desk)
+    }
+
+    // Turns of a session until it is idle or has ended. False where so many turns all moved something.
+    pub(crate) fn settle(
+        &mut self,
+        n: u32,
+        most: u32,
+        desk: &PlaceDesk<'_>,
+    ) -> Result<bool, OutOfMemory>
+        requires there { n < length self.old.sessions }
+        requires sits { Sits (length desk.now.list.now) (length self.old.recorders) self.old }
+        ensures settled { IfOk result (λ done. SettledBy done most (granted_from 0 desk.now.list.now) n self.old self.new) }
+        ensures sits { OnOk result (Sits (length desk.now.list.now) (length self.old.recorders) self.new) }
+        ensures count { OnOk result (length self.new.sessions ≡ length self.old.sessions) }
+    {
+        for _ in 0..most {
+            let answer = self.turn(n as usize, desk)?;
+            if !is_moved(answer) {
+                return Ok(true);
+            }
+        }
+        Ok(false)
     }
 
     // One turn of a recorder.

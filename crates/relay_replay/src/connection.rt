@@ -1,9 +1,9 @@
-ghost use Rattle.std.specs.Prelude.{◌≡◌, ◌≤◌, ℕ, [], length, OnOk, Some, None};
+ghost use Rattle.std.specs.Prelude.{◌≡◌, ◌≤◌, ℕ, [], length, IfOk, OnOk, Some, None};
 ghost use Rattle.relay_session.specs.Grants.{granted_from};
 ghost use Rattle.relay_session.specs.Places.{IsAt, IsOffered};
 ghost use Rattle.relay_session.specs.SeatState.{HasFit};
 ghost use Rattle.stream_registry.specs.Books.{FitsSole, SeenState, sole_rules};
-ghost use Rattle.relay_replay.specs.Cast.{SessionTurn, AfterTurn, IsClosed};
+ghost use Rattle.relay_replay.specs.Cast.{AfterTurn, AnsweredBy, IsClosed};
 ghost use Rattle.relay_replay.specs.Prints.{Holds};
 ghost use Rattle.relay_replay.specs.Plays.{IsNewSession, told_of};
 ghost use Rattle.relay_replay.specs.Scenes.{Ready, ReadyBy};
@@ -90,26 +90,27 @@ impl Connection {
         Ok(())
     }
 
-    // One turn, unless it has ended. One that ends is closed at once.
+    // One turn, and what it was answered; none of one that has ended. One that ends is closed at once.
     pub(crate) fn turn(
         &mut self,
         alloc: Global,
         port: &mut Sole,
         desk: &PlaceDesk<'_>,
-    ) -> Result<(), OutOfMemory>
+    ) -> Result<Option<Turn>, OutOfMemory>
         requires ready { Ready port.old self.old }
         requires offered { IsOffered (granted_from 0 desk.now.list.now) (length (sole_rules port.old.rules).names) }
-        ensures turn { OnOk result (SessionTurn self.old.ended (granted_from 0 desk.now.list.now) port.old self.old port.new self.new) }
+        ensures turn { IfOk result (λ a. AnsweredBy a self.old.ended (granted_from 0 desk.now.list.now) port.old self.old port.new self.new) }
         ensures ready { OnOk result (Ready port.new self.new) }
         ensures fixed { sole_rules port.new.rules ≡ sole_rules port.old.rules }
         ensures fits { (q : ℕ) (p : SeenState) → FitsSole port.old q p → FitsSole port.new q p }
     {
         if self.ended.is_some() {
-            return Ok(());
+            return Ok(None);
         }
         let answer = self.session.turn(alloc, port, &mut self.link, desk);
         self.session.owed_law();
-        after(&mut self.session, &mut self.ended, port, answer)
+        after(&mut self.session, &mut self.ended, port, answer)?;
+        Ok(Some(answer))
     }
 }
 

@@ -13,6 +13,7 @@ mod recording;
 mod report;
 mod scene;
 mod served;
+mod summary;
 
 pub use recorded::what_was_recorded_is_the_text_of_what_was_taken;
 pub use scene::Scene;

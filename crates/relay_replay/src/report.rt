@@ -105,7 +105,7 @@ fn stream_text(alloc: Global, n: u32, held: u64) -> Result<String, OutOfMemory>
     Ok(format!(in alloc; "stream {n} held {held}\n")?)
 }
 
-fn held_text(alloc: Global, total: u64, sum: u64) -> Result<String, OutOfMemory>
+pub(crate) fn held_text(alloc: Global, total: u64, sum: u64) -> Result<String, OutOfMemory>
     ensures { IfOk result (λ text. string_bytes text ≡ held_line total sum) }
 {
     Ok(format!(in alloc; "held {total} sum {sum}\n")?)
@@ -200,7 +200,7 @@ fn streams_hold(streams: u32, port: &Sole) -> Result<u64, OutOfMemory>
 }
 
 // What all hold together.
-fn total_of(streams: u32, cast: &Cast) -> Result<u64, OutOfMemory>
+pub(crate) fn total_of(streams: u32, cast: &Cast) -> Result<u64, OutOfMemory>
     requires { streams ≤ length cast.now.port.rules.names }
     ensures { IfOk result (λ n. IsTotal streams cast.now n) }
 {

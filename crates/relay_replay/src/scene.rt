@@ -4,14 +4,16 @@ ghost use Rattle.std.specs.Prelude.{◌∷◌, option_map, slice_get, slice_inde
 ghost use Rattle.std.specs.List.{list_any};
 ghost use Rattle.relay_replay.specs.Stand.{defaults, allows, is_open, is_pair, is_setting, same_mode, takes_at, takes_mode, with_key, keyed, keyed_at};
 ghost use Rattle.relay_replay.specs.Stand.{count, has_recorder, has_session, no_plan, open_place, plan};
-ghost use Rattle.relay_replay.specs.Cast.{Round, Times, TurnOf};
+ghost use Rattle.relay_replay.specs.Cast.{Round, SettledBy, Times, TurnOf};
 ghost use Rattle.relay_replay.specs.Plays.{Plays, session_in};
-ghost use Rattle.relay_replay.specs.Scenes.{AreNew, Does, IsNewCast, IsNewRecorder, IsOpen, IsSound, IsThere, Sits, is_acting, opened_by, name_of, stand_of, start, stream_limits};
+ghost use Rattle.relay_replay.specs.Scenes.{AreNew, Does, IsNewCast, IsNewRecorder, IsOpen, IsSound, IsThere, SettledIn, Sits, is_acting, opened_by, name_of, stand_of, start, stream_limits};
 ghost use Rattle.relay_replay.specs.Prints.{Prints};
+ghost use Rattle.relay_replay.specs.Sums.{Sums};
 
 use crate::cast::Cast;
 use crate::recording::{Plan, Recording};
 use crate::report::report;
+use crate::summary::summary;
 use av_unit::{Bytes, KeyList, OutOfMemory};
 use key_guard::{Grants, Guards, Mode};
 use relay_base::Limits;
@@ -301,6 +303,27 @@ fn turns(
     turned
 }
 
+// Turns of a session until it is idle or has ended, so many at most.
+fn settle(
+    guards: &Guards,
+    places: &PlaceList,
+    cast: &mut Cast,
+    session: u32,
+    most: u32,
+) -> Result<bool, OutOfMemory>
+    requires few { length places.now ≤ 64 }
+    requires sits { Sits (length places.now) (length cast.old.recorders) cast.old }
+    requires there { session < length cast.old.sessions }
+    ensures settled { IfOk result (λ done. SettledBy done most (granted_from 0 places.now) session cast.old cast.new) }
+    ensures sits { OnOk result (Sits (length places.now) (length cast.old.recorders) cast.new) }
+    ensures count { OnOk result (length cast.new.sessions ≡ length cast.old.sessions) }
+{
+    let desk = PlaceDesk::new(guards, places);
+    let settled = cast.settle(session, most, &desk);
+    let PlaceDesk { guards: _, list: _ } = desk;
+    settled
+}
+
 fn rounds(
     guards: &Guards,
     places: &PlaceList,
@@ -548,6 +571,51 @@ impl Scene {
             Ok(()) => Ok(()),
             Err(_) => Err(LineFail::OutOfMemory),
         }
+    }
+
+    /// Turns of a session until one is answered `Idle`, or it has ended. The answer is false where `most` turns all moved
+    /// something, and `Outside` exactly where the session isn't there; then nothing is done.
+    pub fn settle(&mut self, guards: &Guards, session: u32, most: u32) -> Result<bool, LineFail>
+        requires sound { IsSound self.old }
+        ensures settled { IfOk result (λ done. SettledIn done most session self.old self.new) }
+        ensures sound { OnOk result (IsSound self.new) }
+        ensures outside { (result ≡ Err LineFail.Outside) ↔ (has_session session (stand_of self.old) ≡ false) }
+        ensures refused { result ≡ Err LineFail.Outside → self.new ≡ self.old }
+    {
+        if !self.has_session(session) {
+            return Err(LineFail::Outside);
+        }
+        match self.settled(guards, session, most) {
+            Ok(done) => Ok(done),
+            Err(_) => Err(LineFail::OutOfMemory),
+        }
+    }
+
+    // The same of a session that is there.
+    fn settled(&mut self, guards: &Guards, session: u32, most: u32) -> Result<bool, OutOfMemory>
+        requires sound { IsSound self.old }
+        requires there { has_session session (stand_of self.old) ≡ true }
+        ensures settled { IfOk result (λ done. SettledIn done most session self.old self.new) }
+        ensures sound { OnOk result (IsSound self.new) }
+    {
+        let mut cast = self.opened()?;
+        let done = settle(guards, &self.places, &mut cast, session, most)?;
+        self.fresh = false;
+        self.cast = Some(cast);
+        Ok(done)
+    }
+
+    /// What a run comes to: how many units the first stream was given, of each session but the first how many items it was
+    /// sent of that stream, how often it skipped and how many bytes it was sent, and what all hold together, beside the most that
+    /// they may. Nothing runs then.
+    pub fn summary(&mut self) -> Result<Bytes, OutOfMemory>
+        requires sound { IsSound self.old }
+        requires some { 0 < length self.old.places }
+        ensures sums { IfOk result (λ text. Sums self.old text) }
+        ensures over { self.new ≡ record self.old { cast = None } }
+    {
+        let cast = self.opened()?;
+        summary(self.alloc, &self.limits, self.places.len(), &cast)
     }
 
     /// What is printed at the script's end: of each session what it was sent and how it ended, of each recorder its file

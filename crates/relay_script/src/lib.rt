@@ -10,7 +10,7 @@ mod replay;
 mod text;
 
 pub use laws::{kind_law, lines_law, number_law};
-pub use line::{DrillLine, LineFail, drill_line};
+pub use line::{DrillLine, LineFail, count_of, drill_line};
 pub use replay::{Form, ReplayLine, Side, replay_line};
 pub use text::{held_text, reply_line_law, reply_text};
 

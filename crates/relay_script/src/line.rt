@@ -79,8 +79,8 @@ pub(crate) fn number(word: &[u8], bound: u64) -> Option<u32>
     }
 }
 
-// The number from 1 on and below the bound that the word spells.
-pub(crate) fn count_of(word: &[u8], bound: u64) -> Option<u32>
+/// The number from 1 on and below the bound that the word spells: decimal digits without a sign or a leading zero.
+pub fn count_of(word: &[u8], bound: u64) -> Option<u32>
     requires some { 0 < bound }
     requires fits { bound ≤ 2 ^ 32 }
     ensures { result ≡ count_of bound word.now }

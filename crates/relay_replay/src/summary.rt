@@ -1,0 +1,147 @@
+ghost use Rattle.std.specs.Prelude.{◌≡◌, ◌++◌, ◌≤◌, ◌<◌, drop, length, IfOk, OnOk, string_bytes};
+ghost use Rattle.relay_replay.specs.Sums.{IsSummary, is_sent, items_to, player_line, players_text, pushed_line, pushes, skips_to};
+ghost use Rattle.stream_model.specs.Counts.{is_pushed, is_skip};
+
+use crate::cast::Cast;
+use crate::connection::Connection;
+use crate::report::{held_text, total_of};
+use av_unit::{Bytes, OutOfMemory};
+use relay_base::Limits;
+use relay_config::sum_of;
+use std::alloc::Global;
+use stream_model::{Entry, Reply};
+
+fn is_pushed(reply: &Reply) -> bool
+    ensures { result ≡ is_pushed reply.now }
+{
+    match reply {
+        Reply::Pushed { .. } => true,
+        _ => false,
+    }
+}
+
+fn is_sent(reply: &Reply) -> bool
+    ensures { result ≡ is_sent reply.now }
+{
+    match reply {
+        Reply::Sent { .. } => true,
+        _ => false,
+    }
+}
+
+fn is_skip(reply: &Reply) -> bool
+    ensures { result ≡ is_skip reply.now }
+{
+    match reply {
+        Reply::Skip { .. } => true,
+        _ => false,
+    }
+}
+
+// How many of these calls were answered Pushed.
+fn pushes(calls: &[(Entry, Reply)]) -> usize
+    ensures { result ≡ pushes calls.now }
+{
+    calls.iter().filter(|call| is_pushed(&call.1)).count()
+}
+
+// How many of that caller's were sent an item.
+fn items_to(who: u64, calls: &[(Entry, Reply)]) -> usize
+    ensures { result ≡ items_to who calls.now }
+{
+    calls
+        .iter()
+        .filter(|call| call.0.who == who && is_sent(&call.1))
+        .count()
+}
+
+// How many of that caller's went on past what the window had passed.
+fn skips_to(who: u64, calls: &[(Entry, Reply)]) -> usize
+    ensures { result ≡ skips_to who calls.now }
+{
+    calls
+        .iter()
+        .filter(|call| call.0.who == who && is_skip(&call.1))
+        .count()
+}
+
+fn pushed_text(alloc: Global, calls: &[(Entry, Reply)]) -> Result<String, OutOfMemory>
+    ensures { IfOk result (λ text. string_bytes text ≡ pushed_line calls.now) }
+{
+    let pushed = pushes(calls);
+    Ok(format!(in alloc; "pushed {pushed}\n")?)
+}
+
+fn player_text(
+    alloc: Global,
+    n: u64,
+    calls: &[(Entry, Reply)],
+    sent: &[u8],
+) -> Result<String, OutOfMemory>
+    ensures { IfOk result (λ text. string_bytes text ≡ player_line n calls.now sent.now) }
+{
+    let items = items_to(n, calls);
+    let skips = skips_to(n, calls);
+    let bytes = sent.len();
+    Ok(format!(in alloc; "player {n} items {items} skips {skips} bytes {bytes}\n")?)
+}
+
+// All but the first.
+fn after_first(sessions: &[Connection]) -> &[Connection]
+    ensures { result.now ≡ drop 1 sessions.now }
+{
+    match sessions {
+        [] => sessions,
+        [_, rest @ ..] => rest,
+    }
+}
+
+// Adds the lines of these sessions, from number 1 on.
+fn all_players(
+    alloc: Global,
+    calls: &[(Entry, Reply)],
+    sessions: &[Connection],
+    out: &mut Bytes,
+) -> Result<(), OutOfMemory>
+    ensures { OnOk result (out.new ≡ out.old ++ players_text 1 calls.now sessions.now) }
+{
+    let mut n: u64 = 1;
+    let mut left = sessions;
+    while let [session, rest @ ..] = left {
+        let text = player_text(alloc, n, calls, session.sent())?;
+        out.append(text.as_str().as_bytes())?;
+        n += 1;
+        left = rest;
+    }
+    Ok(())
+}
+
+// What a run of so many streams comes to.
+pub(crate) fn summary(
+    alloc: Global,
+    limits: &Limits,
+    streams: usize,
+    cast: &Cast,
+) -> Result<Bytes, OutOfMemory>
+    requires ring { limits.now.ring_bytes ≤ 268435456 }
+    requires message { limits.now.max_message ≤ 4194304 }
+    requires names { length cast.now.port.rules.names ≡ streams }
+    requires some { 0 < streams }
+    requires few { streams ≤ 64 }
+    requires sessions { length cast.now.sessions ≤ 64 }
+    ensures { IfOk result (λ text. IsSummary limits.now streams cast.now text) }
+{
+    let Ok(recorders) = u32::try_from(cast.recorders().len()) else {
+        return Err(OutOfMemory);
+    };
+    let streams = streams as u32;
+    let calls = cast.port().journal(0);
+    let mut out = Bytes::new(alloc);
+    let pushed = pushed_text(alloc, calls)?;
+    out.append(pushed.as_str().as_bytes())?;
+    all_players(alloc, calls, after_first(cast.sessions()), &mut out)?;
+    let sum = sum_of(limits, streams, cast.sessions().len() as u32, recorders);
+    let text = held_text(alloc, total_of(streams, cast)?, sum)?;
+    out.append(text.as_str().as_bytes())?;
+    Ok(out)
+}
