@@ -2,6 +2,7 @@
 #![tactic(auto)]
 
 mod chunks;
+mod files;
 mod flv;
 mod gate;
 mod ports;
@@ -25,6 +26,9 @@ fn main(rt: HostRuntime) -> io::Result<()> {
         }
         if word.as_str() == "flv" {
             flv::measure(&rt, rt.alloc())?;
+        }
+        if word.as_str() == "files" {
+            files::measure(&rt, rt.alloc())?;
         }
         if word.as_str() == "ports" {
             ports::measure(&rt, rt.alloc())?;
