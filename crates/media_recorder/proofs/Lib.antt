@@ -4,4 +4,5 @@ pub mod Texts
 pub mod Parting
 pub mod Saying
 pub mod Viewing
+pub mod Calling
 pub mod Tying

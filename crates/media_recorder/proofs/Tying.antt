@@ -21,6 +21,7 @@ use Rattle.media_recorder.specs.declared.turn.RecTurn.TheVariants.{Moved, Idle, 
 use Rattle.media_recorder.specs.Tapes.{TapeState}
 use Rattle.media_recorder.specs.Tallied.{Tallied}
 use Rattle.media_recorder.specs.Turns.{RecorderState, is_empty, PutEnds, Unmade, Joins, JoinEnds, Writing, Takes, TakeEnds, Calls, Works}
+use Rattle.media_recorder.proofs.Calling.{has_called, has_put}
 
 put_ties : (answer : Put) (t : TapeState) (turn : RecTurn) (t' : TapeState) (end' : Option RecEnd) (holds holds' : Option (List ℕ)) → PutEnds answer t turn t' end' → PutHolds holds holds' t.pending answer → holds ≡ Some t.sent → holds' ≡ Some t'.sent
 put_ties (put.Took n) t turn t' end' holds holds' p h e =
@@ -121,14 +122,23 @@ module _ {P Q K : Type 0} (rules : P → PortRules) (root : P → Histories) (bu
 
   pub works_tally : ((s : K) (piece : List ℕ) (answer : Put) (t : K) → 0 < length piece → takes s piece answer t → PutStep piece (holds s) (holds t) (faults s) (faults t) answer)
       → (b : Bool) (port port' : P) (sink sink' : K) (r : RecorderState Q) (turn : RecTurn) (r' : RecorderState Q) → is_empty r.tape.pending ≡ b
-      → Works rules root busies seen mine count takes b port port' sink sink' r turn r' → Tallied (holds sink) (faults sink) r → Tallied (holds sink') (faults sink') r'
+      → Works rules root busies seen mine count takes b port port' sink sink' r turn r' → Tallied count (holds sink) (faults sink) r → Tallied count (holds sink') (faults sink') r'
   works_tally mean false port port' sink sink' r turn r' e w t =
       let step = mean sink r.tape.pending w.answer sink' (some_bytes r.tape.pending e) w.step in
+      let h = has_put rules root busies seen mine count port port' takes sink sink' r turn r' w t.unjoined in
       record {
         told = put_tells w.answer r.tape turn r'.tape r'.end (holds sink) (holds sink') w.ends step.bytes t.told;
         blamed = put_blames w.answer r.tape turn r'.tape r'.end (faults sink) (faults sink') w.ends step.cause;
+        unjoined = h.unjoined;
+        full = h.full;
+        worn = h.worn;
       }
-  works_tally mean true port port' sink sink' r turn r' e w t = record {
-    told = λ bytes is. t.told bytes (sym (ap holds w.1) ∙ is) ∙ sym (calls_send r.player port port' r turn r' w.0);
-    blamed = λ is. absurd (calls_spare r.player port port' r turn r' w.0 is);
-  }
+  works_tally mean true port port' sink sink' r turn r' e w t =
+      let h = has_called rules root busies seen mine count port port' r.player r turn r' refl w.0 t.unjoined in
+      record {
+        told = λ bytes is. t.told bytes (sym (ap holds w.1) ∙ is) ∙ sym (calls_send r.player port port' r turn r' w.0);
+        blamed = λ is. absurd (calls_spare r.player port port' r turn r' w.0 is);
+        unjoined = h.unjoined;
+        full = h.full;
+        worn = h.worn;
+      }

@@ -95,7 +95,7 @@ impl<P: StreamPort, M: Medium> Recorder<P, M> {
         ensures port { Serves P.rules P.root P.busies P.fits self.old.seat.place port.old port.new }
         ensures turn { Turns P.rules P.root P.busies P.seen P.mine P.count K.takes self.old.end port.old port.new sink.old sink.new self.old result self.new }
         ensures took { K.holds sink.old ≡ Some self.old.tape.sent → K.holds sink.new ≡ Some self.new.tape.sent }
-        ensures tallies { Tallied (K.holds sink.old) (K.faults sink.old) self.old → Tallied (K.holds sink.new) (K.faults sink.new) self.new }
+        ensures tallies { Tallied P.count (K.holds sink.old) (K.faults sink.old) self.old → Tallied P.count (K.holds sink.new) (K.faults sink.new) self.new }
         ensures says { Says P.mine (P.root port.old self.old.seat.place) (P.busies port.old) (P.busies port.new) result self.new }
     {
         match self.end {

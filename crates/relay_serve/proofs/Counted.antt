@@ -1,5 +1,5 @@
 -- What is counted stands at the end of a history
-use Rattle.std.proofs.Common.{◌≡◌, ◌≢◌, ◌⊎◌, ◌<◌, ℕ, zero, suc, Bool, true, false, List, [], ◌∷◌, ◌++◌, length, length-append, append_assoc, Option, Some, slice_get, inl, inr, refl, sym, ap, subst, ◌∙◌, arith}
+use Rattle.std.proofs.Common.{◌≡◌, ◌≢◌, ◌⊎◌, ◌<◌, ℕ, zero, suc, Bool, true, false, List, [], ◌∷◌, ◌++◌, length, length-append, append_assoc, Option, None, Some, slice_get, inl, inr, refl, sym, ap, subst, ◌∙◌, arith}
 use Rattle.std.proofs.lemmas.List.{append-nil}
 use Rattle.std.proofs.lemmas.Option.{slice_get_within}
 use Rattle.std.proofs.lemmas.Bool.Decides.{nat_tests}
@@ -10,7 +10,7 @@ use Rattle.stream_registry.specs.Placed.{Placed}
 use Rattle.stream_registry.specs.Told.{Step, Histories, Keeps}
 use Rattle.stream_registry.specs.Roots.{Later}
 use Rattle.relay_serve.specs.declared.counting.Counts.{Counts}
-use Rattle.relay_serve.specs.Lasts.{AllEnd, EndsIf, EndsWith, counting, told_by}
+use Rattle.relay_serve.specs.Lasts.{AllEnd, EndsIf, EndsWith, IsWorn, counting, told_by}
 
 choose : (b : Bool) (xs ys : List Step) → b ≡ true → (if b then ys else xs) ≡ ys
 choose true xs ys e = refl
@@ -78,3 +78,25 @@ module _ (limits : ℕ → StreamLimits) (xs : List (Option Counts)) (x : Option
 
 pub later_same : (hs : Histories) → Later hs hs
 later_same hs = record { at = λ q. begins_same (hs q) }
+
+got_before : {X : Type 0} (xs : List X) (x y : X) (n : ℕ) → slice_get xs n ≡ Some y → slice_get (xs ++ x ∷ []) n ≡ Some y
+got_before [] x y n e = absurd (let f : None ≡ Some y = e in cc)
+got_before (z ∷ xs) x y zero e = e
+got_before (z ∷ xs) x y (suc n) e = got_before xs x y n e
+
+got_last : {X : Type 0} (xs : List X) (x : X) → slice_get (xs ++ x ∷ []) (length xs) ≡ Some x
+got_last [] x = refl
+got_last (z ∷ xs) x = got_last xs x
+
+-- one stream more is counted, or its history is full
+module _ (full : ℕ → Type 0) (xs : List (Option Counts)) (x : Option Counts) where
+  worn_by : ((q : ℕ) → q < length xs → full q → IsWorn xs q) → (full (length xs) → x ≡ None) → (q : ℕ) → q < length (xs ++ x ∷ []) → full q
+      → (q ≡ length xs) ⊎ (q ≢ length xs) → IsWorn (xs ++ x ∷ []) q
+  worn_by old new q l f (inl e) =
+      subst (IsWorn (xs ++ x ∷ [])) (sym e) (got_last xs x ∙ ap Some (new (subst full e f)))
+  worn_by old new q l f (inr n) =
+      got_before xs x None q (old q (grind (arith, length-append xs (x ∷ []), l, n)) f)
+
+  pub worn_more : ((q : ℕ) → q < length xs → full q → IsWorn xs q) → (full (length xs) → x ≡ None) → (q : ℕ) → q < length (xs ++ x ∷ []) → full q
+      → IsWorn (xs ++ x ∷ []) q
+  worn_more old new q l f = worn_by old new q l f (same_or q (length xs))

@@ -4,7 +4,6 @@ use Rattle.std.specs.Prelude.{map, if◌then◌else◌, ◌==◌}
 use Rattle.std.proofs.lemmas.List.{map_push, take_all}
 use Rattle.std.proofs.lemmas.List.Elements.{All-push}
 use Rattle.relay_worker.specs.Benches.{WorkerState}
-use Rattle.relay_worker.specs.Filed.{Tallies}
 use Rattle.relay_worker.specs.Running.{Label, label_of}
 use Rattle.relay_worker.specs.declared.recorder.Recorder.{Recorder}
 use Rattle.stream_registry.specs.Pasts.{Attempt}
@@ -14,6 +13,7 @@ use Rattle.turn_gate.specs.Known.{PassKnown}
 use Rattle.relay_config.specs.declared.config.PlaceRule.{PlaceRule}
 use Rattle.relay_serve.specs.Recordings.{own_from, recordings_at}
 use Rattle.relay_serve.specs.Settling.{Enlists}
+use Rattle.relay_serve.specs.Starts.{HasTally}
 
 module _ {D K L : Type 0} (holds : K → Option (List ℕ)) (faults : K → ℕ) where
   -- none yet
@@ -32,14 +32,14 @@ module _ {D K L : Type 0} (holds : K → Option (List ℕ)) (faults : K → ℕ)
 
   -- one more
   pub enlists_one : (w v : WorkerState Streams D K (PassKnown Site Attempt) L) (r : Recorder Streams K (PassKnown Site Attempt)) (label : Label)
-      → v ≡ record w { recorders = w.recorders ++ r ∷ [] } → label_of r ≡ label → Tallies holds faults r → Enlists holds faults (label ∷ []) w v
+      → v ≡ record w { recorders = w.recorders ++ r ∷ [] } → label_of r ≡ label → HasTally holds faults r → Enlists holds faults (label ∷ []) w v
   enlists_one w v r label e l t =
       subst (λ (x : WorkerState Streams D K (PassKnown Site Attempt) L). Enlists holds faults (label ∷ []) w x) (sym e)
       (record {
         bench = refl;
         terms = refl;
         labels = map_push label_of w.recorders r ∙ ap (λ (x : Label). map label_of w.recorders ++ x ∷ []) l;
-        tallies = λ all. All-push (Tallies holds faults) w.recorders r all t;
+        tallies = λ all. All-push (HasTally holds faults) w.recorders r all t;
       })
 
 -- what follows the first of a list, as a pattern binds it

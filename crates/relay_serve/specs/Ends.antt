@@ -21,7 +21,7 @@ use Rattle.relay_serve.specs.declared.serving.Ending.TheVariants as end
 use Rattle.relay_serve.specs.Taking.{TakesText}
 use Rattle.relay_serve.specs.Texts.{WritesPart, lines_from}
 use Rattle.relay_serve.specs.Counts.{counted_if}
-use Rattle.relay_serve.specs.Lasts.{AllEnd}
+use Rattle.relay_serve.specs.Lasts.{AllEnd, IsWorn}
 use Rattle.relay_serve.specs.Recorded.{IsRecorded}
 use Rattle.relay_serve.specs.Recordings.{recordings_upto}
 use Rattle.relay_serve.specs.Settling.{AsksFor, IsShut, TellsMore}
@@ -93,7 +93,8 @@ pub record Reports (config : Config) (histories : Histories) (old new : Seen) : 
   -- each worker's door was shut, and what its links were sent is what they were owed
   pub shut : TellsMore (IsShut config streams joined) (range_with_len 0 config.workers) old.house.shut new.house.shut
   -- the file of each recording was kept, and holds what its recorder was sent
-  pub kept : TellsMore (IsRecorded streams joined histories config.places) (recordings_upto config config.workers) old.house.kept new.house.kept
+  pub kept : TellsMore (IsRecorded streams joined histories (IsWorn counts) config.places) (recordings_upto config config.workers)
+      old.house.kept new.house.kept
 
 -- HOW A CONFIGURATION THAT IS ACCEPTED IS SERVED, by the streams' histories at the end
 abbrev pub RunsAs : Config → Histories → Seen → Seen → Ending → Type 0

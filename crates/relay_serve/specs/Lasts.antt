@@ -26,6 +26,10 @@ abbrev pub EndsIf : StreamLimits → Option Counts → List Step → Type 0
 EndsIf limits None history = Unit {0}
 EndsIf limits (Some c) history = EndsWith limits c history
 
+-- the report has no counts of the stream at that place, but says that its history is full
+abbrev pub IsWorn : List (Option Counts) → ℕ → Type 0
+IsWorn counts place = slice_get counts place ≡ Some None
+
 -- each history at these places ends with its Count
 abbrev pub AllEnd : (ℕ → StreamLimits) → List (Option Counts) → Histories → Type 0
 AllEnd limits counts histories = (place : ℕ) (c : Counts) → slice_get counts place ≡ Some (Some c) → EndsWith (limits place) c (histories place)

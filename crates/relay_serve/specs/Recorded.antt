@@ -1,5 +1,5 @@
 -- What the files of recordings hold at the end
-use Rattle.std.specs.Prelude.{◌≡◌, ◌≢◌, ◌≤◌, ℕ, List, ◌∷◌, ◌++◌, length, All, Bool, true, false, Option, Some, None}
+use Rattle.std.specs.Prelude.{◌≡◌, ◌≤◌, ◌⊎◌, ℕ, List, [], ◌∷◌, ◌++◌, length, All, Bool, true, false, Option, Some, None}
 use Rattle.turn_gate.specs.Histories.{Begins}
 use Rattle.stream_model.specs.declared.calls.Call.TheVariants as call
 use Rattle.stream_model.specs.declared.calls.StreamLimits.{StreamLimits}
@@ -12,8 +12,9 @@ use Rattle.media_recorder.specs.declared.turn.RecEnd.TheVariants as rec
 use Rattle.media_recorder.specs.Calls.{Stand}
 use Rattle.media_recorder.specs.Ports.{mine_of}
 use Rattle.media_recorder.specs.Says.{Rests}
-use Rattle.media_recorder.specs.Seats.{SeatState, entry_of}
+use Rattle.media_recorder.specs.Seats.{entry_of}
 use Rattle.media_recorder.specs.Taken.{taken}
+use Rattle.media_recorder.specs.Tallied.{IsTurnedAway}
 use Rattle.media_recorder.specs.Turns.{RecorderState, all}
 use Rattle.relay_worker.specs.Filed.{text_in}
 use Rattle.relay_worker.specs.Running.{Label}
@@ -41,19 +42,16 @@ pub record IsWhole (r : Label) (bytes : List ℕ) (joined : List Step) (numbers 
   pub same_place : length before ≡ length earlier
   pub after_joined : length joined ≤ number
 
-module _ (streams : ℕ → StreamLimits) (joined histories : Histories) where
+module _ (streams : ℕ → StreamLimits) (joined histories : Histories) (worn : ℕ → Type 0) where
   -- WHAT A FILE HOLDS of a recording: a beginning of the text of the items that its recorder's Takes were sent. Where the file
-  -- has no faults and the recorder didn't end since it found no place or the history full, that is the whole
+  -- has no faults that is the whole, unless the recorder was turned away, or the history of its stream was full
   pub record Records (r : Label) (bytes : List ℕ) (faults : ℕ) : Type 0 where
     -- the recorder's calls, which stand at these numbers in the history of its stream
     pub calls : List Step
     pub numbers : List ℕ
     pub stand : Stand (streams r.place) r.who (histories r.place) numbers calls
-    -- why it had ended, if it had
-    pub end : Option RecEnd
-    pub spared : end ≢ Some rec.OutOfMemory
     pub prefix : Begins bytes (text_in r.form (taken calls))
-    pub whole : faults ≡ 0 → end ≢ Some rec.Full → end ≢ Some rec.Worn → IsWhole r bytes (joined r.place) numbers calls
+    pub whole : faults ≡ 0 → IsWhole r bytes (joined r.place) numbers calls ⊎ (IsTurnedAway r.who calls ⊎ worn r.place)
 
   -- A FILE THAT THE HOUSE KEEPS of a recording stands under the name that the configuration has for it
   pub record IsRecorded (places : List PlaceRule) (r : Label) (file : Kept) : Type 0 where
@@ -75,10 +73,19 @@ starved (Some rec.Full) = false
 starved (Some rec.Worn) = false
 starved (Some rec.OutOfMemory) = true
 
--- it has left: its calls, and at most its Leave after them, stand in its stream's history
-pub record HasLeft {Q : Type 0} (mine : Q → List ℕ) (limits : StreamLimits) (history : List Step) (s : SeatState Q) : Type 0 where
+-- the history of its stream was full
+abbrev pub worn_out : Option RecEnd → Bool
+worn_out None = false
+worn_out (Some rec.SinkFault) = false
+worn_out (Some rec.Full) = false
+worn_out (Some rec.Worn) = true
+worn_out (Some rec.OutOfMemory) = false
+
+-- it has left: its calls, and where it had joined at most its Leave after them, stand in its stream's history
+pub record HasLeft {Q : Type 0} (mine : Q → List ℕ) (limits : StreamLimits) (history : List Step) (r : RecorderState Q) : Type 0 where
   pub leaves : List Step
   pub numbers : List ℕ
   pub only_leaves : All IsLeave leaves
+  pub unjoined : r.player ≡ None → leaves ≡ []
   pub a_number_each : length numbers ≡ length leaves
-  pub stand : Stand limits s.who history (mine_of mine s.pass ++ numbers) (s.calls ++ leaves)
+  pub stand : Stand limits r.seat.who history (mine_of mine r.seat.pass ++ numbers) (r.seat.calls ++ leaves)

@@ -8,7 +8,6 @@ use Rattle.relay_outside.specs.Told.{LinkCounts, LinkTold}
 use Rattle.relay_session.specs.Grants.{granted_from}
 use Rattle.relay_worker.specs.Benches.{WorkerState}
 use Rattle.relay_worker.specs.Books.{HasBooks, Settled}
-use Rattle.relay_worker.specs.Filed.{Tallies}
 use Rattle.relay_worker.specs.Running.{Label, label_of}
 use Rattle.relay_worker.specs.declared.bench.Terms.{Terms}
 use Rattle.relay_worker.specs.declared.recorder.Recorder.{Recorder}
@@ -21,7 +20,7 @@ use Rattle.stream_registry.specs.Told.{Histories}
 use Rattle.stream_registry.specs.declared.desk.Site.{Site}
 use Rattle.turn_gate.specs.Known.{PassKnown}
 use Rattle.relay_serve.specs.Recordings.{recordings_of}
-use Rattle.relay_serve.specs.Starts.{IsFiledBy}
+use Rattle.relay_serve.specs.Starts.{HasTally, IsFiledBy}
 
 -- each member of a list, by its place there
 abbrev pub EachAt : {X : Type 0} → (ℕ → X → Type 0) → List X → Type 0
@@ -35,7 +34,7 @@ pub record Enlists {D K L : Type 0} (holds : K → Option (List ℕ)) (faults : 
   pub bench : w'.bench ≡ w.bench
   pub terms : w'.terms ≡ w.terms
   pub labels : map label_of w'.recorders ≡ map label_of w.recorders ++ recordings
-  pub tallies : All (Tallies holds faults) w.recorders → All (Tallies holds faults) w'.recorders
+  pub tallies : All (HasTally holds faults) w.recorders → All (HasTally holds faults) w'.recorders
 
 -- A WORKER OF THE SERVER: it has that number and the configured limits, its books are kept, and its recorders are those of its
 -- recordings, each with a tally
@@ -45,7 +44,7 @@ pub record IsServing (config : Config) {D K L : Type 0} (links : L → Option Li
   pub limited : w.terms.limits ≡ config.limits
   pub books : HasBooks shared_rules (λ s. told_at s.roots) (λ p. told p.seen) links counts doors (granted_from 0 config.places) w
   pub labels : map label_of w.recorders ≡ recordings_of config number
-  pub tallies : All (Tallies holds faults) w.recorders
+  pub tallies : All (HasTally holds faults) w.recorders
 
 -- WHAT IS LEFT OF IT: its door, which is done, and its recorders
 pub record IsLeft (config : Config) {K : Type 0} (holds : K → Option (List ℕ)) (faults : K → ℕ) (rules : PortRules) (number : ℕ)
@@ -53,7 +52,7 @@ pub record IsLeft (config : Config) {K : Type 0} (holds : K → Option (List ℕ
   pub done : IsDone door
   pub filed : All (IsFiledBy rules) recorders
   pub labels : map label_of recorders ≡ recordings_of config number
-  pub tallies : All (Tallies holds faults) recorders
+  pub tallies : All (HasTally holds faults) recorders
 
 -- ---- its door
 

@@ -1,5 +1,5 @@
 -- Ports and recorders by the rules of a port, which no call changes
-use Rattle.std.specs.Prelude.{◌≡◌, ℕ, ◌<◌, length, slice_get, Some}
+use Rattle.std.specs.Prelude.{◌≡◌, ℕ, ◌<◌, List, Option, length, slice_get, Some}
 use Rattle.turn_gate.specs.Known.{PassKnown}
 use Rattle.media_recorder.specs.Ports.{FitsIf}
 use Rattle.stream_model.specs.declared.calls.StreamLimits.{StreamLimits}
@@ -8,7 +8,7 @@ use Rattle.stream_registry.specs.Pasts.{Attempt}
 use Rattle.stream_registry.specs.SharedState.{Streams, shared_rules}
 use Rattle.stream_registry.specs.declared.desk.Site.{Site}
 use Rattle.relay_worker.specs.declared.recorder.Recorder.{Recorder}
-use Rattle.relay_worker.specs.Filed.{state_of}
+use Rattle.relay_worker.specs.Filed.{Tallies, state_of}
 
 -- a port with these rules
 abbrev pub HasRules : PortRules → Streams → Type 0
@@ -22,3 +22,7 @@ HasLimits limits count port = (place : ℕ) → place < count → (shared_rules 
 pub record IsFiledBy {K : Type 0} (rules : PortRules) (r : Recorder Streams K (PassKnown Site Attempt)) : Type 0 where
   pub there : (state_of r).seat.place < length rules.names
   pub fit : FitsIf (λ p. slice_get rules.gates (state_of r).seat.place ≡ Some p.gate) (state_of r).seat.pass
+
+-- a recorder with its tally, by the calls that its pass has seen
+abbrev pub HasTally : {K : Type 0} → (K → Option (List ℕ)) → (K → ℕ) → Recorder Streams K (PassKnown Site Attempt) → Type 0
+HasTally holds faults r = Tallies (λ p. length p.seen) holds faults r

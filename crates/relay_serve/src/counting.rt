@@ -1,5 +1,5 @@
 //! The last call at each place, and the report.
-ghost use Rattle.std.specs.Prelude.{◌≡◌, ◌≢◌, ◌<◌, ◌≤◌, ◌+◌, ◌++◌, ℕ, length, codes, string_bytes, vec_len, map, IfOk, OnOk};
+ghost use Rattle.std.specs.Prelude.{◌≡◌, ◌≢◌, ◌<◌, ◌≤◌, ◌+◌, ◌++◌, ℕ, None, Contains, length, codes, string_bytes, vec_len, map, IfOk, OnOk};
 ghost use Rattle.std.specs.Fmt.{decimal};
 ghost use Rattle.turn_gate.specs.Histories.{Begins};
 ghost use Rattle.stream_registry.specs.Gates.{told_at};
@@ -7,7 +7,7 @@ ghost use Rattle.stream_registry.specs.Roots.{Later};
 ghost use Rattle.stream_registry.specs.SharedState.{shared_rules};
 ghost use Rattle.relay_serve.specs.Texts.{counts_line, told_line, stream_line, lines_from};
 ghost use Rattle.relay_serve.specs.Counts.{counted_if};
-ghost use Rattle.relay_serve.specs.Lasts.{AllEnd, EndsIf};
+ghost use Rattle.relay_serve.specs.Lasts.{AllEnd, EndsIf, IsWorn};
 
 use av_unit::OutOfMemory;
 use std::alloc::Global;
@@ -75,22 +75,44 @@ fn count_one<W: Wait>(
     unreachable!()
 }
 
-/// The Count of each stream, its last call.
+// The same. A stream that is among those whose history is full isn't asked.
+fn count_unless<W: Wait>(
+    rt: &W,
+    port: &mut Shared<Desk>,
+    place: u32,
+    full: &[u32],
+) -> Result<Option<Counts>, OutOfMemory>
+    requires { place < length (shared_rules port.old).names }
+    ensures rules { shared_rules port.new ≡ shared_rules port.old }
+    ensures last { IfOk result (λ counts. EndsIf ((shared_rules port.old).limits place) counts (told_at port.new.roots place)) }
+    ensures worn { Contains full.now place → IfOk result (λ counts. counts ≡ None) }
+    ensures grown { Begins (told_at port.old.roots place) (told_at port.new.roots place) }
+    ensures others { (q : ℕ) → q ≢ place → told_at port.new.roots q ≡ told_at port.old.roots q }
+{
+    if full.contains(&place) {
+        return Ok(None);
+    }
+    count_one(rt, port, place)
+}
+
+/// The Count of each stream, its last call. Those at the places in `full` have a full history, and none.
 pub(crate) fn count_all<W: Wait>(
     rt: &W,
     alloc: Global,
     port: &mut Shared<Desk>,
     places: u32,
+    full: &[u32],
 ) -> Result<Vec<Option<Counts>>, OutOfMemory>
     requires { places ≤ length (shared_rules port.old).names }
     ensures rules { shared_rules port.new ≡ shared_rules port.old }
     ensures each { IfOk result (λ list. vec_len list ≡ places) }
     ensures last { IfOk result (λ list. AllEnd (shared_rules port.old).limits list.items (told_at port.new.roots)) }
+    ensures worn { IfOk result (λ list. (place : ℕ) → place < places → Contains full.now place → IsWorn list.items place) }
     ensures grown { Later (told_at port.old.roots) (told_at port.new.roots) }
 {
     let mut list = Vec::new(alloc);
     for place in 0..places {
-        let counts = count_one(rt, port, place)?;
+        let counts = count_unless(rt, port, place, full)?;
         if list.push(counts).is_err() {
             return Err(OutOfMemory);
         }

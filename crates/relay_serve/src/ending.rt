@@ -1,13 +1,13 @@
 //! What comes after the workers: ports are gathered, recorders take what is left and leave, files are kept and doors shut.
-ghost use Rattle.std.specs.Prelude.{◌≡◌, ◌+◌, ◌≤◌, ℕ, List, [], ◌∷◌, true, false, All, Some, length, map, vec_len, IfOk, option_map};
+ghost use Rattle.std.specs.Prelude.{◌≡◌, ◌+◌, ◌≤◌, ℕ, List, [], ◌∷◌, true, false, All, Contains, Some, length, map, vec_len, IfOk, option_map};
 ghost use Rattle.std.specs.List.{range_with_len};
 ghost use Rattle.relay_outside.specs.Doors.{with_one};
 ghost use Rattle.relay_outside.specs.Houses.{kept_file, shut_door};
-ghost use Rattle.relay_serve.specs.Recorded.{HasLeft, IsRecorded, IsSettled, Records, starved};
+ghost use Rattle.relay_serve.specs.Recorded.{HasLeft, IsRecorded, IsSettled, Records, starved, worn_out};
 ghost use Rattle.relay_serve.specs.Recordings.{file_name, recordings_of, recordings_upto};
 ghost use Rattle.relay_serve.specs.Settling.{EachAt, IsBalanced, IsLeft, IsServing, IsShut, TellsMore};
-ghost use Rattle.relay_serve.specs.Starts.{HasRules, IsFiledBy};
-ghost use Rattle.relay_worker.specs.Filed.{Tallies, form_of, sink_of, state_of};
+ghost use Rattle.relay_serve.specs.Starts.{HasRules, HasTally, IsFiledBy};
+ghost use Rattle.relay_worker.specs.Filed.{form_of, sink_of, state_of};
 ghost use Rattle.relay_worker.specs.Running.{HasRun, label_of};
 ghost use Rattle.stream_registry.specs.Gates.{numbers, told_at};
 ghost use Rattle.stream_registry.specs.Roots.{Later};
@@ -105,9 +105,9 @@ fn settle<W: Wait, K: Sink>(
     recorder: &mut ServeRecorder<K>,
 ) -> Option<RecEnd>
     requires filed { IsFiledBy (shared_rules port.old) recorder.old }
-    requires tally { Tallies K.holds K.faults recorder.old }
+    requires tally { HasTally K.holds K.faults recorder.old }
     ensures filed { IsFiledBy (shared_rules port.old) recorder.new }
-    ensures tally { Tallies K.holds K.faults recorder.new }
+    ensures tally { HasTally K.holds K.faults recorder.new }
     ensures label { label_of recorder.new ≡ label_of recorder.old }
     ensures rules { shared_rules port.new ≡ shared_rules port.old }
     ensures grown { Later (told_at port.old.roots) (told_at port.new.roots) }
@@ -137,6 +137,19 @@ fn is_starved(end: Option<RecEnd>) -> bool
     }
 }
 
+// Whether a recorder has ended as the history of its stream was full.
+fn is_worn(end: Option<RecEnd>) -> bool
+    ensures { result ≡ worn_out end }
+{
+    match end {
+        Some(RecEnd::Worn) => true,
+        Some(RecEnd::SinkFault) => false,
+        Some(RecEnd::Full) => false,
+        Some(RecEnd::OutOfMemory) => false,
+        None => false,
+    }
+}
+
 // The recorder leaves its stream, and gives its file. Whether it has left: nobody else has a pass then, so that it isn't busy,
 // but there may be no memory for the call.
 fn part<K: Sink>(port: &mut Shared<Desk>, recorder: ServeRecorder<K>) -> (K, bool)
@@ -145,7 +158,7 @@ fn part<K: Sink>(port: &mut Shared<Desk>, recorder: ServeRecorder<K>) -> (K, boo
     ensures grown { Later (told_at port.old.roots) (told_at port.new.roots) }
     ensures file { result.0 ≡ sink_of recorder }
     ensures left { result.1 ≡ true → HasLeft (λ p. numbers p.seen p.mine) ((shared_rules port.old).limits (state_of recorder).seat.place)
-        (told_at port.new.roots (state_of recorder).seat.place) (state_of recorder).seat }
+        (told_at port.new.roots (state_of recorder).seat.place) (state_of recorder) }
 {
     match recorder.leave(port) {
         Parted::Done(file) => (file, true),
@@ -154,24 +167,37 @@ fn part<K: Sink>(port: &mut Shared<Desk>, recorder: ServeRecorder<K>) -> (K, boo
     }
 }
 
-// The recorder takes what is left of its stream, and leaves. Its file, and whether there was memory for all of it.
+// What a recorder has come to: its file, whether there was memory for all of it, and whether the history of its stream was full.
+#[derive(Drop)]
+struct Outcome<K: Sink> {
+    file: K,
+    whole: bool,
+    worn: bool,
+}
+
+// The recorder takes what is left of its stream, and leaves.
 fn finish<W: Wait, K: Sink>(
     rt: &W,
     port: &mut Shared<Desk>,
     mut recorder: ServeRecorder<K>,
-) -> (K, bool)
+) -> Outcome<K>
     requires filed { IsFiledBy (shared_rules port.old) recorder }
-    requires tally { Tallies K.holds K.faults recorder }
+    requires tally { HasTally K.holds K.faults recorder }
     ensures rules { shared_rules port.new ≡ shared_rules port.old }
     ensures grown { Later (told_at port.old.roots) (told_at port.new.roots) }
-    ensures records { result.1 ≡ true → (bytes : List ℕ) → K.holds result.0 ≡ Some bytes
-        → Records (shared_rules port.old).limits (told_at port.old.roots) (told_at port.new.roots) (label_of recorder) bytes (K.faults result.0) }
+    ensures records { result.whole ≡ true → (bytes : List ℕ) → K.holds result.file ≡ Some bytes
+        → Records (shared_rules port.old).limits (told_at port.old.roots) (told_at port.new.roots) (λ _. result.worn ≡ true) (label_of recorder) bytes
+        (K.faults result.file) }
 {
     let end = settle(rt, port, &mut recorder);
     recorder.law();
     let (file, left) = part(port, recorder);
     let spared = !is_starved(end);
-    (file, left & spared)
+    Outcome {
+        file,
+        whole: left & spared,
+        worn: is_worn(end),
+    }
 }
 
 // The name of the file of the stream at a place.
@@ -206,29 +232,45 @@ fn keep<H: House>(
     house.keep(name, file).is_ok()
 }
 
-// The recorder's last turns, after which its file is kept. Whether there was memory for all of it.
+// Notes that the history of the stream at a place is full, where it is. Whether there was memory for that.
+fn note(full: &mut Vec<u32>, place: u32, worn: bool) -> bool
+    ensures kept { (q : ℕ) → Contains full.old.items q → Contains full.new.items q }
+    ensures noted { result ≡ true → worn ≡ true → Contains full.new.items place }
+{
+    if !worn {
+        return true;
+    }
+    full.push(place).is_ok()
+}
+
+// The recorder's last turns, after which its file is kept. Whether there was memory for all of it. Where its stream's history was
+// full, that is noted.
 fn end_recorder<W: Wait, H: House>(
     rt: &W,
     port: &mut Shared<Desk>,
     house: &mut H,
+    full: &mut Vec<u32>,
     places: &[PlaceRule],
     recorder: ServeRecorder<H::File>,
 ) -> bool
     requires filed { IsFiledBy (shared_rules port.old) recorder }
-    requires tally { Tallies H.File.holds H.File.faults recorder }
+    requires tally { HasTally H.File.holds H.File.faults recorder }
     ensures rules { shared_rules port.new ≡ shared_rules port.old }
     ensures grown { Later (told_at port.old.roots) (told_at port.new.roots) }
     ensures faults { (H.told house.new).faults ≡ (H.told house.old).faults }
     ensures asked { H.asked house.new ≡ H.asked house.old }
     ensures shut { (H.told house.new).shut ≡ (H.told house.old).shut }
-    ensures kept { result ≡ true → TellsMore (IsRecorded (shared_rules port.old).limits (told_at port.old.roots) (told_at port.new.roots) places.now)
+    ensures noted { (q : ℕ) → Contains full.old.items q → Contains full.new.items q }
+    ensures kept { result ≡ true → TellsMore
+        (IsRecorded (shared_rules port.old).limits (told_at port.old.roots) (told_at port.new.roots) (Contains full.new.items) places.now)
         (label_of recorder ∷ []) (H.told house.old).kept (H.told house.new).kept }
 {
     let place = recorder.place();
     let form = recorder.form();
-    let (file, finished) = finish(rt, port, recorder);
-    let kept = keep(house, places, place, form, file);
-    kept & finished
+    let end = finish(rt, port, recorder);
+    let kept = keep(house, places, place, form, end.file);
+    let noted = note(full, place, end.worn);
+    kept & end.whole & noted
 }
 
 // The same of each, the first of them first.
@@ -236,23 +278,26 @@ fn end_recorders<W: Wait, H: House>(
     rt: &W,
     port: &mut Shared<Desk>,
     house: &mut H,
+    full: &mut Vec<u32>,
     places: &[PlaceRule],
     mut recorders: Vec<ServeRecorder<H::File>>,
 ) -> bool
     requires filed { All (IsFiledBy (shared_rules port.old)) recorders.items }
-    requires tallies { All (Tallies H.File.holds H.File.faults) recorders.items }
+    requires tallies { All (HasTally H.File.holds H.File.faults) recorders.items }
     ensures rules { shared_rules port.new ≡ shared_rules port.old }
     ensures grown { Later (told_at port.old.roots) (told_at port.new.roots) }
     ensures faults { (H.told house.new).faults ≡ (H.told house.old).faults }
     ensures asked { H.asked house.new ≡ H.asked house.old }
     ensures shut { (H.told house.new).shut ≡ (H.told house.old).shut }
-    ensures kept { result ≡ true → TellsMore (IsRecorded (shared_rules port.old).limits (told_at port.old.roots) (told_at port.new.roots) places.now)
+    ensures noted { (q : ℕ) → Contains full.old.items q → Contains full.new.items q }
+    ensures kept { result ≡ true → TellsMore
+        (IsRecorded (shared_rules port.old).limits (told_at port.old.roots) (told_at port.new.roots) (Contains full.new.items) places.now)
         (map label_of recorders.items) (H.told house.old).kept (H.told house.new).kept }
 {
     recorders.reverse();
     let mut whole = true;
     while let Some(recorder) = recorders.pop() {
-        whole &= end_recorder(rt, port, house, places, recorder);
+        whole &= end_recorder(rt, port, house, full, places, recorder);
     }
     whole
 }
@@ -262,6 +307,7 @@ fn end_left<W: Wait, H: House>(
     rt: &W,
     port: &mut Shared<Desk>,
     house: &mut H,
+    full: &mut Vec<u32>,
     config: &Config,
     left: Left<H::Door, H::File>,
 ) -> bool
@@ -270,7 +316,9 @@ fn end_left<W: Wait, H: House>(
     ensures grown { Later (told_at port.old.roots) (told_at port.new.roots) }
     ensures faults { (H.told house.new).faults ≡ (H.told house.old).faults }
     ensures asked { H.asked house.new ≡ H.asked house.old }
-    ensures kept { result ≡ true → TellsMore (IsRecorded (shared_rules port.old).limits (told_at port.old.roots) (told_at port.new.roots) config.now.places)
+    ensures noted { (q : ℕ) → Contains full.old.items q → Contains full.new.items q }
+    ensures kept { result ≡ true → TellsMore
+        (IsRecorded (shared_rules port.old).limits (told_at port.old.roots) (told_at port.new.roots) (Contains full.new.items) config.now.places)
         (recordings_of config.now left.number) (H.told house.old).kept (H.told house.new).kept }
     ensures shut { result ≡ true → (H.told house.new).shut ≡ with_one (H.told house.old).shut (shut_door left.number (H.Door.told left.door)) }
 {
@@ -279,16 +327,18 @@ fn end_left<W: Wait, H: House>(
         door,
         recorders,
     } = left;
-    let recorded = end_recorders(rt, port, house, config.places.as_slice(), recorders);
+    let recorded = end_recorders(rt, port, house, full, config.places.as_slice(), recorders);
     let shut = house.shut(number, door).is_ok();
     recorded & shut
 }
 
-/// Ends what is left of all workers, the last first. Whether there was memory for all of it.
+/// Ends what is left of all workers, the last first. Whether there was memory for all of it. The places of streams whose history
+/// a recorder found full come to `full`.
 pub(crate) fn end_all<W: Wait, H: House>(
     rt: &W,
     port: &mut Shared<Desk>,
     house: &mut H,
+    full: &mut Vec<u32>,
     config: &Config,
     mut list: Vec<Left<H::Door, H::File>>,
 ) -> bool
@@ -299,7 +349,8 @@ pub(crate) fn end_all<W: Wait, H: House>(
     ensures grown { Later (told_at port.old.roots) (told_at port.new.roots) }
     ensures faults { (H.told house.new).faults ≡ (H.told house.old).faults }
     ensures asked { H.asked house.new ≡ H.asked house.old }
-    ensures kept { result ≡ true → TellsMore (IsRecorded (shared_rules port.old).limits (told_at port.old.roots) (told_at port.new.roots) config.now.places)
+    ensures kept { result ≡ true → TellsMore
+        (IsRecorded (shared_rules port.old).limits (told_at port.old.roots) (told_at port.new.roots) (Contains full.new.items) config.now.places)
         (recordings_upto config.now (vec_len list)) (H.told house.old).kept (H.told house.new).kept }
     ensures shut { result ≡ true
         → All (λ l. IsBalanced config.now (shared_rules port.old).limits (told_at port.old.roots) l.number (H.Door.told l.door)) list.items
@@ -308,7 +359,7 @@ pub(crate) fn end_all<W: Wait, H: House>(
 {
     let mut whole = true;
     while let Some(left) = list.pop() {
-        whole &= end_left(rt, port, house, config, left);
+        whole &= end_left(rt, port, house, full, config, left);
     }
     whole
 }

@@ -158,8 +158,9 @@ fn conclude<W: Wait, H: House, K: Sink>(
     let Ok(left) = take_all_apart(alloc, config, port, workers) else {
         return Ending::OutOfMemory;
     };
-    let whole = end_all(rt, port, house, config, left.list);
-    let Ok(counts) = count_all(rt, alloc, port, config.places.len() as u32) else {
+    let mut full = Vec::new(alloc);
+    let whole = end_all(rt, port, house, &mut full, config, left.list);
+    let Ok(counts) = count_all(rt, alloc, port, config.places.len() as u32, full.as_slice()) else {
         return Ending::OutOfMemory;
     };
     let Ok(text) = report_of(alloc, counts.as_slice()) else {

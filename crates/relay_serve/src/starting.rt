@@ -8,8 +8,8 @@ ghost use Rattle.relay_serve.specs.Ends.{HouseCause};
 ghost use Rattle.relay_serve.specs.Places.{name_of};
 ghost use Rattle.relay_serve.specs.Recordings.{recorder_name, recording, recording_if, recordings_at, recordings_of};
 ghost use Rattle.relay_serve.specs.Settling.{AsksFor, EachAt, Enlists, IsServing, TellsMore};
-ghost use Rattle.relay_serve.specs.Starts.{HasRules};
-ghost use Rattle.relay_worker.specs.Filed.{Tallies, state_of};
+ghost use Rattle.relay_serve.specs.Starts.{HasRules, HasTally};
+ghost use Rattle.relay_worker.specs.Filed.{state_of};
 ghost use Rattle.relay_worker.specs.Running.{label_of};
 ghost use Rattle.stream_registry.specs.SharedState.{shared_rules};
 
@@ -79,7 +79,7 @@ fn new_recorder<K: Sink>(
     requires { IsNewFile (K.holds file) (K.faults file) }
     ensures label { IfOk result (λ r. label_of r ≡ recording place form) }
     ensures nowhere { IfOk result (λ r. (state_of r).seat.pass ≡ None) }
-    ensures tally { IfOk result (λ r. Tallies K.holds K.faults r) }
+    ensures tally { IfOk result (λ r. HasTally K.holds K.faults r) }
 {
     let who = recorder_name(place, form);
     match form {

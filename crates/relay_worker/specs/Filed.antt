@@ -41,9 +41,10 @@ text_in form.Ts items = recorded_text items
 abbrev pub text_of : {P K Q : Type 0} → Recorder P K Q → List Item → List ℕ
 text_of r = text_in (form_of r)
 
--- its file tells what was sent to it, and where it ended by a fault of its file, the file has faults
-abbrev pub Tallies : {P K Q : Type 0} → (K → Option (List ℕ)) → (K → ℕ) → Recorder P K Q → Type 0
-Tallies holds faults r = Tallied (holds (sink_of r)) (faults (sink_of r)) (state_of r)
+-- its file tells what was sent to it, and where it ended early, that has its cause: in the file's faults, in the answer of its
+-- Join, or in all the calls that its pass has seen
+abbrev pub Tallies : {P K Q : Type 0} → (Q → ℕ) → (K → Option (List ℕ)) → (K → ℕ) → Recorder P K Q → Type 0
+Tallies count holds faults r = Tallied count (holds (sink_of r)) (faults (sink_of r)) (state_of r)
 
 -- what became of the recorder alone
 abbrev pub left_by : {P K Q : Type 0} → Parted P K Q → Leaving (RecorderState Q)

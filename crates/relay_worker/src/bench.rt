@@ -315,7 +315,7 @@ impl<P: StreamPort, D: Door> Bench<P, D> {
         ensures sound { IsSound P.fits P.rules D.told terms.now self.new }
         ensures ahead { GoesAhead P.fits P.rules P.root self.old.port self.new.port }
         ensures filed { IsFiled (P.fits self.new.port) (length (P.rules self.new.port).names) recorder.new }
-        ensures tallies { Tallies K.holds K.faults recorder.old → Tallies K.holds K.faults recorder.new }
+        ensures tallies { Tallies P.count K.holds K.faults recorder.old → Tallies P.count K.holds K.faults recorder.new }
         ensures records { Recorded (FileTurn P.fits P.rules P.root P.busies P.seen P.mine P.count K.takes K.holds) recorder.old self.old recorder.new self.new }
     {
         let _ = terms;
@@ -338,7 +338,7 @@ impl<P: StreamPort, D: Door> Bench<P, D> {
         ensures ahead { GoesAhead P.fits P.rules P.root self.old.port self.new.port }
         ensures filed { AreFiled P.fits P.rules self.new.port recorders.new }
         ensures labels { map label_of recorders.new ≡ map label_of recorders.old }
-        ensures tallies { All (Tallies K.holds K.faults) recorders.old → All (Tallies K.holds K.faults) recorders.new }
+        ensures tallies { All (Tallies P.count K.holds K.faults) recorders.old → All (Tallies P.count K.holds K.faults) recorders.new }
         ensures records { Walks (RecordsAt (FileTurn P.fits P.rules P.root P.busies P.seen P.mine P.count K.takes K.holds)) (length recorders.old)
             (self.old, recorders.old) (self.new, recorders.new) }
     {

@@ -94,7 +94,7 @@ impl<P: StreamPort, K: Sink> Recorder<P, K> {
         ensures turn { Turns P.rules P.root P.busies P.seen P.mine P.count K.takes (state_of self.old).end port.old port.new
             (sink_of self.old) (sink_of self.new) (state_of self.old) result (state_of self.new) }
         ensures took { K.holds (sink_of self.old) ≡ Some (state_of self.old).tape.sent → K.holds (sink_of self.new) ≡ Some (state_of self.new).tape.sent }
-        ensures tallies { Tallies K.holds K.faults self.old → Tallies K.holds K.faults self.new }
+        ensures tallies { Tallies P.count K.holds K.faults self.old → Tallies P.count K.holds K.faults self.new }
         ensures says { Says P.mine (P.root port.old (state_of self.old).seat.place) (P.busies port.old) (P.busies port.new) result (state_of self.new) }
     {
         match self {

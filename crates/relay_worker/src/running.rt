@@ -30,8 +30,8 @@ where
     ensures run { All (λ w. HasRun D.told w) workers.new }
     ensures keeps { (i : ℕ) (d : _) → i < length workers.old
         → KeepsOn P.fits P.rules P.root (slice_index_or workers.old i d) (slice_index_or workers.new i d) }
-    ensures tallies { (i : ℕ) (d : _) → i < length workers.old → All (Tallies K.holds K.faults) (slice_index_or workers.old i d).recorders
-        → All (Tallies K.holds K.faults) (slice_index_or workers.new i d).recorders }
+    ensures tallies { (i : ℕ) (d : _) → i < length workers.old → All (Tallies P.count K.holds K.faults) (slice_index_or workers.old i d).recorders
+        → All (Tallies P.count K.holds K.faults) (slice_index_or workers.new i d).recorders }
     ensures books { (i : ℕ) (d : _) → i < length workers.old
         → HasBooks P.rules P.root P.seen D.Link.told D.Link.counts D.told (G.grants desk.now) (slice_index_or workers.old i d)
         → HasBooks P.rules P.root P.seen D.Link.told D.Link.counts D.told (G.grants desk.now) (slice_index_or workers.new i d) }
@@ -44,7 +44,7 @@ where
         &|_, worker: &mut Worker<P, D, R, K>|
             requires { IsOffered (G.grants desk.now) (length (P.rules worker.old.bench.port).names) }
             ensures { HasRun D.told worker.new × KeepsOn P.fits P.rules P.root worker.old worker.new
-                × (All (Tallies K.holds K.faults) worker.old.recorders → All (Tallies K.holds K.faults) worker.new.recorders)
+                × (All (Tallies P.count K.holds K.faults) worker.old.recorders → All (Tallies P.count K.holds K.faults) worker.new.recorders)
                 × (HasBooks P.rules P.root P.seen D.Link.told D.Link.counts D.told (G.grants desk.entry.now) worker.old
                 → HasBooks P.rules P.root P.seen D.Link.told D.Link.counts D.told (G.grants desk.entry.now) worker.new) }
         { worker.run(rt, desk) },

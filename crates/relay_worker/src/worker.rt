@@ -146,7 +146,7 @@ impl<P: StreamPort, D: Door, R: Rest, K: Sink> Worker<P, D, R, K> {
             (Closes P.fits P.rules P.root P.seen P.count P.wants P.busies)
             (FileTurn P.fits P.rules P.root P.busies P.seen P.mine P.count K.takes K.holds) self.old result self.new }
         ensures keeps { KeepsOn P.fits P.rules P.root self.old self.new }
-        ensures tallies { All (Tallies K.holds K.faults) self.old.recorders → All (Tallies K.holds K.faults) self.new.recorders }
+        ensures tallies { All (Tallies P.count K.holds K.faults) self.old.recorders → All (Tallies P.count K.holds K.faults) self.new.recorders }
         ensures books { HasBooks P.rules P.root P.seen D.Link.told D.Link.counts D.told (G.grants desk.now) self.old
             → HasBooks P.rules P.root P.seen D.Link.told D.Link.counts D.told (G.grants desk.now) self.new }
     {
@@ -167,7 +167,7 @@ impl<P: StreamPort, D: Door, R: Rest, K: Sink> Worker<P, D, R, K> {
         requires offered { IsOffered (G.grants desk.now) (length (P.rules self.old.bench.port).names) }
         ensures keeps { KeepsOn P.fits P.rules P.root self.old self.new }
         ensures run { HasRun D.told self.new }
-        ensures tallies { All (Tallies K.holds K.faults) self.old.recorders → All (Tallies K.holds K.faults) self.new.recorders }
+        ensures tallies { All (Tallies P.count K.holds K.faults) self.old.recorders → All (Tallies P.count K.holds K.faults) self.new.recorders }
         ensures books { HasBooks P.rules P.root P.seen D.Link.told D.Link.counts D.told (G.grants desk.now) self.old
             → HasBooks P.rules P.root P.seen D.Link.told D.Link.counts D.told (G.grants desk.now) self.new }
     {

@@ -1,6 +1,7 @@
 use Rattle.std.proofs.Common.{◌≡◌, ◌+◌, ◌-◌, ℕ, [], ◌∷◌, ◌++◌, length, ◌∙◌, refl, sym, ap, subst, Some, arith}
 use Rattle.std.specs.List.{range_with_len}
 use Rattle.std.proofs.lemmas.List.Elements.{All-pop}
+use Rattle.std.specs.Prelude.{Contains}
 use Rattle.relay_outside.specs.Houses.{shut_door}
 use Rattle.stream_registry.specs.Gates.{told_at}
 use Rattle.stream_registry.specs.SharedState.{shared_rules}
@@ -51,14 +52,14 @@ loop-left-preserved g c =
       rest = λ a. (All-pop (λ x. IsBalanced config streams first x.number (g.H.Door.Door.told x.door)) xs ys (Some x) c.in-Some.ensures.items (i.rest a)).0;
       kept = λ w.
           let both = and_true c.loop-left.whole c.end_left-whole.result w in
-          let R = IsRecorded streams first k config.places in
+          let R = IsRecorded streams first k (Contains c.end_left-whole.new.full.items) config.places in
           let all : recordings_upto config n ++ recordings_of config x.number ≡ recordings_upto config (length c.args.list.items - length ys) =
           ap (λ (m : ℕ). recordings_upto config n ++ recordings_of config m) number ∙ (recordings_more config n ∙ ap (recordings_upto config) one) in
           more_same R (recordings_upto config n ++ recordings_of config x.number) _ (g.H.House.told c.args.house.now).kept (g.H.House.told c.args.house.now).kept
           (g.H.House.told c.end_left-whole.new.house).kept all refl
-          (recorded_then (shared_rules c.args.port.now) (shared_rules c.loop-left.port) first h k config.places (recordings_upto config n) (recordings_of config x.number)
+          (recorded_then (shared_rules c.args.port.now) (shared_rules c.loop-left.port) first h k (Contains c.loop-left.full.items) (Contains c.end_left-whole.new.full.items) config.places (recordings_upto config n) (recordings_of config x.number)
           (g.H.House.told c.args.house.now).kept (g.H.House.told c.loop-left.house).kept (g.H.House.told c.end_left-whole.new.house).kept i.rules i.grown e.grown
-          (i.kept both.0) (e.kept both.1));
+          e.noted (i.kept both.0) (e.kept both.1));
       shut = λ w a.
           let both = and_true c.loop-left.whole c.end_left-whole.result w in
           let R = IsShut config streams first in
@@ -76,8 +77,8 @@ pub returns-clause-kept : goal.returns-clause-kept
 returns-clause-kept g c = λ w.
     let zero : length c.loop-left.list.items ≡ 0 = omega (arith, c.in_default.ensures.cases.0, c.loop-left.list.ok.0) in
     let all : length c.args.list.items - length c.loop-left.list.items ≡ c.args.list.len = omega (arith, zero, c.args.list.ok.0) in
-    subst (λ (m : ℕ). TellsMore (IsRecorded (shared_rules c.args.port.now).limits (told_at c.args.port.now.roots) (told_at c.loop-left.port.roots) c.args.config.now.places)
-    (recordings_upto c.args.config.now m) (g.H.House.told c.args.house.now).kept (g.H.House.told c.loop-left.house).kept) all (c.loop-left.invariant.kept w)
+    subst (λ (m : ℕ). TellsMore (IsRecorded (shared_rules c.args.port.now).limits (told_at c.args.port.now.roots) (told_at c.loop-left.port.roots) (Contains c.loop-left.full.items)
+    c.args.config.now.places) (recordings_upto c.args.config.now m) (g.H.House.told c.args.house.now).kept (g.H.House.told c.loop-left.house).kept) all (c.loop-left.invariant.kept w)
 
 pub returns-clause-shut : goal.returns-clause-shut
 returns-clause-shut g c = λ w a.

@@ -1,6 +1,6 @@
 use Rattle.std.proofs.Common.{◌≡◌, ◌≤◌, ◌+◌, ◌-◌, true, length}
 use Rattle.std.specs.List.{range_with_len}
-use Rattle.std.specs.Prelude.{All}
+use Rattle.std.specs.Prelude.{All, Contains}
 use Rattle.stream_registry.specs.Gates.{told_at}
 use Rattle.stream_registry.specs.Roots.{Later}
 use Rattle.stream_registry.specs.SharedState.{shared_rules}
@@ -20,7 +20,7 @@ invariant-loop-left g l = record {
   fewer : length l.list.items ≤ length l.fn.list.items;
   rest : All (λ x. IsBalanced l.config (shared_rules l.fn.port).limits (told_at l.fn.port.roots) x.number (g.H.Door.Door.told x.door)) l.fn.list.items
       → All (λ x. IsBalanced l.config (shared_rules l.fn.port).limits (told_at l.fn.port.roots) x.number (g.H.Door.Door.told x.door)) l.list.items;
-  kept : l.whole ≡ true → TellsMore (IsRecorded (shared_rules l.fn.port).limits (told_at l.fn.port.roots) (told_at l.port.roots) l.config.places)
+  kept : l.whole ≡ true → TellsMore (IsRecorded (shared_rules l.fn.port).limits (told_at l.fn.port.roots) (told_at l.port.roots) (Contains l.full.items) l.config.places)
       (recordings_upto l.config (length l.fn.list.items - length l.list.items)) (g.H.House.told l.fn.house).kept (g.H.House.told l.house).kept;
   shut : l.whole ≡ true
       → All (λ x. IsBalanced l.config (shared_rules l.fn.port).limits (told_at l.fn.port.roots) x.number (g.H.Door.Door.told x.door)) l.fn.list.items

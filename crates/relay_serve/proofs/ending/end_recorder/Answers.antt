@@ -1,4 +1,5 @@
-use Rattle.std.proofs.Common.{rules}
+use Rattle.std.proofs.Common.{rules, ◌≡◌, ◌&&◌, subst, true}
+use Rattle.std.specs.Prelude.{Contains}
 use Rattle.stream_registry.specs.Gates.{told_at}
 use Rattle.stream_registry.specs.SharedState.{shared_rules}
 use Rattle.relay_outside.specs.Houses.{kept_file}
@@ -11,12 +12,14 @@ use Rattle.relay_serve.proofs.ending.end_recorder.Goals as goal
 
 pub returns-clause-kept : goal.returns-clause-kept
 returns-clause-kept g c = λ whole.
-    let both = and_true c.keep-kept.result c.finish-file.result.1 whole in
+    let last = and_true (c.keep-kept.result && c.finish-end.result.whole) c.note-noted.result whole in
+    let both = and_true c.keep-kept.result c.finish-end.result.whole last.0 in
     let kept = c.keep-kept.ensures.kept both.0 in
     let label = label_of c.args.recorder in
-    let R = IsRecorded (shared_rules c.args.port.now).limits (told_at c.args.port.now.roots) (told_at c.finish-file.new.port.roots) c.args.places.now in
+    let full = Contains c.note-noted.new.full.items in
+    let R = IsRecorded (shared_rules c.args.port.now).limits (told_at c.args.port.now.roots) (told_at c.finish-end.new.port.roots) full c.args.places.now in
     one_more R label (g.H.House.told c.args.house.now).kept (g.H.House.told c.keep-kept.new.house).kept
-    (kept_file kept.0 (g.H.File.Sink.holds c.finish-file.result.0) (g.H.File.Sink.faults c.finish-file.result.0)) kept.2
-    (recorded_by (shared_rules c.args.port.now).limits (told_at c.args.port.now.roots) (told_at c.finish-file.new.port.roots) c.args.places.now label kept.0
-    (g.H.File.Sink.holds c.finish-file.result.0) (g.H.File.Sink.faults c.finish-file.result.0)
-    (search (rules, kept.1)) (c.finish-file.ensures.records both.1))
+    (kept_file kept.0 (g.H.File.Sink.holds c.finish-end.result.file) (g.H.File.Sink.faults c.finish-end.result.file)) kept.2
+    (recorded_by (shared_rules c.args.port.now).limits (told_at c.args.port.now.roots) (told_at c.finish-end.new.port.roots) (λ _. c.finish-end.result.worn ≡ true) full
+    c.args.places.now label kept.0 (g.H.File.Sink.holds c.finish-end.result.file) (g.H.File.Sink.faults c.finish-end.result.file)
+    (search (rules, kept.1)) (λ worn. subst full c.place-place.ensures (c.note-noted.ensures.noted last.1 worn)) (c.finish-end.ensures.records both.1))

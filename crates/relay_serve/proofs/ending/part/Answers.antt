@@ -1,4 +1,4 @@
-use Rattle.std.proofs.Common.{length, subst}
+use Rattle.std.proofs.Common.{length, refl, subst}
 use Rattle.stream_registry.specs.Gates.{numbers, told, told_at}
 use Rattle.stream_registry.specs.SharedState.{shared_rules}
 use Rattle.relay_worker.specs.Filed.{left_by, state_of}
@@ -22,6 +22,6 @@ returns-in-OutOfMemory-clause-grown g c =
 pub returns-in-Done-clause-left : goal.returns-in-Done-clause-left
 returns-in-Done-clause-left g c = λ yes_left.
     left_done shared_rules (λ s. told_at s.roots) (λ s. s.busies) (λ p. told p.seen) (λ p. numbers p.seen p.mine) (λ p. length p.seen)
-    c.args.port.now c.leave.new.port (state_of c.args.recorder) (state_of c.args.recorder).player
+    c.args.port.now c.leave.new.port (state_of c.args.recorder) (state_of c.args.recorder).player refl
     (subst (λ a. Goes shared_rules (λ s. told_at s.roots) (λ s. s.busies) (λ p. told p.seen) (λ p. numbers p.seen p.mine) (λ p. length p.seen)
     (state_of c.args.recorder).player c.args.port.now c.leave.new.port (state_of c.args.recorder) (left_by a)) c.in-Done.is c.leave.ensures.leaves.goes)

@@ -1,12 +1,11 @@
 use Rattle.std.proofs.Common.{rules, ◌∙◌, sym, ap, subst}
 use Rattle.std.specs.Prelude.{All, map}
 use Rattle.relay_outside.specs.Doors.{IsDone}
-use Rattle.relay_worker.specs.Filed.{Tallies}
 use Rattle.relay_worker.specs.Running.{label_of}
 use Rattle.stream_registry.specs.Gates.{told_at}
 use Rattle.stream_registry.specs.Names.{PortRules}
 use Rattle.stream_registry.specs.SharedState.{shared_rules}
-use Rattle.relay_serve.specs.Starts.{HasRules}
+use Rattle.relay_serve.specs.Starts.{HasRules, HasTally}
 use Rattle.relay_serve.proofs.Ruled.{filed_all}
 use Rattle.relay_serve.proofs.Settling.{balanced_from}
 use Rattle.relay_serve.proofs.ending.take_apart.Goals as goal
@@ -20,7 +19,7 @@ returns-clause-left g c =
       done = subst (λ d. IsDone (g.D.Door.told d)) (sym e.door) c.requires.run.done;
       filed = filed_all (shared_rules c.args.first.now) c.finish-finished.result.port c.finish-finished.result.recorders.items same e.filed;
       labels = ap (map label_of) e.recorders ∙ s.labels;
-      tallies = subst (All (Tallies g.K.Sink.holds g.K.Sink.faults)) (sym e.recorders) s.tallies;
+      tallies = subst (All (HasTally g.K.Sink.holds g.K.Sink.faults)) (sym e.recorders) s.tallies;
     }
 
 pub returns-clause-balanced : goal.returns-clause-balanced

@@ -1,12 +1,12 @@
-use Rattle.std.proofs.Common.{rules, List, Option, ◌≡◌, ◌∙◌, refl, sym, ap, subst}
+use Rattle.std.proofs.Common.{rules, ℕ, List, Option, ◌≡◌, ◌∙◌, refl, sym, ap, subst, arith, length}
 use Rattle.std.specs.List.{range_with_len}
-use Rattle.std.specs.Prelude.{All}
+use Rattle.std.specs.Prelude.{All, Contains}
 use Rattle.relay_outside.specs.Houses.{Asked}
 use Rattle.stream_registry.specs.Names.{PortRules}
 use Rattle.stream_registry.specs.Gates.{told_at}
 use Rattle.stream_registry.specs.SharedState.{shared_rules}
 use Rattle.relay_serve.specs.Ends.{Reports, seen}
-use Rattle.relay_serve.specs.Lasts.{AllEnd}
+use Rattle.relay_serve.specs.Lasts.{AllEnd, IsWorn}
 use Rattle.relay_serve.specs.Recorded.{IsRecorded}
 use Rattle.relay_serve.specs.Recordings.{recordings_upto}
 use Rattle.relay_serve.specs.Settling.{AsksFor, IsBalanced, IsLeft, IsShut, TellsMore}
@@ -40,12 +40,15 @@ returns-in-Ok-put_all g c = λ before_asked all.
     (sym same) (c.in-Ok.ensures.balanced whole) in
     let shut = subst (λ (q : PortRules). TellsMore (IsShut config q.limits joined) (range_with_len 0 c.in-Ok.left.list.len) before.shut now.shut) same
     (c.end_all-whole.ensures.shut c.if-whole.true balanced) in
-    let kept = subst (λ (q : PortRules). TellsMore (IsRecorded q.limits joined h config.places) (recordings_upto config c.in-Ok.left.list.len) before.kept now.kept) same
+    let full = Contains c.end_all-whole.new.full.items in
+    let kept = subst (λ (q : PortRules). TellsMore (IsRecorded q.limits joined h full config.places) (recordings_upto config c.in-Ok.left.list.len) before.kept now.kept) same
     (c.end_all-whole.ensures.kept c.if-whole.true) in
+    let each : length c.in-Ok-count_all.counts.items ≡ length config.places = search rules in
+    let slice : c.as_slice.result.now ≡ c.end_all-whole.new.full.items = search rules in
     let reports : Reports config k (seen (g.K.Sink.holds c.args.out.now) (g.K.Sink.faults c.args.out.now) before before_asked)
     (seen (g.K.Sink.holds c.put_all.new.out) (g.K.Sink.faults c.put_all.new.out) now (g.H.House.asked c.end_all-whole.new.house)) = record {
       counts = c.in-Ok-count_all.counts.items;
-      each = search rules;
+      each = each;
       written = search rules;
       streams = streams;
       limited = c.requires.limits;
@@ -55,9 +58,10 @@ returns-in-Ok-put_all g c = λ before_asked all.
       later = later_then joined h k c.end_all-whole.ensures.grown c.count_all.ensures.grown;
       shut = more_same (IsShut config streams joined) (range_with_len 0 c.in-Ok.left.list.len) (range_with_len 0 config.workers) before.shut before.shut now.shut
           (ap (range_with_len 0) count) refl shut;
-      kept = more_weaker (IsRecorded streams joined h config.places) (IsRecorded streams joined k config.places)
-          (recorded_later streams joined joined h k (later_same joined) c.count_all.ensures.grown config.places) (recordings_upto config config.workers) before.kept now.kept
-          (more_same (IsRecorded streams joined h config.places) (recordings_upto config c.in-Ok.left.list.len) (recordings_upto config config.workers)
+      kept = more_weaker (IsRecorded streams joined h full config.places) (IsRecorded streams joined k (IsWorn c.in-Ok-count_all.counts.items) config.places)
+          (recorded_later streams joined joined h k (later_same joined) c.count_all.ensures.grown full (IsWorn c.in-Ok-count_all.counts.items) config.places
+          (λ q l f. c.in-Ok-count_all.ensures.worn q (omega (arith, l, each, c.in-Ok-count_all.ensures.each, c.in-Ok-count_all.counts.ok.0)) (subst (λ (l : List ℕ). Contains l q) (sym slice) f))) (recordings_upto config config.workers) before.kept now.kept
+          (more_same (IsRecorded streams joined h full config.places) (recordings_upto config c.in-Ok.left.list.len) (recordings_upto config config.workers)
           before.kept before.kept now.kept (ap (recordings_upto config) count) refl kept);
     } in
     (reports, c.in-Ok-put_all.ensures.faults, c.end_all-whole.ensures.faults)

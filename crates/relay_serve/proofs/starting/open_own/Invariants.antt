@@ -1,8 +1,8 @@
 use Rattle.std.proofs.Common.{◌≡◌, ◌+◌, ◌++◌, length}
 use Rattle.std.specs.Prelude.{All, map}
-use Rattle.relay_worker.specs.Filed.{Tallies}
 use Rattle.relay_worker.specs.Running.{label_of}
 use Rattle.relay_serve.specs.Recordings.{own_from, recordings_of}
+use Rattle.relay_serve.specs.Starts.{HasTally}
 use Rattle.relay_serve.proofs.starting.open_own.Given as goal
 
 abbrev pub invariant-loop-left : goal.invariant-loop-left
@@ -12,7 +12,7 @@ invariant-loop-left g l = record {
   terms : l.worker.terms ≡ l.fn.worker.terms;
   labels : map label_of l.worker.recorders ++ own_from l.config.workers l.number l.place l.left
       ≡ map label_of l.fn.worker.recorders ++ recordings_of l.config l.number;
-  tallies : All (Tallies g.H.File.Sink.holds g.H.File.Sink.faults) l.fn.worker.recorders → All (Tallies g.H.File.Sink.holds g.H.File.Sink.faults) l.worker.recorders;
+  tallies : All (HasTally g.H.File.Sink.holds g.H.File.Sink.faults) l.fn.worker.recorders → All (HasTally g.H.File.Sink.holds g.H.File.Sink.faults) l.worker.recorders;
   house : g.H.House.told l.house ≡ g.H.House.told l.fn.house;
   asked : g.H.House.asked l.house ≡ g.H.House.asked l.fn.house;
 }

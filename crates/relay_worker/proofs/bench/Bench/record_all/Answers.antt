@@ -36,7 +36,7 @@ loop-recorder-preserved g c =
       labels = map-set_same label_of rs at c.record.new.recorder d (label_same (get_or rs at d) c.record.new.recorder t.who t.place t.form) ∙ i.labels;
       tallies = λ was.
           let all = i.tallies was in
-          let tally = Tallies g.K.Sink.holds g.K.Sink.faults in
+          let tally = Tallies g.P.StreamPort.count g.K.Sink.holds g.K.Sink.faults in
           All-set tally rs at c.record.new.recorder (e.tallies (all at d within)) all;
       walk = walks_more _ at (c.args.self.now, c.args.recorders.now) (c.loop-recorder.self, rs) (c.record.new.self, slice_set rs at c.record.new.recorder) i.walk
           (recorded_at files at (get_or rs at d) c.record.new.recorder c.loop-recorder.self c.record.new.self rs (get_at rs at d within) e.records);

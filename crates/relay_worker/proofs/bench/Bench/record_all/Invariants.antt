@@ -12,6 +12,6 @@ invariant-loop-recorder g l = record {
   ahead : GoesAhead g.P.StreamPort.fits g.P.StreamPort.rules g.P.StreamPort.root l.fn.self.port l.self.port;
   filed : AreFiled g.P.StreamPort.fits g.P.StreamPort.rules l.self.port l.recorders;
   labels : map label_of l.recorders ≡ map label_of l.fn.recorders;
-  tallies : All (Tallies g.K.Sink.holds g.K.Sink.faults) l.fn.recorders → All (Tallies g.K.Sink.holds g.K.Sink.faults) l.recorders;
+  tallies : All (Tallies g.P.StreamPort.count g.K.Sink.holds g.K.Sink.faults) l.fn.recorders → All (Tallies g.P.StreamPort.count g.K.Sink.holds g.K.Sink.faults) l.recorders;
   walk : Walks (RecordsAt (TakesTurn g.P.StreamPort.fits g.P.StreamPort.rules g.P.StreamPort.root g.P.StreamPort.busies g.P.StreamPort.seen g.P.StreamPort.mine g.P.StreamPort.count g.K.Sink.takes g.K.Sink.holds)) l.recorder-index (l.fn.self, l.fn.recorders) (l.self, l.recorders);
 }

@@ -57,7 +57,7 @@ returns-clause-tallies g c was =
     let new = c.record_all.new.recorders in
     let items = c.self.inside.recorders.items in
     let a : length new ≡ length items = omega (arith, c.record_all.auto.recorders, ap length c.as_mut_slice.ensures.value) in
-    let tally = Tallies g.K.Sink.holds g.K.Sink.faults in
+    let tally = Tallies g.P.StreamPort.count g.K.Sink.holds g.K.Sink.faults in
     let old = subst (λ v. All tally v.recorders) (sym c.self.view_is) was in
     All-same tally _ new (kept c.self.inside.recorders.len new items a c.self.inside.recorders.ok.0)
     (c.record_all.ensures.tallies (All-same tally c.as_mut_slice.result.now items c.as_mut_slice.ensures.value old))

@@ -32,7 +32,7 @@ loop-preserved-then-not-round g c =
           (offered_on (g.G.Desk.grants c.args.desk.now) (length (g.P.StreamPort.rules c.loop.self.bench.port).names) (length (g.P.StreamPort.rules c.round-round.new.self.bench.port).names) (ap (λ (r : PortRules). length r.names) e.port.fixed) c.loop.invariant.offered);
       keeps = subst (λ w. KeepsOn g.P.StreamPort.fits g.P.StreamPort.rules g.P.StreamPort.root c.args.self.now w) (sym c.pause.ensures)
           (keeps_trans g.P.StreamPort.fits g.P.StreamPort.rules g.P.StreamPort.root c.args.self.now c.loop.self c.round-round.new.self c.loop.invariant.keeps e);
-      tallies = λ t. subst (λ w. All (Tallies g.K.Sink.holds g.K.Sink.faults) w.recorders) (sym c.pause.ensures) (c.round-round.ensures.tallies (c.loop.invariant.tallies t));
+      tallies = λ t. subst (λ w. All (Tallies g.P.StreamPort.count g.K.Sink.holds g.K.Sink.faults) w.recorders) (sym c.pause.ensures) (c.round-round.ensures.tallies (c.loop.invariant.tallies t));
       books = λ b. subst (λ w. HasBooks g.P.StreamPort.rules g.P.StreamPort.root g.P.StreamPort.seen g.D.Link.Link.told g.D.Link.Link.counts g.D.Door.told (g.G.Desk.grants c.args.desk.now) w) (sym c.pause.ensures)
           (c.round-round.ensures.books (c.loop.invariant.books b));
     }

@@ -10,7 +10,7 @@ abbrev pub invariant-loop : goal.invariant-loop
 invariant-loop g l = record {
   offered : IsOffered (g.G.Desk.grants l.desk) (length (g.P.StreamPort.rules l.self.bench.port).names);
   keeps : KeepsOn g.P.StreamPort.fits g.P.StreamPort.rules g.P.StreamPort.root l.fn.self l.self;
-  tallies : All (Tallies g.K.Sink.holds g.K.Sink.faults) l.fn.self.recorders → All (Tallies g.K.Sink.holds g.K.Sink.faults) l.self.recorders;
+  tallies : All (Tallies g.P.StreamPort.count g.K.Sink.holds g.K.Sink.faults) l.fn.self.recorders → All (Tallies g.P.StreamPort.count g.K.Sink.holds g.K.Sink.faults) l.self.recorders;
   books : HasBooks g.P.StreamPort.rules g.P.StreamPort.root g.P.StreamPort.seen g.D.Link.Link.told g.D.Link.Link.counts g.D.Door.told (g.G.Desk.grants l.desk) l.fn.self
       → HasBooks g.P.StreamPort.rules g.P.StreamPort.root g.P.StreamPort.seen g.D.Link.Link.told g.D.Link.Link.counts g.D.Door.told (g.G.Desk.grants l.desk) l.self;
 }
