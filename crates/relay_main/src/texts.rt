@@ -5,6 +5,7 @@ pub const VERSION: &str = "relay 0.1.0\n";
 pub const USAGE: &str = "usage: relay serve FILE
        relay drill < SCRIPT
        relay replay < SCRIPT
+       relay soak N
        relay remux < FLV > TS
        relay check < TS
        relay --help
@@ -16,6 +17,7 @@ pub const HELP: &str = "relay: a live video relay, whose rules are proved
 usage: relay serve FILE
        relay drill < SCRIPT
        relay replay < SCRIPT
+       relay soak N
        relay remux < FLV > TS
        relay check < TS
        relay --help
@@ -130,6 +132,16 @@ prints, with digits for bytes and - for none:
   held TOTAL sum SUM
       What all hold together, and the most that they may.
 
+relay soak makes a run of N units, 1 to 100000, over links in memory: one
+session publishes them, and three play. It prints
+
+  soak N
+  pushed X             the stream took X units
+  player P items I skips K bytes B
+      Player P was sent I items, skipped K times and was sent B bytes.
+  held TOTAL sum SUM
+      as replay's
+
 relay remux reads a file of FLV on standard input and writes it as a transport
 stream on standard output: its AVC as access units, its AAC in ADTS frames.
 Units of other codecs, units that can't be read and units without a
@@ -145,7 +157,8 @@ of a unit's bytes.
 A file has at most 68719476736 bytes.
 
 Exit status:
-  0  the input was read to its end; by serve, all were served
+  0  the input was read to its end; by serve, all were served; by soak, the run
+     was made
   2  the command line is none of the above; nothing was read or written
   3  standard input failed, or the FILE of a configuration
   4  a line of the script is none of the above, or may not stand there; or the

@@ -10,3 +10,5 @@ pub mod Words
 pub mod Outcomes
 pub mod ReplaySteps
 pub mod ReplayEnds
+pub mod Serving
+pub mod SoakEnds

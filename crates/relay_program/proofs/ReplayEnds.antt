@@ -1,14 +1,14 @@
 -- How a replay's ends give its outcome.
-use Rattle.std.proofs.Common.{◌≡◌, inl, inr, ◌⊎◌, ℕ, Bool, true, false, List, [], Option, None, Some, refl, ap, sym, ◌∙◌, arith}
+use Rattle.std.proofs.Common.{◌≡◌, inl, inr, ◌⊎◌, ℕ, Bool, true, false, List, [], None, Some, refl, ap, sym, arith}
 use Rattle.std.proofs.lemmas.List.{append-nil}
 use Rattle.std.specs.Io.KnownBytes.{append_known, IsAtEnd}
 use Rattle.relay_program.specs.declared.drills.DrillFail.{DrillFail}
 use Rattle.relay_program.specs.declared.drills.DrillFail.TheVariants.{Outside, SourceFault, SinkFault, OutOfMemory}
-use Rattle.relay_program.specs.Outcome.{InOut, WritesPart, status_without_faults}
+use Rattle.relay_program.specs.Outcome.{InOut, status_without_faults}
 use Rattle.relay_program.specs.Parts.{PutFails, SinkCause, SourceFaults}
 use Rattle.relay_program.specs.Ends.{status_of}
 use Rattle.relay_program.specs.Replay.{Printed, outside_line}
-use Rattle.relay_program.specs.Replayed.{Replayed, WritesPrinted, WritesPartPrinted}
+use Rattle.relay_program.specs.Replayed.{Replayed}
 use Rattle.relay_program.specs.ReplayParts.{HasNoSink, StopsAt}
 
 two_cases : (b : Bool) → b ≡ false → b ≡ true → ⊥

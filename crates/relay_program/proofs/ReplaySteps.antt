@@ -1,10 +1,9 @@
 -- What the parts of a replay do to what is ahead.
-use Rattle.std.proofs.Common.{◌≡◌, inl, inr, ℕ, suc, take, drop, ◌-◌, ◌+◌, ◌<◌, ◌≤◌, ◌^◌, ◌==◌, nat_le, if◌then◌else◌, Bool, true, false, List, [], ◌∷◌, ◌++◌}
+use Rattle.std.proofs.Common.{◌≡◌, inl, inr, ℕ, take, ◌+◌, ◌<◌, ◌≤◌, ◌^◌, ◌==◌, nat_le, if◌then◌else◌, true, false, List, [], ◌∷◌, ◌++◌}
 use Rattle.std.proofs.Common.{Option, None, Some, Result, Ok, Err, MatchResult, IfErr, length, refl, ap, sym, ◌∙◌, subst, append_assoc, arith}
 use Rattle.std.proofs.lemmas.Bool.Decides.{nat_tests}
-use Rattle.std.proofs.lemmas.List.{length-append, append-nil}
+use Rattle.std.proofs.lemmas.List.{length-append}
 use Rattle.std.specs.Io.KnownBytes.{prepend_known, IsAtEnd}
-use Rattle.av_unit.specs.declared.bytes.OutOfMemory.{OutOfMemory as NoMemory}
 use Rattle.relay_script.specs.ReplayLines.{meaning}
 use Rattle.relay_script.specs.declared.replay.ReplayLine.{ReplayLine}
 use Rattle.relay_script.specs.Script.{NoLineFeed, Line, line_at, last_line, lines_from, line_says, lines}

@@ -3,6 +3,7 @@ pub mod Outcome
 pub mod Parts
 pub mod Ends
 pub mod Words
+pub mod Soaked
 pub mod Commands
 pub mod Replay
 pub mod Replayed

@@ -1,13 +1,13 @@
 -- Only proofs and private functions use it.
 -- What the parts of a replay do.
-use Rattle.std.specs.Prelude.{◌≡◌, ◌⊎◌, ℕ, ◌+◌, ◌≤◌, ◌<◌, ◌^◌, List, [], ◌++◌, length, None, Some}
+use Rattle.std.specs.Prelude.{◌≡◌, ℕ, ◌+◌, ◌≤◌, ◌^◌, List, [], ◌++◌, length, None, Some}
 use Rattle.std.specs.declared.option.Option.{Option}
 use Rattle.relay_program.specs.declared.drills.DrillFail.{DrillFail}
 use Rattle.relay_program.specs.declared.drills.DrillFail.TheVariants.{Outside, SourceFault, SinkFault, OutOfMemory}
 use Rattle.relay_program.specs.declared.replays.Replaying.{Replaying}
 use Rattle.relay_script.specs.ReplayLines.{meaning}
 use Rattle.relay_script.specs.Script.{Line, lines_from, lines}
-use Rattle.relay_replay.specs.Stand.{Stand, after_line}
+use Rattle.relay_replay.specs.Stand.{after_line}
 use Rattle.relay_replay.specs.Prints.{Prints}
 use Rattle.relay_replay.specs.Scenes.{SceneState, IsSound, stand_of, start}
 use Rattle.relay_program.specs.Parts.{IsOver}

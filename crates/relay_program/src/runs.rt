@@ -2,15 +2,17 @@ ghost use Rattle.std.specs.Prelude.{◌≡◌, None, Some, map, true};
 ghost use Rattle.file_commands.specs.Check.{CheckGives, CheckStops, CheckCut, CheckWhole};
 ghost use Rattle.file_commands.specs.Outcome.{Outcome as FileOutcome, seen};
 ghost use Rattle.file_commands.specs.Remux.{RemuxGives, RemuxStops, RemuxCut, RemuxWhole};
-ghost use Rattle.relay_program.specs.declared.runs.Command.TheVariants.{Drill, Replay, Remux, Check};
+ghost use Rattle.relay_program.specs.declared.runs.Command.TheVariants.{Drill, Replay, Soak, Remux, Check};
 ghost use Rattle.relay_program.specs.Commands.{command_of};
 ghost use Rattle.relay_program.specs.Drill.{drill_text, outside_line};
 ghost use Rattle.relay_program.specs.Outcome.{in_out, Outcome};
 ghost use Rattle.relay_program.specs.Replayed.{Replayed};
+ghost use Rattle.relay_program.specs.Soaked.{Soaked, units_asked};
 ghost use Rattle.relay_program.specs.Words.{only_word_is};
 
 use crate::drills::drill;
 use crate::replays::replay;
+use crate::soaks::{soak, units_asked};
 use file_commands::{check, remux};
 use key_guard::Guards;
 use relay_base::Status;
@@ -24,6 +26,8 @@ pub enum Command {
     Drill,
     /// [`replay`]
     Replay,
+    /// [`soak`]
+    Soak,
     /// [`remux`]
     Remux,
     /// [`check`]
@@ -49,6 +53,9 @@ pub fn command_of(words: &[Vec<u8>]) -> Option<Command>
     if only_word_is(words, b"replay".as_slice()) {
         return Some(Command::Replay);
     }
+    if units_asked(words).is_some() {
+        return Some(Command::Soak);
+    }
     if only_word_is(words, b"remux".as_slice()) {
         return Some(Command::Remux);
     }
@@ -59,15 +66,15 @@ pub fn command_of(words: &[Vec<u8>]) -> Option<Command>
 }
 
 /// Runs the command that the words name, which are those after the program's name. What it writes by each code is told at
-/// [`drill`], [`replay`], [`remux`] and [`check`]. The guards judge keys. The code is
+/// [`drill`], [`replay`], [`soak`], [`remux`] and [`check`]. A soak reads nothing. The guards judge keys. The code is
 ///
-/// - 0 where the input was read to its end;
+/// - 0 where the input was read to its end, or the soak was made;
 /// - 2 exactly where the words aren't those of a command: nothing is read or written;
 /// - 3 only where the input's faults rose;
 /// - 4 where the input is refused at `place`: that of the first line outside a script's grammar, counted from 1, or that of
 ///   the first byte of a file that is refused, counted from 0;
 /// - 5 only where the output's faults rose;
-/// - 6 for want of memory;
+/// - 6 for want of memory, or where a session of a soak isn't idle after 1,000,000 turns;
 /// - 8 for `remux` alone, where the input was read to its end and a unit of sound or pictures was left out.
 ///
 /// `place` is 0 but for code 4.
@@ -84,6 +91,9 @@ pub fn run<S: Source, K: Sink>(
     ensures replay { command_of (map (λ w. w.items) words.now) ≡ Some Replay → Replayed true
         (in_out (S.left input.old) (K.holds out.old) (S.faults input.old) (K.faults out.old))
         (in_out (S.left input.new) (K.holds out.new) (S.faults input.new) (K.faults out.new)) result }
+    ensures soak { command_of (map (λ w. w.items) words.now) ≡ Some Soak → Soaked (units_asked (map (λ w. w.items) words.now))
+        (K.holds out.old) (K.holds out.new) (K.faults out.old) (K.faults out.new) result }
+    ensures soak_input { command_of (map (λ w. w.items) words.now) ≡ Some Soak → input.new ≡ input.old }
     ensures remux { command_of (map (λ w. w.items) words.now) ≡ Some Remux → FileOutcome RemuxGives RemuxStops RemuxCut RemuxWhole true
         (seen (S.left input.old) (K.holds out.old) (S.faults input.old) (K.faults out.old))
         (seen (S.left input.new) (K.holds out.new) (S.faults input.new) (K.faults out.new)) result }
@@ -99,6 +109,7 @@ pub fn run<S: Source, K: Sink>(
     match command_of(words) {
         Some(Command::Drill) => drill(alloc, words, input, out),
         Some(Command::Replay) => replay(alloc, words, guards, input, out),
+        Some(Command::Soak) => soak(alloc, words, guards, out),
         Some(Command::Remux) => remux(alloc, words, input, out),
         Some(Command::Check) => check(alloc, words, input, out),
         None => Status { code: 2, place: 0 },

@@ -1,4 +1,4 @@
-use Rattle.std.proofs.Common.{◌∙◌, ◌++◌, List, ℕ, Some, ap, refl}
+use Rattle.std.proofs.Common.{◌∙◌, ◌++◌, List, ℕ, ap, refl}
 use Rattle.relay_script.specs.Texts.{held_text}
 use Rattle.relay_program.specs.Drill.{stream_of, held_does}
 use Rattle.relay_program.proofs.Known.{no_part_written}

@@ -1,6 +1,6 @@
 use Rattle.std.proofs.Common.{sym}
 use Rattle.relay_program.specs.Outcome.{in_out}
-use Rattle.relay_program.proofs.ReplayEnds.{refused, finished, stopped, unwritten}
+use Rattle.relay_program.proofs.ReplayEnds.{refused}
 use Rattle.relay_program.proofs.replays.replay.Goals as goal
 
 pub returns-then-not-is_replay-clause-outcome : goal.returns-then-not-is_replay-clause-outcome

@@ -1,4 +1,4 @@
-use Rattle.std.proofs.Common.{◌++◌, sym, ◌∙◌, rules}
+use Rattle.std.proofs.Common.{◌++◌, sym, rules}
 use Rattle.relay_program.proofs.Script.{has_feed, no_feed}
 use Rattle.relay_program.proofs.Steps.{after_feed, feed_place}
 use Rattle.relay_program.proofs.ReplaySteps.{stops_then, goes_then, result_then, line_goes, line_stops, rest_ends}

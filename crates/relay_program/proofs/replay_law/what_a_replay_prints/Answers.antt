@@ -1,0 +1,8 @@
+use Rattle.relay_program.proofs.Serving.{printed_recorded, printed_served}
+use Rattle.relay_program.proofs.replay_law.what_a_replay_prints.Goals as goal
+
+pub returns-clause-sent : goal.returns-clause-sent
+returns-clause-sent c = printed_served
+
+pub returns-clause-files : goal.returns-clause-files
+returns-clause-files c = printed_recorded
