@@ -6,3 +6,4 @@ pub mod Saying
 pub mod Viewing
 pub mod Calling
 pub mod Tying
+pub mod Longest

@@ -1,6 +1,7 @@
 -- What was written of what was taken
 use Rattle.std.proofs.Common.{◌≡◌, ℕ, ◌<◌, ◌≤◌, zero, suc, List, [], ◌∷◌, ◌++◌, length, Option, Some, None, refl, sym, subst, arith, length-append}
 use Rattle.std.specs.List.{slice_index_or}
+use Rattle.std.proofs.lemmas.List.Elements.{All-push}
 use Rattle.stream_model.specs.Held.{body_of}
 use Rattle.av_unit.specs.declared.item.Item.{Item}
 use Rattle.turn_gate.specs.Histories.{Begins}
@@ -39,6 +40,10 @@ within_first m items all b w = within_front m items b.0 (subst (λ (l : List Ite
 -- a bound on what was taken is one on what was written
 pub held_within : (end : Option RecEnd) (items all : List Item) (held : ℕ) (most : ℕ → ℕ) → AreWritten end items all → ((m : ℕ) → AreWithin m items → held ≤ most m) → (m : ℕ) → AreWithin m all → held ≤ most m
 held_within end items all held most w h m a = h m (within_first m items all (written_first end items all w) a)
+
+-- one item more
+pub within_more : (m : ℕ) (items items' : List Item) (x : Item) → items' ≡ items ++ x ∷ [] → AreWithin m items → body_of x ≤ m → AreWithin m items'
+within_more m items items' x is w le = subst (λ (l : List Item). AreWithin m l) (sym is) (All-push (λ (y : Item). body_of y ≤ m) items x w le)
 
 -- what was put out is a beginning of the text of what was taken
 pub out_first : (text : List Item → List ℕ) (end : Option RecEnd) (items all : List Item) (out : List ℕ) → ((a b : List Item) → Begins (text a) (text (a ++ b))) → out ≡ text items → AreWritten end items all → Begins out (text all)

@@ -46,7 +46,7 @@ GoesOn answer turn end' = (turn ≡ answer) × (end' ≡ None)
 
 -- the sink took so many bytes from the front
 abbrev pub sent_more : TapeState → ℕ → TapeState
-sent_more t n = record { items = t.items; sent = t.sent ++ take n t.pending; pending = drop n t.pending; kept = t.kept }
+sent_more t n = record t { sent = t.sent ++ take n t.pending; pending = drop n t.pending }
 
 -- what a put's answer makes of the recorder
 abbrev pub PutEnds : Put → TapeState → RecTurn → TapeState → Option RecEnd → Type 0
@@ -74,12 +74,14 @@ JoinEnds (Err e) turn player' end' = Unmade e turn end' × (player' ≡ None)
 pub record Writes (t : TapeState) (item : Item) (t' : TapeState) : Type 0 where
   pub items : t'.items ≡ t.items ++ item ∷ []
   pub sent : t'.sent ≡ t.sent
+  pub longest : t'.longest ≡ t.longest
 
 -- nothing is written
 pub record Unwritten (t t' : TapeState) : Type 0 where
   pub items : t'.items ≡ t.items
   pub sent : t'.sent ≡ t.sent
   pub pending : t'.pending ≡ t.pending
+  pub longest : t'.longest ≡ t.longest
 
 -- the item was written, or there was no memory for it
 abbrev pub Writing : TapeState → Item → RecTurn → TapeState → Option RecEnd → Type 0

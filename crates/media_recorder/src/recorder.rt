@@ -44,14 +44,21 @@ impl<P: StreamPort, M: Medium> Model for Recorder<P, M> {
 }
 
 impl<P: StreamPort, M: Medium> Recorder<P, M> {
-    /// A recorder at that place, with that name, which has made no call. The text of no items is pending.
-    pub fn new(alloc: Global, place: u32, who: u64) -> Result<Recorder<P, M>, OutOfMemory>
+    /// A recorder at that place, with that name, which has made no call. The text of no items is pending. It writes units of at
+    /// most `longest` bytes: for a longer one there is no memory.
+    pub fn new(
+        alloc: Global,
+        place: u32,
+        who: u64,
+        longest: u32,
+    ) -> Result<Recorder<P, M>, OutOfMemory>
         ensures seat { IfOk result (λ r. r.seat ≡ record { who = who; place = place; pass = None; calls = [] }) }
         ensures player { IfOk result (λ r. r.player ≡ None) }
         ensures tape { IfOk result (λ r. (r.tape.items ≡ []) × (r.tape.sent ≡ []) × (r.tape.pending ≡ M.text [])) }
         ensures live { IfOk result (λ r. r.end ≡ None) }
+        ensures longest { IfOk result (λ r. r.tape.longest ≡ longest) }
     {
-        let tape = Tape::new(alloc)?;
+        let tape = Tape::new(alloc, longest)?;
         Ok(Recorder {
             seat: Seat::new(place, who),
             player: None,
@@ -95,6 +102,7 @@ impl<P: StreamPort, M: Medium> Recorder<P, M> {
         ensures port { Serves P.rules P.root P.busies P.fits self.old.seat.place port.old port.new }
         ensures turn { Turns P.rules P.root P.busies P.seen P.mine P.count K.takes self.old.end port.old port.new sink.old sink.new self.old result self.new }
         ensures took { K.holds sink.old ≡ Some self.old.tape.sent → K.holds sink.new ≡ Some self.new.tape.sent }
+        ensures longest { self.new.tape.longest ≡ self.old.tape.longest }
         ensures tallies { Tallied P.count (K.holds sink.old) (K.faults sink.old) self.old → Tallied P.count (K.holds sink.new) (K.faults sink.new) self.new }
         ensures says { Says P.mine (P.root port.old self.old.seat.place) (P.busies port.old) (P.busies port.new) result self.new }
     {
@@ -213,10 +221,11 @@ impl<P: StreamPort, M: Medium> Recorder<P, M> {
     }
 
     /// How many bytes are pending, or kept by the medium. Where no item that it took has a body of more than m bytes,
-    /// they are at most 4 m + 262,144.
+    /// they are at most 4 m + 262,144; and so they are where m is the longest that it writes.
     pub fn held(&self) -> u64
         ensures sum { result ≡ length self.now.tape.pending + self.now.tape.kept }
         ensures most { (m : ℕ) → AreWithin m (taken self.now.seat.calls) → result ≤ most_held m }
+        ensures longest { result ≤ most_held self.now.tape.longest }
     {
         self.tape.held()
     }

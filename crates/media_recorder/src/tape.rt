@@ -1,5 +1,6 @@
 ghost use Rattle.std.specs.Prelude.{◌≡◌, ◌≤◌, ◌+◌, ◌++◌, ℕ, [], length, IfOk, OnOk, OnErr};
 ghost use Rattle.media_recorder.specs.Mediums.{AreWithin, most_held};
+ghost use Rattle.stream_model.specs.Held.{body_of};
 ghost use Rattle.media_recorder.specs.Turns.{is_empty, sent_more, Writes, Unwritten};
 
 use crate::medium::Medium;
@@ -9,12 +10,14 @@ use past::Flow;
 use std::alloc::Global;
 use std::marker::Model;
 
-/// Items on their way to a sink: what a medium makes of them, of which the sink took the first bytes.
+/// Items on their way to a sink: what a medium makes of them, of which the sink took the first bytes. None of them is a unit of
+/// more than `longest` bytes.
 #[derive(Drop)]
 pub struct Tape<M: Medium> {
     medium: M,
     pending: Pending,
     sent: Flow<u8>,
+    longest: u32,
 }
 
 impl<M: Medium> Model for Tape<M> {
@@ -22,15 +25,27 @@ impl<M: Medium> Model for Tape<M> {
 
     ghost Value = { TapeState };
 
-    ghost view = { λ t. record { items = M.written t.medium; sent = t.sent; pending = t.pending; kept = M.kept t.medium } };
+    ghost view = { λ t. record { items = M.written t.medium; sent = t.sent; pending = t.pending; kept = M.kept t.medium; longest = t.longest } };
 
-    ghost invariant = { λ t. IsTape M.text (M.written t.medium) t.sent t.pending (M.kept t.medium) };
+    ghost invariant = { λ t. IsTape M.text (M.written t.medium) t.sent t.pending (M.kept t.medium) t.longest };
+}
+
+// How many bytes the unit has that an item is.
+fn body_len(item: &Item) -> usize
+    ensures { result ≡ body_of item.now }
+{
+    match item {
+        Item::Unit(shared) => shared.unit().body.len(),
+        Item::Begin => 0,
+        Item::End => 0,
+    }
 }
 
 impl<M: Medium> Tape<M> {
     /// The text of no items, of which nothing was sent.
-    pub(crate) fn new(alloc: Global) -> Result<Tape<M>, OutOfMemory>
-        ensures { IfOk result (λ t. (t.items ≡ []) × (t.sent ≡ []) × (t.pending ≡ M.text [])) }
+    pub(crate) fn new(alloc: Global, longest: u32) -> Result<Tape<M>, OutOfMemory>
+        ensures begun { IfOk result (λ t. (t.items ≡ []) × (t.sent ≡ []) × (t.pending ≡ M.text [])) }
+        ensures longest { IfOk result (λ t. t.longest ≡ longest) }
     {
         let mut bytes = Bytes::new(alloc);
         let medium = M::begin(alloc, &mut bytes)?;
@@ -38,6 +53,7 @@ impl<M: Medium> Tape<M> {
             medium,
             pending: Pending::of(bytes),
             sent: Flow::new(),
+            longest,
         })
     }
 
@@ -79,12 +95,16 @@ impl<M: Medium> Tape<M> {
         self.pending.took(count);
     }
 
-    /// Writes an item where nothing is pending.
+    /// Writes an item where nothing is pending. There is no memory for a unit of more than `longest` bytes.
+    #[tactic(auto, using(crate::proofs::Texts::within_more))]
     pub(crate) fn write(&mut self, item: &Item) -> Result<(), OutOfMemory>
         requires { self.old.pending ≡ [] }
         ensures ok { OnOk result (Writes self.old item.now self.new) }
         ensures err { OnErr result (Unwritten self.old self.new) }
     {
+        if body_len(item) > self.longest as usize {
+            return Err(OutOfMemory);
+        }
         self.pending.write(&mut self.medium, item)
     }
 
@@ -92,6 +112,7 @@ impl<M: Medium> Tape<M> {
     pub(crate) fn held(&self) -> u64
         ensures sum { result ≡ length self.now.pending + self.now.kept }
         ensures most { (m : ℕ) → AreWithin m self.now.items → result ≤ most_held m }
+        ensures longest { result ≤ most_held self.now.longest }
     {
         self.pending.len() as u64 + self.medium.held()
     }

@@ -176,7 +176,7 @@ fn run<P: StreamPort, K: Sink>(
 // A recorder that joins before a broadcast of three units, with a sink whose put of that number fails.
 fn recorded(alloc: Global, fails: u64) -> Result<(Bytes, MemSink, bool), OutOfMemory> {
     let mut port = port(alloc, 4)?;
-    let mut recorder = FlvRecorder::new(alloc, 0, 7)?;
+    let mut recorder = FlvRecorder::new(alloc, 0, 7, 4_096)?;
     let mut sink = MemSink::new(alloc, vec![in alloc; fails]?);
     let answers = run(
         alloc,
@@ -211,7 +211,7 @@ fn each_put_fails_once(rt: HostRuntime) -> Result<(), Fail> {
 fn a_sink_that_takes_one_byte_takes_the_same(rt: HostRuntime) -> Result<(), Fail> {
     let alloc = rt.alloc();
     let mut port = port(alloc, 4)?;
-    let mut recorder = FlvRecorder::new(alloc, 0, 7)?;
+    let mut recorder = FlvRecorder::new(alloc, 0, 7, 4_096)?;
     let mut sink = Sip {
         list: Vec::new(alloc),
     };
@@ -232,7 +232,7 @@ fn a_sink_that_takes_one_byte_takes_the_same(rt: HostRuntime) -> Result<(), Fail
 fn a_recorder_without_a_place_has_a_file_of_nothing(rt: HostRuntime) -> Result<(), Fail> {
     let alloc = rt.alloc();
     let mut port = port(alloc, 0)?;
-    let mut recorder = FlvRecorder::new(alloc, 0, 7)?;
+    let mut recorder = FlvRecorder::new(alloc, 0, 7, 4_096)?;
     let mut sink = MemSink::new(alloc, Vec::new(alloc));
     let answers = run(alloc, b"ttt", &mut port, &mut recorder, &mut sink)?;
     assert!(rt; answers.as_slice() == b"MFF".as_slice());

@@ -15,7 +15,7 @@ use Rattle.media_recorder.specs.Ports.{FitsIf}
 use Rattle.relay_session.specs.Grants.{granted_from, grants_for, is_named, judged}
 use Rattle.relay_session.specs.Places.{Asked, IsGrantThere, IsOffered, IsThere}
 use Rattle.relay_session.specs.SeatState.{HasFit}
-use Rattle.relay_session.specs.SessionState.{BeginsOwed, SessionState, StandsFor, life_at}
+use Rattle.relay_session.specs.SessionState.{BeginsOwed, SessionState, StandsFor, lasting_of, life_at}
 use Rattle.relay_session.specs.Turns.{EndedBy}
 use Rattle.relay_session.specs.declared.end.End.{End}
 use Rattle.relay_session.specs.declared.turn.Turn.{Turn}
@@ -117,9 +117,10 @@ pub turned : (desk : Ask → Grant) (port between port' : SoleState) (c d : Conn
     → is_some c.ended ≡ false
     → EndedBy (Asked FitsSole (λ s. sole_rules s.rules) (λ s. journal_at s.books) (λ p. p.seen) (λ p. length p.seen) (λ _. Unit {0}) (λ _. 0)) desk
     MemHears MemSays c.session.ended c.session.quit (life_at c.session port) c.link a (life_at mid between) d.link
-    → (StandsFor desk c.session → StandsFor desk mid) → (StandsFor desk mid → BeginsOwed desk mid.parts) → AfterTurn a mid between d.session d.ended port' → AnsweredBy (Some a) c.ended desk port c port' d
-turned desk port between port' c d mid a lives turn stands owed leads =
-    turned_by c.ended desk port c port' d lives (record { answer = a; between = between; mid = mid; turn = turn; stands = stands; owed = owed; leads = leads })
+    → (StandsFor desk c.session → StandsFor desk mid) → (StandsFor desk mid → BeginsOwed desk mid.parts) → lasting_of mid.parts ≡ lasting_of c.session.parts
+    → AfterTurn a mid between d.session d.ended port' → AnsweredBy (Some a) c.ended desk port c port' d
+turned desk port between port' c d mid a lives turn stands owed lasts leads =
+    turned_by c.ended desk port c port' d lives (record { answer = a; between = between; mid = mid; turn = turn; stands = stands; owed = owed; lasts = lasts; leads = leads })
 
 get_some : {A : Type 0} → (xs : List A) (n : ℕ) (x : A) → n < length xs → x ≡ get_or xs n x → slice_get xs n ≡ Some x
 get_some [] n x h e = absurd (omega (arith, h))
@@ -127,20 +128,21 @@ get_some (y ∷ ys) zero x h e = ap Some (sym e)
 get_some (y ∷ ys) (suc n) x h e = get_some ys n x (omega (arith, h)) e
 
 pub turn_of : (r : Result (Option Turn) OutOfMemory) (desk : Ask → Grant) (n : ℕ) (c : CastState) (x : ConnState) (port' : SoleState) (y : ConnState)
-    → n < length c.sessions → x ≡ get_or c.sessions n x → IfOk r (λ a. AnsweredBy a x.ended desk c.port x port' y)
+    → n < length c.sessions → x ≡ get_or c.sessions n x → sole_rules port'.rules ≡ sole_rules c.port.rules → IfOk r (λ a. AnsweredBy a x.ended desk c.port x port' y)
     → IfOk r (λ a. AnsweredTurn desk n a c (record { port = port'; sessions = slice_set c.sessions n y; recorders = c.recorders }))
-turn_of (Ok a) desk n c x port' y h e turn = record {
+turn_of (Ok a) desk n c x port' y h e fixed turn = record {
   turn = record {
     old = x;
     new = y;
     there = get_some c.sessions n x h e;
     turn = turn.0;
+    fixed = fixed;
     sessions = refl;
     recorders = refl;
   };
   answer_is = turn.1;
 }
-turn_of (Err e) desk n c x port' y h same turn = tt
+turn_of (Err e) desk n c x port' y h same fixed turn = tt
 
 -- ---- one step more
 

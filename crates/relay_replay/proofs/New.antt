@@ -1,10 +1,8 @@
 -- A new cast.
-use Rattle.std.proofs.Common.{◌≡◌, ◌<◌, ◌+◌, ◌^◌, ◌++◌, ◌&&◌, nat_le, ℕ, zero, suc, Bool, true, false, List, [], ◌∷◌, length, take, map, get_or, All}
+use Rattle.std.proofs.Common.{◌≡◌, ◌<◌, ◌+◌, ◌^◌, ◌++◌, ℕ, zero, suc, List, [], ◌∷◌, length, take, map, get_or, All}
 use Rattle.std.proofs.Common.{None, refl, ap, sym, ◌∙◌, subst, arith}
-use Rattle.std.proofs.lemmas.Bool.Decides.{nat_tests}
 use Rattle.std.proofs.lemmas.List.{length-map}
 use Rattle.std.proofs.lemmas.List.Elements.{All-nil, All-cons, All-head, All-tail}
-use Rattle.relay_base.specs.declared.limits.Limits.{Limits}
 use Rattle.relay_config.specs.declared.config.PlaceRule.{PlaceRule}
 use Rattle.stream_registry.specs.Books.{SoleState, SeenState, FitsSole, sole_rules}
 use Rattle.media_recorder.specs.Ports.{FitsIf}
@@ -12,7 +10,7 @@ use Rattle.media_recorder.specs.Seats.{SeatState}
 use Rattle.relay_replay.specs.declared.recording.Plan.{Plan}
 use Rattle.relay_replay.specs.Stand.{no_plan}
 use Rattle.relay_replay.specs.Cast.{RecState}
-use Rattle.relay_replay.specs.Scenes.{SceneState, AreNew, Fits, IsNewRecorder, IsSound, Ready, Sits, name_of}
+use Rattle.relay_replay.specs.Scenes.{AreNew, Fits, IsNewRecorder, Ready, Sits, name_of}
 
 -- ---- one recorder more
 
@@ -79,18 +77,3 @@ new_sits places ps port rs names a spots =
       count = as_many 0 ps rs a;
       recorders = all_fit port 0 ps rs a (subst (λ (k : ℕ). All (λ p. p.stream < k) ps) (sym many) spots);
     }
-
--- ---- limits
-
-and_true : (a b : Bool) → (a && b) ≡ true → (a ≡ true) × (b ≡ true)
-and_true true b e = (refl, e)
-and_true false b e = absurd (cc)
-
-pub limits_sound : (s : SceneState) (l : Limits) (fresh : Bool) → (fresh && (nat_le l.max_message 4194304 && nat_le l.ring_bytes 268435456)) ≡ true → IsSound s
-    → IsSound (record { fresh = false; limits = l; places = s.places; recorders = s.recorders; cast = s.cast })
-limits_sound s l fresh e h =
-    let both = and_true (nat_le l.max_message 4194304) (nat_le l.ring_bytes 268435456)
-    (and_true fresh (nat_le l.max_message 4194304 && nat_le l.ring_bytes 268435456) e).1 in
-    let message = both.0 in
-    let ring = both.1 in
-    record { message = grind (arith, nat_tests); ring = grind (arith, nat_tests); few = h.few; recorders = h.recorders; cast = h.cast }

@@ -61,8 +61,8 @@ after_served Idle desk mid port d port' t st owed took = record {
 }
 after_served (Ended e) desk mid port d port' t st owed took = record {
   stands = subst (λ (o : Option End). StandsIf o desk d.session) (sym t.1) tt;
-  owed = closed_owes desk mid.parts d.session.parts t.2.gone owed;
-  took = took ∙ sym (ap (λ (g : Gone). g.sent) t.2.gone);
+  owed = closed_owes desk mid.parts d.session.parts (ap gone_but_kept t.2.parts) owed;
+  took = took ∙ sym (ap (λ (c : Core). c.sent) t.2.parts);
 }
 
 served_turn : (e : Option End) (desk : Ask → Grant) (port : SoleState) (c : ConnState) (port' : SoleState) (d : ConnState) → c.ended ≡ e → SessionTurn e desk port c port' d → IsServed desk c → IsServed desk d

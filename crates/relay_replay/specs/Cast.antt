@@ -7,7 +7,7 @@ use Rattle.relay_outside.specs.MemLinks.{MemLinkState, MemHears, MemSays}
 use Rattle.stream_registry.specs.Books.{SoleState, SeenState, FitsSole, journal_at, sole_rules}
 use Rattle.relay_session.specs.Places.{Asked}
 use Rattle.relay_session.specs.SeatState.{GoOn, LeavesFrom, place_of}
-use Rattle.relay_session.specs.SessionState.{BeginsOwed, SessionState, StandsFor, end_or_quit, gone_but_kept, life_at}
+use Rattle.relay_session.specs.SessionState.{BeginsOwed, SessionState, StandsFor, end_or_quit, lasting_of, life_at}
 use Rattle.relay_session.specs.Turns.{EndedBy}
 use Rattle.relay_session.specs.declared.end.End.{End}
 use Rattle.relay_session.specs.declared.end.End.TheVariants as end
@@ -81,7 +81,7 @@ pub record IsClosed (port : SoleState) (s : SessionState SeenState) (port' : Sol
   pub roots : GoOn (journal_at port.books) (journal_at port'.books)
   pub fixed : sole_rules port'.rules ≡ sole_rules port.rules
   pub ended : s'.ended ≡ Some (end_or_quit s.ended)
-  pub gone : gone_but_kept s'.parts ≡ gone_but_kept s.parts
+  pub parts : s'.parts ≡ record s.parts { kept = s'.parts.kept }
 
 -- what a turn's answer leads to: one that ends is closed at once
 abbrev pub AfterTurn : Turn → SessionState SeenState → SoleState → SessionState SeenState → Option End → SoleState → Type 0
@@ -99,6 +99,7 @@ pub record Turned (desk : Ask → Grant) (port : SoleState) (c : ConnState) (por
       MemHears MemSays c.session.ended c.session.quit (life_at c.session port) c.link answer (life_at mid between) d.link
   pub stands : StandsFor desk c.session → StandsFor desk mid
   pub owed : StandsFor desk mid → BeginsOwed desk mid.parts
+  pub lasts : lasting_of mid.parts ≡ lasting_of c.session.parts
   pub leads : AfterTurn answer mid between d.session d.ended port'
 
 -- one that has ended does nothing
@@ -146,6 +147,7 @@ pub record RecorderTurn (port : SoleState) (c : RecState) (port' : SoleState) (d
   pub turn : RecTurnsBy port c.recorder c.file answer port' d.recorder d.file
   pub took : c.file.bytes ≡ c.recorder.tape.sent → d.file.bytes ≡ d.recorder.tape.sent
   pub text : IsText d.form d.recorder
+  pub longest : d.recorder.tape.longest ≡ c.recorder.tape.longest
   pub leads : AfterRecTurn answer c.ended d.ended
 
 -- ---- turns in the cast
@@ -155,6 +157,7 @@ pub record TurnOf (desk : Ask → Grant) (n : ℕ) (c d : CastState) : Type 0 wh
   pub new : ConnState
   pub there : slice_get c.sessions n ≡ Some old
   pub turn : SessionTurn old.ended desk c.port old d.port new
+  pub fixed : sole_rules d.port.rules ≡ sole_rules c.port.rules
   pub sessions : d.sessions ≡ slice_set c.sessions n new
   pub recorders : d.recorders ≡ c.recorders
 
@@ -163,6 +166,7 @@ pub record RecTurnOf (n : ℕ) (c d : CastState) : Type 0 where
   pub new : RecState
   pub there : slice_get c.recorders n ≡ Some old
   pub turn : RecorderTurn c.port old d.port new
+  pub fixed : sole_rules d.port.rules ≡ sole_rules c.port.rules
   pub recorders : d.recorders ≡ slice_set c.recorders n new
   pub sessions : d.sessions ≡ c.sessions
 

@@ -1,14 +1,15 @@
 -- What a replay prints at its script's end.
-use Rattle.std.specs.Prelude.{◌≡◌, ℕ, zero, suc, ◌+◌, List, [], ◌∷◌, ◌++◌, length, reverse, codes, Option, None, Some}
+use Rattle.std.specs.Prelude.{◌≡◌, ◌≤◌, ℕ, zero, suc, ◌+◌, List, [], ◌∷◌, ◌++◌, length, reverse, codes, Option, None, Some}
 use Rattle.std.specs.Fmt.{decimal}
 use Rattle.hex.specs.Hex.{encode_lower}
 use Rattle.chunk_reader.specs.declared.fail.ReadCause.{ReadCause}
 use Rattle.chunk_reader.specs.declared.fail.ReadCause.TheVariants as cause
+use Rattle.media_recorder.specs.Mediums.{most_held as most_recorded}
 use Rattle.media_recorder.specs.declared.turn.RecEnd.{RecEnd}
 use Rattle.media_recorder.specs.declared.turn.RecEnd.TheVariants as rec_end
 use Rattle.relay_base.specs.declared.limits.Limits.{Limits}
 use Rattle.relay_config.specs.Sum.{total_of}
-use Rattle.relay_session.specs.Holding.{IsHolding}
+use Rattle.relay_session.specs.Holding.{IsHolding, most_held}
 use Rattle.relay_session.specs.declared.end.End.{End}
 use Rattle.relay_session.specs.declared.end.End.TheVariants as end
 use Rattle.stream_model.specs.Held.{held}
@@ -89,25 +90,22 @@ streams_text port (suc n) = streams_text port n ++ stream_line n (held_at port n
 
 -- ---- what all hold together
 
+-- of each of a list, together
+abbrev pub AllHold : {A : Type 0} → (A → ℕ → Type 0) → List A → ℕ → Type 0
+AllHold holds [] n = n ≡ 0
+AllHold holds (x ∷ xs) n = (h : ℕ) × (holds x h × ((m : ℕ) × (AllHold holds xs m × (n ≡ h + m))))
+
 -- a session that has ended holds nothing
 abbrev pub HoldsBy : Option End → ConnState → ℕ → Type 0
-HoldsBy None c n = IsHolding c.session.parts c.session.input n
+HoldsBy None c n = IsHolding c.session.parts c.session.input n × (n ≤ most_held c.session.parts.reader.max c.session.parts.reader.max)
 HoldsBy (Some e) c n = n ≡ 0
 
 abbrev pub Holds : ConnState → ℕ → Type 0
 Holds c n = HoldsBy c.ended c n
 
-abbrev pub SessionsHold : List ConnState → ℕ → Type 0
-SessionsHold [] n = n ≡ 0
-SessionsHold (c ∷ cs) n = (h : ℕ) × (Holds c h × ((m : ℕ) × (SessionsHold cs m × (n ≡ h + m))))
-
--- what its file is yet to take, and what its medium keeps
-abbrev pub recorder_holds : RecState → ℕ
-recorder_holds r = length r.recorder.tape.pending + r.recorder.tape.kept
-
-abbrev pub recorders_hold : List RecState → ℕ
-recorders_hold [] = 0
-recorders_hold (r ∷ rs) = recorder_holds r + recorders_hold rs
+-- what a recorder's file is yet to take, and what its medium keeps
+abbrev pub RecHolds : RecState → ℕ → Type 0
+RecHolds r n = (n ≡ length r.recorder.tape.pending + r.recorder.tape.kept) × (n ≤ most_recorded r.recorder.tape.longest)
 
 abbrev pub streams_hold : SoleState → ℕ → ℕ
 streams_hold port zero = 0
@@ -115,9 +113,11 @@ streams_hold port (suc n) = streams_hold port n + held_at port n
 
 -- TOTAL: the sum of what the open sessions, the recorders and the streams hold
 pub record IsTotal (streams : ℕ) (c : CastState) (total : ℕ) : Type 0 where
-  pub held : ℕ
-  pub sessions : SessionsHold c.sessions held
-  pub total_is : total ≡ held + recorders_hold c.recorders + streams_hold c.port streams
+  pub by_sessions : ℕ
+  pub sessions : AllHold Holds c.sessions by_sessions
+  pub by_recorders : ℕ
+  pub recorders : AllHold RecHolds c.recorders by_recorders
+  pub total_is : total ≡ by_sessions + by_recorders + streams_hold c.port streams
 
 -- all that is printed, with that total
 abbrev pub text_of : Limits → ℕ → CastState → ℕ → List ℕ
@@ -125,10 +125,11 @@ text_of limits streams c total =
     ((sessions_text 0 c.sessions ++ recorders_text 0 c.recorders) ++ streams_text c.port streams)
     ++ held_line total (total_of limits streams (length c.sessions) (length c.recorders))
 
--- what is printed of so many streams, and of the sessions and the recorders
+-- what is printed of so many streams, and of the sessions and the recorders. TOTAL IS AT MOST SUM
 pub record IsReport (limits : Limits) (streams : ℕ) (c : CastState) (text : List ℕ) : Type 0 where
   pub total : ℕ
   pub sum : IsTotal streams c total
+  pub within : total ≤ total_of limits streams (length c.sessions) (length c.recorders)
   pub text_is : text ≡ text_of limits streams c total
 
 -- WHAT IS PRINTED: of the state that the lines led to, or of an empty one where none has acted

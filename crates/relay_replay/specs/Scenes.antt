@@ -73,6 +73,7 @@ pub record IsNewCast (s : SceneState) (c : CastState) : Type 0 where
   pub empty : (q : ℕ) → journal_at c.port.books q ≡ []
   pub sessions : c.sessions ≡ []
   pub recorders : AreNew 0 s.recorders c.recorders
+  pub longest : All (λ r. r.recorder.tape.longest ≡ s.limits.max_message) c.recorders
 
 abbrev pub IsOpen : Option CastState → SceneState → CastState → Type 0
 IsOpen None s c = IsNewCast s c
@@ -140,12 +141,28 @@ abbrev pub SitsIf : ℕ → ℕ → Option CastState → Type 0
 SitsIf streams recorders None = Unit {0}
 SitsIf streams recorders (Some c) = Sits streams recorders c
 
+-- WHAT RUNS KEEPS THE LIMITS of its script: those of the streams, and the longest message of the sessions and the recorders
+pub record IsLimited (l : AllLimits) (c : CastState) : Type 0 where
+  pub streams : c.port.rules.limits ≡ stream_limits l
+  pub sessions : All (λ s. s.session.parts.reader.max ≡ l.max_message) c.sessions
+  pub recorders : All (λ r. r.recorder.tape.longest ≡ l.max_message) c.recorders
+
+abbrev pub LimitedIf : AllLimits → Option CastState → Type 0
+LimitedIf l None = Unit {0}
+LimitedIf l (Some c) = IsLimited l c
+
+-- and nothing runs before a line has done something
+abbrev pub LimitedBy : Bool → AllLimits → Option CastState → Type 0
+LimitedBy true l c = c ≡ None
+LimitedBy false l c = LimitedIf l c
+
 pub record IsSound (s : SceneState) : Type 0 where
   pub message : s.limits.max_message ≤ 4194304
   pub ring : s.limits.ring_bytes ≤ 268435456
   pub few : length s.places ≤ 64
   pub recorders : All (λ p. p.stream < length s.places) s.recorders
   pub cast : SitsIf (length s.places) (length s.recorders) s.cast
+  pub limited : LimitedBy s.fresh s.limits s.cast
 
 -- the session or recorder that it names is there, and a session more finds room
 abbrev pub IsThere : ReplayLine → CastState → Type 0

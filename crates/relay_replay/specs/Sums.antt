@@ -1,5 +1,5 @@
 -- What a run comes to: how many units the first stream was given, what each player was sent of it, and what all hold.
-use Rattle.std.specs.Prelude.{◌≡◌, ℕ, ◌+◌, ◌==◌, ◌&&◌, Bool, true, false, List, [], ◌∷◌, ◌++◌, length, drop, count_by, codes}
+use Rattle.std.specs.Prelude.{◌≡◌, ◌≤◌, ℕ, ◌+◌, ◌==◌, ◌&&◌, Bool, true, false, List, [], ◌∷◌, ◌++◌, length, drop, count_by, codes}
 use Rattle.std.specs.Fmt.{decimal}
 use Rattle.relay_base.specs.declared.limits.Limits.{Limits}
 use Rattle.relay_config.specs.Sum.{total_of}
@@ -47,9 +47,11 @@ summary_of limits streams c total =
     (pushed_line (journal_at c.port.books 0) ++ players_text 1 (journal_at c.port.books 0) (drop 1 c.sessions))
     ++ held_line total (total_of limits streams (length c.sessions) (length c.recorders))
 
+-- TOTAL IS AT MOST SUM
 pub record IsSummary (limits : Limits) (streams : ℕ) (c : CastState) (text : List ℕ) : Type 0 where
   pub total : ℕ
   pub sum : IsTotal streams c total
+  pub within : total ≤ total_of limits streams (length c.sessions) (length c.recorders)
   pub text_is : text ≡ summary_of limits streams c total
 
 -- WHAT A RUN COMES TO: of the state that the lines led to, or of an empty one where none has acted

@@ -1,8 +1,10 @@
-ghost use Rattle.std.specs.Prelude.{◌≡◌, ◌≢◌, ℕ, ◌+◌, ◌<◌, [], true, length, OnOk, IfOk, Some, None};
+ghost use Rattle.std.specs.Prelude.{◌≡◌, ◌≢◌, ℕ, ◌+◌, ◌<◌, ◌≤◌, [], true, length, OnOk, IfOk, Some, None};
+ghost use Rattle.media_recorder.specs.Mediums.{most_held as most_recorded};
 ghost use Rattle.media_recorder.specs.Ports.{FitsIf};
 ghost use Rattle.media_recorder.specs.Turns.{Turns};
 ghost use Rattle.stream_registry.specs.Books.{FitsSole, SeenState, SoleState, journal_at, sole_rules};
 ghost use Rattle.relay_replay.specs.Cast.{RecorderTurn, AfterRecTurn, EndsBy, IsText, RecTurnsBy, form_of, recorder_of, text_in};
+ghost use Rattle.relay_replay.specs.Prints.{RecHolds};
 ghost use Rattle.relay_replay.specs.Scenes.{Fits, IsNewRecorder};
 
 use crate::file::File;
@@ -29,7 +31,7 @@ pub(crate) enum Writer {
 
 impl Writer {
     // One of that name, as it is planned.
-    fn new(alloc: Global, plan: Plan, who: u64) -> Result<Writer, OutOfMemory>
+    fn new(alloc: Global, plan: Plan, who: u64, longest: u32) -> Result<Writer, OutOfMemory>
         ensures form { IfOk result (λ w. form_of w ≡ plan.form) }
         ensures seat { IfOk result (λ w. (recorder_of w).seat ≡ record { who = who; place = plan.stream; pass = None; calls = [] }) }
         ensures player { IfOk result (λ w. (recorder_of w).player ≡ None) }
@@ -37,10 +39,11 @@ impl Writer {
         ensures sent { IfOk result (λ w. (recorder_of w).tape.sent ≡ []) }
         ensures pending { IfOk result (λ w. (recorder_of w).tape.pending ≡ text_in plan.form []) }
         ensures live { IfOk result (λ w. (recorder_of w).end ≡ None) }
+        ensures longest { IfOk result (λ w. (recorder_of w).tape.longest ≡ longest) }
     {
         match plan.form {
-            Form::Flv => Ok(Writer::Flv(FlvRecorder::new(alloc, plan.stream, who)?)),
-            Form::Ts => Ok(Writer::Ts(TsRecorder::new(alloc, plan.stream, who)?)),
+            Form::Flv => Ok(Writer::Flv(FlvRecorder::new(alloc, plan.stream, who, longest)?)),
+            Form::Ts => Ok(Writer::Ts(TsRecorder::new(alloc, plan.stream, who, longest)?)),
         }
     }
 
@@ -55,7 +58,8 @@ impl Writer {
     }
 
     fn held(&self) -> u64
-        ensures { result ≡ length (recorder_of self.now).tape.pending + (recorder_of self.now).tape.kept }
+        ensures sum { result ≡ length (recorder_of self.now).tape.pending + (recorder_of self.now).tape.kept }
+        ensures most { result ≤ most_recorded (recorder_of self.now).tape.longest }
     {
         match self {
             Writer::Flv(recorder) => recorder.held(),
@@ -71,6 +75,7 @@ impl Writer {
         ensures turn { RecTurnsBy port.old (recorder_of self.old) file.old result port.new (recorder_of self.new) file.new }
         ensures took { file.old.bytes ≡ (recorder_of self.old).tape.sent → file.new.bytes ≡ (recorder_of self.new).tape.sent }
         ensures ends { EndsBy result (recorder_of self.new).end }
+        ensures longest { (recorder_of self.new).tape.longest ≡ (recorder_of self.old).tape.longest }
         ensures place { (recorder_of self.new).seat.place ≡ (recorder_of self.old).seat.place }
         ensures fits { FitsIf (FitsSole port.new (recorder_of self.new).seat.place) (recorder_of self.new).seat.pass }
         ensures fixed { sole_rules port.new.rules ≡ sole_rules port.old.rules }
@@ -100,11 +105,17 @@ impl Model for Recording {
 }
 
 impl Recording {
-    // A recorder of that name, as it is planned, with an empty file.
-    pub(crate) fn new(alloc: Global, plan: Plan, who: u64) -> Result<Recording, OutOfMemory>
-        ensures { IfOk result (λ r. IsNewRecorder who plan r) }
+    // A recorder of that name, as it is planned, with an empty file. It writes units of at most `longest` bytes.
+    pub(crate) fn new(
+        alloc: Global,
+        plan: Plan,
+        who: u64,
+        longest: u32,
+    ) -> Result<Recording, OutOfMemory>
+        ensures new { IfOk result (λ r. IsNewRecorder who plan r) }
+        ensures longest { IfOk result (λ r. r.recorder.tape.longest ≡ longest) }
     {
-        let writer = Writer::new(alloc, plan, who)?;
+        let writer = Writer::new(alloc, plan, who, longest)?;
         Ok(Recording {
             writer,
             file: File::new(alloc),
@@ -132,7 +143,7 @@ impl Recording {
     }
 
     pub(crate) fn held(&self) -> u64
-        ensures { result ≡ length self.now.recorder.tape.pending + self.now.recorder.tape.kept }
+        ensures { RecHolds self.now result }
     {
         self.writer.held()
     }

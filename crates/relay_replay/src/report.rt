@@ -1,7 +1,9 @@
-ghost use Rattle.std.specs.Prelude.{◌≡◌, ◌+◌, ◌++◌, ◌≤◌, ◌<◌, length, IfOk, OnOk, string_bytes};
-ghost use Rattle.relay_replay.specs.Scenes.{SceneState};
+ghost use Rattle.std.specs.Prelude.{◌≡◌, ◌+◌, ◌*◌, ◌++◌, ◌≤◌, ◌<◌, length, IfOk, OnOk, string_bytes};
+ghost use Rattle.relay_base.specs.declared.limits.Limits.{Limits as AllLimits};
+ghost use Rattle.relay_config.specs.Sum.{total_of};
+ghost use Rattle.relay_replay.specs.Scenes.{IsLimited};
 ghost use Rattle.relay_replay.specs.Prints.{cause_text, end_text, rec_end_text, hex_text, session_lines, recorder_lines, stream_line, held_line};
-ghost use Rattle.relay_replay.specs.Prints.{sessions_text, recorders_text, streams_text, IsReport, IsTotal, SessionsHold, recorders_hold, streams_hold};
+ghost use Rattle.relay_replay.specs.Prints.{sessions_text, recorders_text, streams_text, AllHold, Holds, IsReport, IsTotal, RecHolds, streams_hold};
 
 use crate::cast::Cast;
 use crate::connection::Connection;
@@ -165,7 +167,7 @@ fn more(total: u64, n: u64) -> Result<u64, OutOfMemory>
 
 // What the sessions hold that are open.
 fn sessions_hold(sessions: &[Connection]) -> Result<u64, OutOfMemory>
-    ensures { IfOk result (λ n. SessionsHold sessions.now n) }
+    ensures { IfOk result (λ n. AllHold Holds sessions.now n) }
 {
     let mut total: u64 = 0;
     for i in 0..sessions.len() {
@@ -176,21 +178,21 @@ fn sessions_hold(sessions: &[Connection]) -> Result<u64, OutOfMemory>
 
 // What the recorders hold.
 fn recorders_hold(recorders: &[Recording]) -> Result<u64, OutOfMemory>
-    ensures { IfOk result (λ n. n ≡ recorders_hold recorders.now) }
+    ensures { IfOk result (λ n. AllHold RecHolds recorders.now n) }
 {
     let mut total: u64 = 0;
-    let mut left = recorders;
-    while let [recorder, rest @ ..] = left {
-        total = more(total, recorder.held())?;
-        left = rest;
+    for i in 0..recorders.len() {
+        total = more(total, recorders[i].held())?;
     }
     Ok(total)
 }
 
 // What so many streams hold.
+#[tactic(auto, using(crate::proofs::Totals::next_within))]
 fn streams_hold(streams: u32, port: &Sole) -> Result<u64, OutOfMemory>
     requires { streams ≤ length port.now.rules.names }
-    ensures { IfOk result (λ n. n ≡ streams_hold port.now streams) }
+    ensures sum { IfOk result (λ n. n ≡ streams_hold port.now streams) }
+    ensures most { IfOk result (λ n. n ≤ streams * (port.now.rules.limits.bytes + 196608)) }
 {
     let mut total: u64 = 0;
     for n in 0..streams {
@@ -202,7 +204,9 @@ fn streams_hold(streams: u32, port: &Sole) -> Result<u64, OutOfMemory>
 // What all hold together.
 pub(crate) fn total_of(streams: u32, cast: &Cast) -> Result<u64, OutOfMemory>
     requires { streams ≤ length cast.now.port.rules.names }
-    ensures { IfOk result (λ n. IsTotal streams cast.now n) }
+    ensures total { IfOk result (λ n. IsTotal streams cast.now n) }
+    ensures within { (l : AllLimits) → IsLimited l cast.now
+        → IfOk result (λ n. n ≤ total_of l streams (length cast.now.sessions) (length cast.now.recorders)) }
 {
     let sessions = sessions_hold(cast.sessions())?;
     let recorders = recorders_hold(cast.recorders())?;
@@ -222,6 +226,7 @@ pub(crate) fn report(
     requires names { length cast.now.port.rules.names ≡ streams }
     requires few { streams ≤ 64 }
     requires sessions { length cast.now.sessions ≤ 64 }
+    requires limited { IsLimited limits.now cast.now }
     ensures { IfOk result (λ text. IsReport limits.now streams cast.now text) }
 {
     let Ok(recorders) = u32::try_from(cast.recorders().len()) else {

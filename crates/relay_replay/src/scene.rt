@@ -199,21 +199,28 @@ fn names_of(alloc: Global, places: &[PlaceRule]) -> Result<NameList, OutOfMemory
     Ok(names)
 }
 
-// The recorder with that number, as it is planned.
-fn recording_at(alloc: Global, plans: &[Plan], i: usize) -> Result<Recording, OutOfMemory>
+// The recorder with that number, as it is planned. It writes units of at most `longest` bytes.
+fn recording_at(
+    alloc: Global,
+    plans: &[Plan],
+    i: usize,
+    longest: u32,
+) -> Result<Recording, OutOfMemory>
     requires { i < length plans.now }
-    ensures { IfOk result (λ r. IsNewRecorder (2 ^ 60 + i) (slice_index_or plans.now i no_plan) r) }
+    ensures new { IfOk result (λ r. IsNewRecorder (2 ^ 60 + i) (slice_index_or plans.now i no_plan) r) }
+    ensures longest { IfOk result (λ r. r.recorder.tape.longest ≡ longest) }
 {
-    Recording::new(alloc, plans[i], FIRST_RECORDER + i as u64)
+    Recording::new(alloc, plans[i], FIRST_RECORDER + i as u64, longest)
 }
 
 // The recorders that are planned.
-fn recordings(alloc: Global, plans: &[Plan]) -> Result<Vec<Recording>, OutOfMemory>
-    ensures { IfOk result (λ rs. AreNew 0 plans.now rs.items) }
+fn recordings(alloc: Global, plans: &[Plan], longest: u32) -> Result<Vec<Recording>, OutOfMemory>
+    ensures new { IfOk result (λ rs. AreNew 0 plans.now rs.items) }
+    ensures longest { IfOk result (λ rs. All (λ r. r.recorder.tape.longest ≡ longest) rs.items) }
 {
     let mut list = Vec::new(alloc);
     for i in 0..plans.len() {
-        list.push(recording_at(alloc, plans, i)?)?;
+        list.push(recording_at(alloc, plans, i, longest)?)?;
     }
     Ok(list)
 }
@@ -232,7 +239,7 @@ fn new_cast(
 {
     let names = names_of(alloc, places)?;
     let port = Sole::new(alloc, names, stream_limits(limits))?;
-    let recorders = recordings(alloc, plans)?;
+    let recorders = recordings(alloc, plans, limits.max_message)?;
     Ok(Cast::new(alloc, port, recorders))
 }
 
@@ -504,6 +511,7 @@ impl Scene {
     }
 
     // Does what a line says that acts.
+    #[tactic(auto, using(crate::proofs::Limiting::acted_limited))]
     fn play(&mut self, guards: &Guards, line: ReplayLine) -> Result<(), OutOfMemory>
         requires sound { IsSound self.old }
         requires allowed { allows line (stand_of self.old) ≡ true }
@@ -519,6 +527,7 @@ impl Scene {
     }
 
     // Does what a line says that may stand here.
+    #[tactic(auto, using(crate::proofs::Limiting::limited_if, crate::proofs::Limiting::none_limited))]
     fn obey(&mut self, guards: &Guards, line: ReplayLine) -> Result<(), OutOfMemory>
         requires sound { IsSound self.old }
         requires allowed { allows line (stand_of self.old) ≡ true }
@@ -592,6 +601,7 @@ impl Scene {
     }
 
     // The same of a session that is there.
+    #[tactic(auto, using(crate::proofs::Limiting::settled_limited))]
     fn settled(&mut self, guards: &Guards, session: u32, most: u32) -> Result<bool, OutOfMemory>
         requires sound { IsSound self.old }
         requires there { has_session session (stand_of self.old) ≡ true }
@@ -608,6 +618,7 @@ impl Scene {
     /// What a run comes to: how many units the first stream was given, of each session but the first how many items it was
     /// sent of that stream, how often it skipped and how many bytes it was sent, and what all hold together, beside the most that
     /// they may. Nothing runs then.
+    #[tactic(auto, using(crate::proofs::Limiting::opened_limited))]
     pub fn summary(&mut self) -> Result<Bytes, OutOfMemory>
         requires sound { IsSound self.old }
         requires some { 0 < length self.old.places }
@@ -620,6 +631,7 @@ impl Scene {
 
     /// What is printed at the script's end: of each session what it was sent and how it ended, of each recorder its file
     /// and how it ended, what each stream holds, and what all hold together, beside the most that they may. Nothing runs then.
+    #[tactic(auto, using(crate::proofs::Limiting::opened_limited))]
     pub fn report(&mut self) -> Result<Bytes, OutOfMemory>
         requires { IsSound self.old }
         ensures prints { IfOk result (λ text. Prints self.old text) }

@@ -1,4 +1,5 @@
 ghost use Rattle.std.specs.Prelude.{◌≡◌, ◌++◌, ◌≤◌, ◌<◌, drop, length, IfOk, OnOk, string_bytes};
+ghost use Rattle.relay_replay.specs.Scenes.{IsLimited};
 ghost use Rattle.relay_replay.specs.Sums.{IsSummary, is_sent, items_to, player_line, players_text, pushed_line, pushes, skips_to};
 ghost use Rattle.stream_model.specs.Counts.{is_pushed, is_skip};
 
@@ -129,6 +130,7 @@ pub(crate) fn summary(
     requires some { 0 < streams }
     requires few { streams ≤ 64 }
     requires sessions { length cast.now.sessions ≤ 64 }
+    requires limited { IsLimited limits.now cast.now }
     ensures { IfOk result (λ text. IsSummary limits.now streams cast.now text) }
 {
     let Ok(recorders) = u32::try_from(cast.recorders().len()) else {

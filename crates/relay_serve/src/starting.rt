@@ -74,6 +74,7 @@ fn new_recorder<K: Sink>(
     alloc: Global,
     place: u32,
     form: Form,
+    longest: u32,
     file: K,
 ) -> Result<ServeRecorder<K>, OutOfMemory>
     requires { IsNewFile (K.holds file) (K.faults file) }
@@ -83,8 +84,8 @@ fn new_recorder<K: Sink>(
 {
     let who = recorder_name(place, form);
     match form {
-        Form::Flv => Ok(Recorder::Flv(FlvRecorder::new(alloc, place, who)?, file)),
-        Form::Ts => Ok(Recorder::Ts(TsRecorder::new(alloc, place, who)?, file)),
+        Form::Flv => Ok(Recorder::Flv(FlvRecorder::new(alloc, place, who, longest)?, file)),
+        Form::Ts => Ok(Recorder::Ts(TsRecorder::new(alloc, place, who, longest)?, file)),
     }
 }
 
@@ -95,6 +96,7 @@ fn open_recording<H: House>(
     worker: &mut ServeWorker<H::Door, H::Rest, H::File>,
     place: u32,
     form: Form,
+    longest: u32,
     name: &[u8],
 ) -> Result<(), OpenFail>
     requires { place < length (shared_rules worker.old.bench.port).names }
@@ -105,7 +107,7 @@ fn open_recording<H: House>(
     let Some(file) = house.file(name) else {
         return Err(OpenFail::HouseFault);
     };
-    let Ok(recorder) = new_recorder(alloc, place, form, file) else {
+    let Ok(recorder) = new_recorder(alloc, place, form, longest, file) else {
         return Err(OpenFail::OutOfMemory);
     };
     let Ok(()) = worker.enlist(recorder) else {
@@ -121,6 +123,7 @@ fn open_if<H: House>(
     worker: &mut ServeWorker<H::Door, H::Rest, H::File>,
     place: u32,
     form: Form,
+    longest: u32,
     name: &Option<Bytes>,
 ) -> Result<(), OpenFail>
     requires { place < length (shared_rules worker.old.bench.port).names }
@@ -129,7 +132,7 @@ fn open_if<H: House>(
     ensures asked { H.asked house.new ≡ H.asked house.old }
 {
     match name {
-        Some(name) => open_recording(alloc, house, worker, place, form, name.as_slice()),
+        Some(name) => open_recording(alloc, house, worker, place, form, longest, name.as_slice()),
         None => Ok(()),
     }
 }
@@ -140,6 +143,7 @@ fn open_place<H: House>(
     house: &mut H,
     worker: &mut ServeWorker<H::Door, H::Rest, H::File>,
     place: u32,
+    longest: u32,
     rule: &PlaceRule,
 ) -> Result<(), OpenFail>
     requires { place < length (shared_rules worker.old.bench.port).names }
@@ -147,8 +151,8 @@ fn open_place<H: House>(
     ensures house { MatchResult result (λ _. H.told house.new ≡ H.told house.old) (λ fail. HouseCause fail (H.told house.old) (H.told house.new)) }
     ensures asked { H.asked house.new ≡ H.asked house.old }
 {
-    open_if(alloc, house, worker, place, Form::Flv, &rule.flv)?;
-    open_if(alloc, house, worker, place, Form::Ts, &rule.ts)?;
+    open_if(alloc, house, worker, place, Form::Flv, longest, &rule.flv)?;
+    open_if(alloc, house, worker, place, Form::Ts, longest, &rule.ts)?;
     Ok(())
 }
 
@@ -160,6 +164,7 @@ fn open_own_place<H: House>(
     number: u32,
     workers: u32,
     place: u32,
+    longest: u32,
     rule: &PlaceRule,
 ) -> Result<(), OpenFail>
     requires some { 0 < workers }
@@ -172,7 +177,7 @@ fn open_own_place<H: House>(
     if place % workers != number {
         return Ok(());
     }
-    open_place(alloc, house, worker, place, rule)
+    open_place(alloc, house, worker, place, longest, rule)
 }
 
 // The recordings of the worker with that number.
@@ -192,7 +197,16 @@ fn open_own<H: House>(
     let mut place = 0;
     let mut left = config.places.as_slice();
     while let [rule, rest @ ..] = left {
-        open_own_place(alloc, house, worker, number, config.workers, place, rule)?;
+        open_own_place(
+            alloc,
+            house,
+            worker,
+            number,
+            config.workers,
+            place,
+            config.limits.max_message,
+            rule,
+        )?;
         place += 1;
         left = rest;
     }

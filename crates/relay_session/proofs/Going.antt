@@ -6,6 +6,7 @@ use Rattle.relay_session.specs.Feeding.{Decides, Fixed, Heard, Hears, IsFed, IsS
 use Rattle.stream_model.specs.declared.calls.Entry.{Entry}
 use Rattle.relay_session.proofs.Room.{room_none}
 use Rattle.relay_session.specs.Bounds.{IsLight, weight}
+use Rattle.relay_session.specs.Holding.{HandFits}
 use Rattle.relay_session.specs.Keeping.{HasEnded, IsSound, StandsBefore}
 use Rattle.relay_session.specs.declared.core_fields.Core.{Core}
 use Rattle.relay_session.specs.declared.end.End.{End}
@@ -18,6 +19,7 @@ pub record IsFeeding (desk : Ask → Grant) (old : Core) (input : List ℕ) (now
   pub heard : heard_of now ≡ heard_of old
   pub idle : now.kept ≡ None
   pub light : weight now.outgoing.others now.x now.inbound + 356 * length left ≤ weight old.outgoing.others old.x old.inbound + 356 * length input
+  pub fits : HandFits old → HandFits now
 
 pub feeding_start : (desk : Ask → Grant) (c : Core) (input : List ℕ) → IsSound c → c.kept ≡ None → IsFeeding desk c input c input
 feeding_start desk c input l k = record {
@@ -27,6 +29,7 @@ feeding_start desk c input l k = record {
   heard = refl;
   idle = k;
   light = omega arith;
+  fits = λ f. f;
 }
 
 pub fed_then : (a b c : Core) (i j k : List ℕ) → IsFed a i b j → IsFed b j c k → IsFed a i c k
@@ -40,14 +43,15 @@ fed_then a b c i j k f g = record {
 
 pub feeding_more : (desk : Ask → Grant) (old now next : Core) (input left rest : List ℕ) → IsFeeding desk old input now left → IsFed now left next rest → Hears desk now next false → IsSound next
     → (StandsBefore desk now → StandsBefore desk next)
-    → weight next.outgoing.others next.x next.inbound + 356 * length rest ≤ weight now.outgoing.others now.x now.inbound + 356 * length left → IsFeeding desk old input next rest
-feeding_more desk old now next input left rest f g h l st li = record {
+    → weight next.outgoing.others next.x next.inbound + 356 * length rest ≤ weight now.outgoing.others now.x now.inbound + 356 * length left → (HandFits now → HandFits next) → IsFeeding desk old input next rest
+feeding_more desk old now next input left rest f g h l st li fi = record {
   sound = l;
   stands = λ s. st (f.stands s);
   fed = fed_then old now next input left rest f.fed g;
   heard = h ∙ f.heard;
   idle = ap (λ (x : Heard). x.kept) h ∙ f.idle;
   light = omega (arith, li, f.light);
+  fits = λ u. fi (f.fits u);
 }
 
 -- a piece of what is left, which is all of it
@@ -56,10 +60,10 @@ fed_left now next piece left rest used pe re f = rw re (subst (λ (l : List ℕ)
 
 pub feeding_step : (desk : Ask → Grant) (old now next : Core) (input left piece rest : List ℕ) (used : ℕ) (ended : Bool) → piece ≡ left → rest ≡ drop used left → ended ≡ false → IsFeeding desk old input now left
     → IsFed now piece next (drop used piece) → Hears desk now next ended → IsSound next → (StandsBefore desk now → StandsBefore desk next)
-    → used ≤ length piece → (ended ≡ false → weight next.outgoing.others next.x next.inbound ≤ weight now.outgoing.others now.x now.inbound + 356 * used) → IsFeeding desk old input next rest
-feeding_step desk old now next input left piece rest used ended pe re ee f g h l st le q =
+    → used ≤ length piece → (ended ≡ false → weight next.outgoing.others next.x next.inbound ≤ weight now.outgoing.others now.x now.inbound + 356 * used) → (HandFits now → HandFits next) → IsFeeding desk old input next rest
+feeding_step desk old now next input left piece rest used ended pe re ee f g h l st le q fi =
     feeding_more desk old now next input left rest f (fed_left now next piece left rest used pe re g) (subst (Hears desk now next) ee h) l st
-    (omega (arith, q ee, ap length re, length-drop used left, le, ap length pe))
+    (omega (arith, q ee, ap length re, length-drop used left, le, ap length pe)) fi
 
 -- a piece was fed, so there are more bytes
 pub grows_then : (old now next : Core) (input left piece : List ℕ) (used : ℕ) → IsFed old input now left → IsFed now piece next (drop used piece) → 0 < used → used ≤ length piece → length old.x < length next.x
@@ -79,9 +83,9 @@ pub light_fed : (n : ℕ) (kept : Option Entry) → 16 * n ≤ 186694 → IsLigh
 light_fed n None le = omega (arith, le)
 light_fed n (Some e) le = omega (arith, le)
 
-pub ended_fed : (old new : Core) (input : List ℕ) (e : End) → IsSound old → IsStopped old input e new → old.kept ≡ None → 16 * new.outgoing.others ≤ 186694 → HasEnded new
-ended_fed old new input e l s k le =
-    record { counted = s.counted; room = room_none new.reader new.kept (s.kept ∙ k) (omega (arith, l.short, ap (λ (x : Fixed). x.max) s.fixed)); light = light_fed new.outgoing.others new.kept le }
+pub ended_fed : (old new : Core) (input : List ℕ) (e : End) → IsSound old → IsStopped old input e new → old.kept ≡ None → 16 * new.outgoing.others ≤ 186694 → HandFits new → HasEnded new
+ended_fed old new input e l s k le fi =
+    record { counted = s.counted; room = room_none new.reader new.kept (s.kept ∙ k) (omega (arith, l.short, ap (λ (x : Fixed). x.max) s.fixed)); light = light_fed new.outgoing.others new.kept le; fits = fi }
 
 decides_same : (n max : ℕ) (h k : Heard) (y z : List ℕ) (e : End) (other : ℕ) → max ≡ other → h ≡ k → y ≡ z → Decides max h y n e → Decides other k z n e
 decides_same n max h k y z e other me he ye d =

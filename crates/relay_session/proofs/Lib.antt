@@ -16,6 +16,8 @@ pub mod Going
 pub mod Turning
 pub mod Rounds
 pub mod Whole
+pub mod Fitting
+pub mod Lasting
 pub mod Onwards
 pub mod SeatStanding
 pub mod SeatOwn

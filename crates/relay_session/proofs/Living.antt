@@ -92,10 +92,10 @@ window_start : (w : ℕ) → new_in w ≡ inbound w 0 []
 unfolding window_after
 window_start w = refl
 
-pub before_new : (desk : Ask → Grant) (who window : ℕ) (k : Handshake) (r : ReaderKnown) (i : InWindow) (b : OutWindow) (s : State) (o : Owing) (x sent : List ℕ) (calls : List Own)
+pub before_new : (desk : Ask → Grant) (who window longest : ℕ) (k : Handshake) (r : ReaderKnown) (i : InWindow) (b : OutWindow) (s : State) (o : Owing) (x sent : List ℕ) (calls : List Own)
     → r.given ≡ [] → i ≡ new_in window → s ≡ fresh window → o ≡ nothing → x ≡ [] → calls ≡ [] → sent ≡ []
-    → StandsBefore desk (record { who = who; window = window; hand = k; reader = r; inbound = i; outbound = b; greeting = 3073; dialog = s; outgoing = o; kept = None; place = None; fed = 0; x = x; calls = calls; sent = sent })
-before_new desk who window k r i b s o x sent calls re ie se oe xe ce te =
+    → StandsBefore desk (record { who = who; window = window; longest = longest; hand = k; reader = r; inbound = i; outbound = b; greeting = 3073; dialog = s; outgoing = o; kept = None; place = None; fed = 0; x = x; calls = calls; sent = sent })
+before_new desk who window longest k r i b s o x sent calls re ie se oe xe ce te =
     let d = session who window desk in
     rw (re, xe, ce, te) (keeps_same d new_past [] (pending o) writer.fresh o.writer (inbound window 0 []) i (fresh window) s (ap pending oe) (ap (λ (v : Owing). v.writer) oe) (ie ∙ window_start window) se (stands_new d))
 

@@ -5,7 +5,7 @@ use Rattle.command_dialog.specs.declared.types.Ask.{Ask}
 use Rattle.command_dialog.specs.declared.types.Grant.{Grant}
 use Rattle.session_owed.specs.Chunks.{Hand, rest_by}
 use Rattle.relay_session.specs.Owing.{Owing, owing, pending}
-use Rattle.relay_session.specs.SessionState.{BeginsOwed, IsLiving, IsUnsent, StandsBy}
+use Rattle.relay_session.specs.SessionState.{BeginsOwed, IsLiving, IsUnsent, StandsBy, pending_by}
 use Rattle.relay_session.proofs.Stopping.{read_here}
 use Rattle.relay_session.specs.declared.core_fields.Core.{Core}
 use Rattle.relay_session.specs.declared.end.End.{End}
@@ -18,7 +18,7 @@ pending_sum o first offset item hand later w ready unit after is r u a =
     let last : length o.later ≡ length later = sym (ap (λ (p : Owing). length p.later) is) in
     omega (arith, r, u, a, rest, last, length-append o.ready o.rest, length-append (rest_by hand) later)
 
-pub unsent_by : (e : Option End) (desk : Ask → Grant) (c : Core) (n : ℕ) → IsLiving e c → StandsBy e desk c → n ≡ length (pending c.outgoing) → IsUnsent e desk c n
+pub unsent_by : (e : Option End) (desk : Ask → Grant) (c : Core) (n : ℕ) → IsLiving e c → StandsBy e desk c → n ≡ pending_by e c → IsUnsent e desk c n
 unsent_by None desk c n l s is = (pending c.outgoing, (record { ms = c.reader.given; read = read_here c l.sound; owes = s.owes }, is))
 unsent_by (Some e) desk c n l s is = (s.more, record { ms = s.ms; read = s.read; owes = s.owes })
 

@@ -10,6 +10,7 @@ use Rattle.session_owed.proofs.Publishing.{published_are}
 use Rattle.relay_session.proofs.Stopping.{read_here}
 use Rattle.relay_session.proofs.Room.{room_none}
 use Rattle.relay_session.specs.Bounds.{HasRoom, IsLight}
+use Rattle.relay_session.specs.Holding.{HandFits}
 use Rattle.relay_session.specs.Keeping.{IsSteady, StandsBefore}
 use Rattle.relay_session.specs.SeatState.{KeptOrMade, LeavesFrom}
 use Rattle.relay_session.specs.SeatVisits.{Visit}
@@ -53,10 +54,14 @@ pub living_light : (o : Option End) (c : Core) → IsLiving o c → IsLight c.ou
 living_light None c l = l.light
 living_light (Some e) c l = l.light
 
+pub living_fits : (o : Option End) (c : Core) → IsLiving o c → HandFits c
+living_fits None c l = l.fits
+living_fits (Some e) c l = l.fits
+
 -- closed, where the call that waited may have been made
 pub living_closed : (o : Option End) (e : End) (c : Core) (kept : Option Entry) → IsLiving o c → (kept ≡ c.kept) ⊎ (kept ≡ None) → IsLiving (Some e) (record c { kept = kept })
-living_closed o e c kept l (inl k) = rw k (record { counted = living_counted o c l; room = living_room o c l; light = living_light o c l })
-living_closed o e c kept l (inr k) = rw k (record { counted = living_counted o c l; room = room_none c.reader None refl (living_room o c l).short; light = light_none c.outgoing.others c.kept (living_light o c l) })
+living_closed o e c kept l (inl k) = rw k (record { counted = living_counted o c l; room = living_room o c l; light = living_light o c l; fits = living_fits o c l })
+living_closed o e c kept l (inr k) = rw k (record { counted = living_counted o c l; room = room_none c.reader None refl (living_room o c l).short; light = light_none c.outgoing.others c.kept (living_light o c l); fits = living_fits o c l })
   where
     light_none : (n : ℕ) (k : Option Entry) → IsLight n k → IsLight n None
     light_none n None li = li

@@ -1,5 +1,5 @@
 -- What a session holds: the lengths of its lists of bytes, each counted once
-use Rattle.std.specs.Prelude.{◌≡◌, ℕ, ◌+◌, List, length, Option, Some, None, is_some, true, false}
+use Rattle.std.specs.Prelude.{◌≡◌, ◌≤◌, ℕ, ◌+◌, List, length, Option, Some, None, is_some, true, false}
 use Rattle.chunk_reader.specs.Feeds.{IsHeld}
 use Rattle.chunk_reader.specs.ReaderKnown.{ReaderKnown}
 use Rattle.command_dialog.specs.State.{app_length}
@@ -50,6 +50,14 @@ pub record IsHolding (c : Core) (input : List ℕ) (n : ℕ) : Type 0 where
   pub parts : ℕ
   pub read : IsParts c.reader parts
   pub sum : n ≡ sum_of (held_with c input parts)
+
+-- a unit in hand is no longer than the longest message that the session takes
+pub record UnitFits (hand : Option Hand) (longest max : ℕ) : Type 0 where
+  pub unit : unit_bytes hand ≤ longest
+  pub same : longest ≡ max
+
+abbrev pub HandFits : Core → Type 0
+HandFits c = UnitFits c.outgoing.hand c.longest c.reader.max
 
 -- IT HOLDS NO MORE THAN so many bytes, where it takes messages of at most M bytes and no unit that it sends is longer than m:
 -- 4,096 of input; M and 65,536 of messages in progress, with the unit of the call that waits; 32,768 of answers, of encoded

@@ -13,6 +13,7 @@ use Rattle.session_owed.specs.Standing.{Past, Keeps, Stands}
 use Rattle.session_owed.specs.Talk.{hand_bytes}
 use Rattle.session_owed.specs.Talks.{Talks}
 use Rattle.relay_session.specs.Bounds.{Acts, HasRoom, IsLight}
+use Rattle.relay_session.specs.Holding.{HandFits}
 use Rattle.relay_session.specs.Owing.{pending}
 use Rattle.relay_session.specs.Session.{session}
 use Rattle.relay_session.specs.declared.core_fields.Core.{Core}
@@ -71,13 +72,15 @@ pub record IsOver (desk : Ask → Grant) (c : Core) : Type 0 where
   pub owes : c.sent ++ more ≡ out (session c.who c.window desk) c.x ms c.calls
   pub talks : Talks (session c.who c.window desk) (count_of (session c.who c.window desk) c.x) ms c.calls c.kept
 
--- between the steps of a turn: it is sound, and not many answers wait
+-- between the steps of a turn: it is sound, not many answers wait, and the unit in hand is no longer than a message that it takes
 pub record IsSteady (c : Core) : Type 0 where
   pub sound : IsSound c
   pub light : IsLight c.outgoing.others c.kept
+  pub fits : HandFits c
 
 -- of one that has ended: its bytes are counted, and what it holds still has its bounds
 pub record HasEnded (c : Core) : Type 0 where
   pub counted : c.fed ≡ length c.x
   pub room : HasRoom c.reader c.kept
   pub light : IsLight c.outgoing.others c.kept
+  pub fits : HandFits c

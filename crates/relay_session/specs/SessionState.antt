@@ -8,6 +8,7 @@ use Rattle.session_owed.specs.Owed.{out}
 use Rattle.session_owed.specs.Published.{published, pushed_by, pushed_in}
 use Rattle.session_owed.specs.Talk.{hand_bytes}
 use Rattle.relay_session.specs.Keeping.{HasEnded, IsOver, IsSteady, StandsBefore}
+use Rattle.relay_session.specs.Owing.{pending}
 use Rattle.relay_session.specs.SeatState.{SeatState}
 use Rattle.relay_session.specs.Session.{session}
 use Rattle.relay_session.specs.Turns.{Gone, Life, gone_of, life}
@@ -57,6 +58,11 @@ pub record Owes (desk : Ask → Grant) (c : Core) (more : List ℕ) : Type 0 whe
 abbrev pub BeginsOwed : (Ask → Grant) → Core → Type 0
 BeginsOwed desk c = (more : List ℕ) × Owes desk c more
 
+-- how many bytes are pending: none of a session that has ended, which owes nothing more
+abbrev pub pending_by : Option End → Core → ℕ
+pending_by None c = length (pending c.outgoing)
+pending_by (Some e) c = 0
+
 -- of one that lives, so many bytes more are owed
 abbrev pub IsUnsent : Option End → (Ask → Grant) → Core → ℕ → Type 0
 IsUnsent None desk c n = (more : List ℕ) × (Owes desk c more × (n ≡ length more))
@@ -78,6 +84,15 @@ ended_by (Ended e) = Some e
 abbrev pub end_or_quit : Option End → End
 end_or_quit None = Quit
 end_or_quit (Some e) = e
+
+-- what a session keeps as it was made
+pub record Lasting : Type 0 where
+  pub who : ℕ
+  pub window : ℕ
+  pub max : ℕ
+
+abbrev pub lasting_of : Core → Lasting
+lasting_of c = record { who = c.who; window = c.window; max = c.reader.max }
 
 -- all but the call that waits
 abbrev pub gone_but_kept : Core → Gone

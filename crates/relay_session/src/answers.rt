@@ -6,6 +6,7 @@ ghost use Rattle.command_dialog.specs.Dialog.{call_of, shown};
 ghost use Rattle.command_dialog.specs.Dialog.{does as dialog_does};
 ghost use Rattle.command_dialog.specs.Meaning.{meaning};
 ghost use Rattle.session_owed.specs.Acks.{window_by, windowed};
+ghost use Rattle.relay_session.specs.Holding.{unit_bytes};
 ghost use Rattle.relay_session.specs.Owing.{Says, Shows, Takes, pending};
 ghost use Rattle.relay_session.specs.Session.{commands, does, ended_by, entry_by, item_in, outbound_after};
 ghost use Rattle.relay_session.specs.Session.{outbound_by, place_by, place_of, pongs, refused, told};
@@ -53,6 +54,7 @@ fn answer_control(
 ) -> Result<(), OutOfMemory>
     ensures said { OnOk result (Says outgoing.old (pongs (ping_answer_of control)) outgoing.new) }
     ensures light { 16 * outgoing.new.others ≤ 16 * outgoing.old.others + 4640 }
+    ensures unit { unit_bytes outgoing.new.hand ≤ unit_bytes outgoing.old.hand }
 {
     match ping_answer(&control) {
         None => Ok(()),
@@ -123,6 +125,7 @@ fn answer_command<D: Desk>(
     ensures ok { OnOk result (ended_by last (meaning dialog.old message) ≡ None) }
     ensures err { IfErr result (λ e. (e ≡ end.OutOfMemory) ⊎ (ended_by last (meaning dialog.old message) ≡ Some e)) }
     ensures light { 16 * outgoing.new.others ≤ 16 * outgoing.old.others + 4640 }
+    ensures unit { unit_bytes outgoing.new.hand ≤ unit_bytes outgoing.old.hand }
 {
     let meant = match dialog.asks(alloc, &message) {
         Ok(meant) => meant,
@@ -165,6 +168,7 @@ pub(crate) fn answer<D: Desk>(
     ensures ok { OnOk result (refused last dialog.old message ≡ None) }
     ensures err { IfErr result (λ e. (e ≡ end.OutOfMemory) ⊎ (refused last dialog.old message ≡ Some e)) }
     ensures light { 16 * outgoing.new.others ≤ 16 * outgoing.old.others + 4640 }
+    ensures unit { unit_bytes outgoing.new.hand ≤ unit_bytes outgoing.old.hand }
 {
     match control_of(&message) {
         Err(_) => Err(End::BadControl { at: last }),
@@ -197,6 +201,7 @@ pub(crate) fn hear(
     ensures state { OnOk result (dialog.new ≡ (told dialog.old reply.now).state) }
     ensures said { OnOk result (Says outgoing.old (told dialog.old reply.now).says outgoing.new) }
     ensures light { 16 * outgoing.new.others ≤ 16 * outgoing.old.others + 7036 }
+    ensures unit { unit_bytes outgoing.new.hand ≤ unit_bytes outgoing.old.hand }
 {
     match dialog.answered(alloc, reply) {
         Err(_) => Err(OutOfMemory),
@@ -226,13 +231,20 @@ fn item_of(reply: Reply) -> Option<Item>
 }
 
 // What a player on that message stream is shown of an item is to be sent.
-fn show(alloc: Global, id: u32, item: Item, outgoing: &mut Outgoing) -> Result<(), OutOfMemory>
+fn show(
+    alloc: Global,
+    id: u32,
+    longest: u32,
+    item: Item,
+    outgoing: &mut Outgoing,
+) -> Result<(), OutOfMemory>
     requires { pending outgoing.old ≡ [] }
     ensures shown { OnOk result (Shows outgoing.old (shown id item) outgoing.new) }
     ensures light { outgoing.new.others ≤ outgoing.old.others }
+    ensures unit { unit_bytes outgoing.old.hand ≤ longest → unit_bytes outgoing.new.hand ≤ longest }
 {
     match item {
-        Item::Unit(unit) => outgoing.show_unit(alloc, id, unit),
+        Item::Unit(unit) => outgoing.show_unit(alloc, id, longest, unit),
         Item::Begin => {
             let list = begin_messages(alloc, id)?;
             outgoing.show_all(alloc, list.as_slice())
@@ -245,19 +257,22 @@ fn show(alloc: Global, id: u32, item: Item, outgoing: &mut Outgoing) -> Result<(
 }
 
 /// Does what the reply to a Take makes, for a player on that message stream who has nothing to be sent: what the player is
-/// shown of the item is to be sent. A reply that brings no item owes nothing.
+/// shown of the item is to be sent. A reply that brings no item owes nothing. There is no memory for a unit of more than
+/// `longest` bytes.
 pub(crate) fn take_in(
     alloc: Global,
     id: u32,
+    longest: u32,
     reply: Reply,
     outgoing: &mut Outgoing,
 ) -> Result<(), OutOfMemory>
     requires { pending outgoing.old ≡ [] }
     ensures takes { OnOk result (Takes outgoing.old (option_map_or (shown id) (item_in reply) []) outgoing.new) }
     ensures light { outgoing.new.others ≤ outgoing.old.others }
+    ensures unit { unit_bytes outgoing.old.hand ≤ longest → unit_bytes outgoing.new.hand ≤ longest }
 {
     match item_of(reply) {
         None => Ok(()),
-        Some(item) => show(alloc, id, item, outgoing),
+        Some(item) => show(alloc, id, longest, item, outgoing),
     }
 }

@@ -1,6 +1,6 @@
-ghost use Rattle.std.specs.Prelude.{◌≡◌, ◌≤◌, ℕ, length};
+ghost use Rattle.std.specs.Prelude.{◌≡◌, ◌≤◌, length};
 ghost use Rattle.relay_session.specs.Bounds.{HasRoom, IsLight, call_bytes, kept_bytes};
-ghost use Rattle.relay_session.specs.Holding.{IsHolding, most_held, unit_bytes};
+ghost use Rattle.relay_session.specs.Holding.{HandFits, IsHolding, most_held};
 ghost use Rattle.relay_session.specs.Owing.{pending};
 
 use crate::Core;
@@ -36,8 +36,9 @@ fn kept_bytes(kept: &Option<Entry>) -> usize
 pub(crate) fn held_in(core: &Core, input: &Input) -> u64
     requires room { HasRoom core.now.reader core.now.kept }
     requires light { IsLight core.now.outgoing.others core.now.kept }
+    requires fits { HandFits core.now }
     ensures holds { IsHolding core.now input.now result }
-    ensures most { (m : ℕ) → unit_bytes core.now.outgoing.hand ≤ m → result ≤ most_held core.now.reader.max m }
+    ensures most { result ≤ most_held core.now.reader.max core.now.reader.max }
 {
     let app = core.dialog.held();
     let kept = kept_bytes(&core.kept) as u64;

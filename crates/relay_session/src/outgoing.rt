@@ -89,6 +89,7 @@ impl Outgoing {
         ensures bytes { OnOk result (pending self.new ≡ pending self.old ++ bytes.now) }
         ensures writer { OnOk result (self.new.writer ≡ self.old.writer) }
         ensures others { OnOk result (self.new.others ≡ self.old.others + length bytes.now) }
+        ensures unit { unit_bytes self.new.hand ≤ unit_bytes self.old.hand }
         ensures err { OnErr result (self.new ≡ self.old) }
     {
         match self.hand {
@@ -102,6 +103,7 @@ impl Outgoing {
         requires { IsSayable message.now }
         ensures said { OnOk result (Says self.old (message.now ∷ []) self.new) }
         ensures light { 16 * self.new.others ≤ 16 * self.old.others + cost_of message.now }
+        ensures unit { unit_bytes self.new.hand ≤ unit_bytes self.old.hand }
     {
         match self.hand {
             None => self.writer.put_message(message, &mut self.first),
@@ -114,6 +116,7 @@ impl Outgoing {
         requires { AreWritable messages.now }
         ensures said { OnOk result (Says self.old messages.now self.new) }
         ensures light { 16 * self.new.others ≤ 16 * self.old.others + costs_of messages.now }
+        ensures unit { unit_bytes self.new.hand ≤ unit_bytes self.old.hand }
     {
         match self.hand {
             None => write_all(&mut self.writer, messages, &mut self.first),
@@ -128,6 +131,7 @@ impl Outgoing {
         requires few { costs_of messages.now ≤ 8000 }
         ensures shown { OnOk result (Shows self.old messages.now self.new) }
         ensures light { self.new.others ≤ self.old.others }
+        ensures unit { unit_bytes self.new.hand ≤ unit_bytes self.old.hand }
     {
         let mut first = Bytes::new(alloc);
         write_all(&mut self.writer, messages, &mut first)?;
@@ -140,17 +144,22 @@ impl Outgoing {
     }
 
     /// Appends the message that a unit is on a message stream, where nothing is pending. The unit stays shared, and is
-    /// encoded as it is sent.
+    /// encoded as it is sent. There is no memory for one of more than `longest` bytes.
     pub fn show_unit(
         &mut self,
         alloc: Global,
         stream: u32,
+        longest: u32,
         unit: UnitArc,
     ) -> Result<(), OutOfMemory>
         requires { pending self.old ≡ [] }
         ensures shown { OnOk result (Shows self.old (unit_message stream unit ∷ []) self.new) }
         ensures light { self.new.others ≤ self.old.others }
+        ensures unit { unit_bytes self.old.hand ≤ longest → unit_bytes self.new.hand ≤ longest }
     {
+        if unit.unit().body.len() > longest as usize {
+            return Err(OutOfMemory);
+        }
         let hand = UnitInHand::begin(&mut self.writer, stream, unit)?;
         self.first = Bytes::new(alloc);
         self.offset = 0;
@@ -182,6 +191,7 @@ impl Outgoing {
         ensures others { OnOk result (self.new.others ≡ self.old.others) }
         ensures filled { OnOk result ((16384 ≤ length self.new.ready) ⊎ (self.new.rest ≡ [])) }
         ensures light { self.new.others ≤ self.old.others }
+        ensures unit { unit_bytes self.new.hand ≤ unit_bytes self.old.hand }
     {
         self.trim(alloc)?;
         self.encode(alloc)
@@ -194,6 +204,7 @@ impl Outgoing {
         ensures others { OnOk result (self.new.others ≡ self.old.others) }
         ensures filled { OnOk result ((16384 ≤ length self.new.ready) ⊎ (self.new.rest ≡ [])) }
         ensures light { self.new.others ≤ self.old.others }
+        ensures unit { unit_bytes self.new.hand ≤ unit_bytes self.old.hand }
     {
         match &mut self.hand {
             None => return Ok(()),
@@ -262,6 +273,7 @@ impl Outgoing {
         ensures rest { self.new.rest ≡ self.old.rest }
         ensures writer { self.new.writer ≡ self.old.writer }
         ensures others { self.new.others ≡ min self.old.others (length (pending self.new)) }
+        ensures unit { unit_bytes self.new.hand ≤ unit_bytes self.old.hand }
     {
         if count < self.first.len() - self.offset {
             self.offset += count;

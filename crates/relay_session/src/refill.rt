@@ -1,6 +1,7 @@
 ghost use Rattle.std.specs.Prelude.{◌≡◌, ◌≤◌, ◌⊎◌, [], length, OnOk, OnErr};
 ghost use Rattle.command_dialog.specs.declared.types.Ask.{Ask};
 ghost use Rattle.command_dialog.specs.declared.types.Grant.{Grant};
+ghost use Rattle.relay_session.specs.Holding.{HandFits};
 ghost use Rattle.relay_session.specs.Keeping.{IsOver, IsSound, StandsBefore};
 ghost use Rattle.relay_session.specs.Turns.{IsFilled, gone_of};
 
@@ -18,6 +19,7 @@ pub(crate) fn fill(core: &mut Core, alloc: Global) -> Result<(), OutOfMemory>
     ensures gone { gone_of core.new ≡ gone_of core.old }
     ensures reader { core.new.reader ≡ core.old.reader }
     ensures light { core.new.outgoing.others ≤ core.old.outgoing.others }
+    ensures fits { HandFits core.old → HandFits core.new }
     ensures over { (desk : Ask → Grant) → StandsBefore desk core.old → OnErr result (IsOver desk core.new) }
 {
     core.outgoing.fill(alloc)?;

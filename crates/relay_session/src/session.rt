@@ -3,13 +3,13 @@ ghost use Rattle.command_dialog.specs.declared.types.Ask.{Ask};
 ghost use Rattle.command_dialog.specs.declared.types.Grant.{Grant};
 ghost use Rattle.session_owed.specs.Standing.{new_past};
 ghost use Rattle.relay_session.specs.Causes.{Did, MayBe};
-ghost use Rattle.relay_session.specs.Holding.{IsHolding, most_held, unit_bytes};
+ghost use Rattle.relay_session.specs.Holding.{IsHolding, most_held};
 ghost use Rattle.relay_session.specs.Keeping.{past_of};
 ghost use Rattle.relay_session.specs.Owing.{pending};
 ghost use Rattle.relay_session.specs.Onward.{GoesOn};
 ghost use Rattle.relay_session.specs.Places.{Asked, IsAt, IsOffered};
 ghost use Rattle.relay_session.specs.SeatState.{GoOn, HasFit, IsElsewhere, LeaveFails, LeavesFrom, StandsAt, left_at, place_of};
-ghost use Rattle.relay_session.specs.SessionState.{BeginsOwed, IsUnsent, Publishes, StandsFor, end_or_quit, ended_by, gone_but_kept, life_at};
+ghost use Rattle.relay_session.specs.SessionState.{BeginsOwed, IsUnsent, Publishes, StandsFor, end_or_quit, ended_by, lasting_of, life_at, pending_by};
 ghost use Rattle.relay_session.specs.Turns.{EndedBy};
 
 use crate::body::Body;
@@ -102,6 +102,7 @@ impl<P: StreamPort> Session<P> {
         ensures goes_on { GoesOn P.fits P.rules P.root P.seen P.busies port.old self.old.seat port.new self.new.seat }
         ensures ended { self.new.ended ≡ ended_by result }
         ensures quit { self.new.quit ≡ self.old.quit }
+        ensures lasts { lasting_of self.new.parts ≡ lasting_of self.old.parts }
         ensures stands { StandsFor (D.grants desk.now) self.old → StandsFor (D.grants desk.now) self.new }
         ensures did { Did result (life_at self.old port.old) (life_at self.new port.new) }
         ensures may_be { MayBe result (P.busies port.old) (P.busies port.new) (L.counts link.old) (L.counts link.new) }
@@ -126,7 +127,7 @@ impl<P: StreamPort> Session<P> {
 
     /// Makes the call that waits, if there is one, and the End or Leave of what it was granted, and leaves the stream where it is.
     /// It has then ended, with `Quit` if it lived. Where the port was busy or had no memory it is still there, and is to be
-    /// closed again; the call that waits is kept unless it was made.
+    /// closed again; the call that waits is kept unless it was made. All else that it keeps stays.
     pub fn close(&mut self, port: &mut P) -> Leaving
         requires { HasFit (P.fits port.old) self.old.seat.spot }
         ensures fit { HasFit (P.fits port.new) self.new.seat.spot }
@@ -142,7 +143,7 @@ impl<P: StreamPort> Session<P> {
         ensures others { (q : ℕ) → IsElsewhere self.old.seat.spot q → P.root port.new q ≡ P.root port.old q }
         ensures passes { (q : ℕ) (p : P.Pass) → P.fits port.old q p → P.fits port.new q p }
         ensures ended { self.new.ended ≡ Some (end_or_quit self.old.ended) }
-        ensures gone { gone_but_kept self.new.parts ≡ gone_but_kept self.old.parts }
+        ensures parts { self.new.parts ≡ record self.old.parts { kept = self.new.parts.kept } }
         ensures untouched { (self.new.quit ≡ self.old.quit) × (self.new.input ≡ self.old.input) }
     {
         let who = self.body.core.who;
@@ -157,17 +158,20 @@ impl<P: StreamPort> Session<P> {
     /// unit that is being sent, which counts whole, of the unit that the call that waits publishes, and of its dialogue's app.
     pub fn held(&self) -> u64
         ensures holds { IsHolding self.now.parts self.now.input result }
-        ensures most { (m : ℕ) → unit_bytes self.now.parts.outgoing.hand ≤ m → result ≤ most_held self.now.parts.reader.max m }
+        ensures most { result ≤ most_held self.now.parts.reader.max self.now.parts.reader.max }
     {
         held_in(&self.body.core, &self.body.input)
     }
 
-    /// How many bytes it owes and hasn't sent; of one that has ended, those that it hadn't sent then.
+    /// How many bytes it owes and hasn't sent. One that has ended owes nothing more.
     pub fn pending(&self) -> u64
-        ensures value { result ≡ length (pending self.now.parts.outgoing) }
+        ensures value { result ≡ pending_by self.now.ended self.now.parts }
         ensures owed { (desk : Ask → Grant) → StandsFor desk self.now → IsUnsent self.now.ended desk self.now.parts result }
     {
-        pending_in(&self.body.core)
+        match self.ended {
+            None => pending_in(&self.body.core),
+            Some(_) => 0,
+        }
     }
 
     /// What it was sent begins what it owes before each desk for which it stands.

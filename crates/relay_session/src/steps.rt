@@ -8,6 +8,7 @@ ghost use Rattle.command_dialog.specs.declared.types.Ask.{Ask};
 ghost use Rattle.command_dialog.specs.declared.types.Grant.{Grant};
 ghost use Rattle.relay_session.specs.Bounds.{HasRoom, IsLight, weight};
 ghost use Rattle.relay_session.specs.Feeding.{Hears, IsCalled, IsFed, IsOthers, IsSent, IsStopped, heard_of, read_end};
+ghost use Rattle.relay_session.specs.Holding.{HandFits, unit_bytes};
 ghost use Rattle.relay_session.specs.Keeping.{IsOver, IsSound, StandsBefore, past_of, waiting};
 ghost use Rattle.relay_session.specs.Owing.{Says, pending};
 
@@ -43,11 +44,13 @@ pub fn new_core(alloc: Global, who: u64, window: u32, max_message: u32) -> Core
     ensures fixed { (result.who ≡ who) × (result.window ≡ window) × (result.reader.max ≡ max_message) }
     ensures nothing { pending result.outgoing ≡ [] }
     ensures light { IsLight result.outgoing.others result.kept }
+    ensures fits { HandFits result }
     ensures place { result.place ≡ None }
 {
     Core {
         who,
         window,
+        longest: max_message,
         hand: Hand::new(alloc),
         reader: Reader::new(alloc, max_message),
         inbound: Inbound::new(window),
@@ -76,6 +79,7 @@ fn acknowledge(
     ensures window { inbound.new ≡ in_took inbound.old n }
     ensures said { OnOk result (Says outgoing.old (ack_messages (ack_of inbound.old n)) outgoing.new) }
     ensures light { 16 * outgoing.new.others ≤ 16 * outgoing.old.others + 356 }
+    ensures unit { unit_bytes outgoing.new.hand ≤ unit_bytes outgoing.old.hand }
 {
     match inbound.took(n) {
         None => Ok(()),
@@ -99,6 +103,7 @@ pub fn hand_piece(core: &mut Core, alloc: Global, piece: &[u8]) -> Result<usize,
     ensures stopped { IfErr result (λ e. IsStopped core.old piece.now e core.new) }
     ensures over { (desk : Ask → Grant) → StandsBefore desk core.old → OnErr result (IsOver desk core.new) }
     ensures light { weight core.new.outgoing.others core.new.x core.new.inbound ≤ weight core.old.outgoing.others core.old.x core.old.inbound }
+    ensures fits { HandFits core.old → HandFits core.new }
 {
     let HandFed { used, out, done: _ } = match core.hand.feed(alloc, piece) {
         Ok(fed) => fed,
@@ -144,6 +149,7 @@ pub fn chunk_piece<D: Desk>(
         → weight core.new.outgoing.others core.new.x core.new.inbound ≤ weight core.old.outgoing.others core.old.x core.old.inbound + 356 * p.used) }
     ensures light { 16000 * core.new.outgoing.others
         ≤ weight core.old.outgoing.others core.old.x core.old.inbound + (356 * length piece.now + 4640000) }
+    ensures fits { HandFits core.old → HandFits core.new }
 {
     let room = core.inbound.room_to_next();
     let count = (piece.len() as u64).min(room) as usize;
@@ -228,6 +234,7 @@ pub fn hear_reply(
     ensures called { IsCalled (waiting core.old asked.value) asked.value reply.now core.new }
     ensures others { OnOk result (IsOthers core.old core.new) }
     ensures light { 16 * core.new.outgoing.others ≤ 16 * core.old.outgoing.others + 7036 }
+    ensures fits { HandFits core.old → HandFits core.new }
     ensures room { HasRoom core.new.reader core.new.kept }
     ensures over { (desk : Ask → Grant) → StandsBefore desk (waiting core.old asked.value) → OnErr result (IsOver desk core.new) }
 {
@@ -238,7 +245,7 @@ pub fn hear_reply(
 }
 
 /// Hears the reply to a Take, which is made where it plays and nothing is to be sent. A reply that brings no item owes
-/// nothing.
+/// nothing. A unit that is longer than the longest message is refused, as for want of memory.
 pub fn hear_item(
     core: &mut Core,
     alloc: Global,
@@ -257,11 +264,12 @@ pub fn hear_item(
     ensures called { IsCalled core.old asked.value reply core.new }
     ensures others { OnOk result (core.new.outgoing.others ≡ 0) }
     ensures light { core.new.outgoing.others ≤ core.old.outgoing.others }
+    ensures fits { HandFits core.old → HandFits core.new }
     ensures room { HasRoom core.new.reader core.new.kept }
     ensures over { (desk : Ask → Grant) → StandsBefore desk core.old → OnErr result (IsOver desk core.new) }
 {
     core.calls.add(&Pair::of(asked, &reply));
-    take_in(alloc, playing.id, reply, &mut core.outgoing)?;
+    take_in(alloc, playing.id, core.longest, reply, &mut core.outgoing)?;
     Ok(())
 }
 
@@ -272,6 +280,7 @@ pub fn note_sent(core: &mut Core, alloc: Global, count: usize)
     ensures sound { IsSound core.new }
     ensures stands { (desk : Ask → Grant) → StandsBefore desk core.old → StandsBefore desk core.new }
     ensures sent { IsSent core.old count core.new }
+    ensures fits { HandFits core.old → HandFits core.new }
 {
     let greeting = core.greeting.min(count as u64);
     core.greeting -= greeting;

@@ -1,6 +1,7 @@
 ghost use Rattle.std.specs.Prelude.{◌≡◌, ◌<◌, ◌≤◌, ◌+◌, ◌*◌, [], length, drop, None, true, false, IfOk, IfErr, OnOk, OnErr};
 ghost use Rattle.relay_session.specs.Bounds.{weight};
 ghost use Rattle.relay_session.specs.Feeding.{Hears, IsFed, IsStopped};
+ghost use Rattle.relay_session.specs.Holding.{HandFits};
 ghost use Rattle.relay_session.specs.Keeping.{IsOver, IsSound, StandsBefore};
 
 use crate::input::{Input, is_empty};
@@ -27,6 +28,7 @@ fn next_piece<D: Desk>(core: &mut Core, alloc: Global, desk: &D, piece: &[u8]) -
         → weight core.new.outgoing.others core.new.x core.new.inbound ≤ weight core.old.outgoing.others core.old.x core.old.inbound + 356 * p.used) }
     ensures light { 16000 * core.new.outgoing.others
         ≤ weight core.old.outgoing.others core.old.x core.old.inbound + (356 * length piece.now + 4640000) }
+    ensures fits { HandFits core.old → HandFits core.new }
 {
     if core.fed >= HAND_BYTES {
         return chunk_piece(core, alloc, desk, piece);
@@ -49,6 +51,7 @@ pub(crate) fn feed<D: Desk>(
     ensures sound { OnOk result (IsSound core.new) }
     ensures stands { StandsBefore (D.grants desk.now) core.old → OnOk result (StandsBefore (D.grants desk.now) core.new) }
     ensures light { 16 * core.new.outgoing.others ≤ 186694 }
+    ensures fits { HandFits core.old → HandFits core.new }
     ensures fed { OnOk result (IsFed core.old input.old core.new input.new) }
     ensures heard { IfOk result (λ loud. Hears (D.grants desk.now) core.old core.new loud) }
     ensures all { IfOk result (λ loud. loud ≡ false → input.new ≡ []) }

@@ -71,6 +71,7 @@ impl UnitInHand {
         ensures filled { OnOk result ((most ≤ length out.new - place) ⊎ (left self.new ≡ [])) }
         ensures grows { length out.old ≤ length out.new }
         ensures size { self.new.sending.size ≡ self.old.sending.size }
+        ensures body { self.new.body ≡ self.old.body }
         ensures bound { (b : ℕ) → most + (18 + self.old.sending.size) ≤ b → length out.old - place ≤ b → length out.new - place ≤ b }
     {
         let body = self.unit.unit().body.as_slice();

@@ -428,24 +428,24 @@ module _ {P Q L : Type 0} (rules : P → PortRules) (root : P → Histories) (se
 
     leaving_of : (x y : P) (e : End) (accounts : List Account) (s : Seated P L Q) (answer : Leaving) (now : SessionState Q) → s.session.ended ≡ Some e → Close x s.session answer y now → Here x accounts s → IsLeaving y e accounts s.link now
     leaving_of x y e accounts s answer now is c w =
-        let who_is : now.parts.who ≡ s.session.parts.who = ap (λ (g : Gone). g.who) c.gone in
+        let who_is : now.parts.who ≡ s.session.parts.who = ap (λ (g : Gone). g.who) (ap gone_but_kept c.parts) in
         let grown = grows_from (place_of s.session.seat.spot) s.session.parts.who s.session.parts.fed s.session.parts.kept s.session.seat.active s.session.seat.visits answer now.parts.kept now.seat.active now.seat.visits c.leaves in
         let max = t.limits.max_message in
         let tied : TiesBy max (Some e) (told s.link) (counts s.link) s.session.parts.x s.session.input s.session.parts.sent = subst (λ (o : Option End). TiesBy max o (told s.link) (counts s.link) s.session.parts.x s.session.input s.session.parts.sent) is w.ties in
-        let x_is : now.parts.x ≡ s.session.parts.x = ap (λ (g : Gone). g.x) c.gone in
+        let x_is : now.parts.x ≡ s.session.parts.x = ap (λ (g : Gone). g.x) (ap gone_but_kept c.parts) in
         record {
-          window = ap (λ (g : Gone). g.window) c.gone ∙ w.window;
-          max = ap (λ (g : Gone). g.max) c.gone ∙ w.max;
-          sent = subst (HasSent desk) (sym c.gone) (owes_over s.session.ended e desk s.session.parts is w.owes);
+          window = ap (λ (g : Gone). g.window) (ap gone_but_kept c.parts) ∙ w.window;
+          max = ap (λ (g : Gone). g.max) (ap gone_but_kept c.parts) ∙ w.max;
+          sent = subst (HasSent desk) (sym (ap gone_but_kept c.parts)) (owes_over s.session.ended e desk s.session.parts is w.owes);
           holds = holds_closed fits rules root seen count wants busies (place_of s.session.seat.spot) x y s.session now answer refl c (holds_of x accounts s w);
-          first_calls = subst (λ (l : List Own). Begins l (calls_of now.seat.visits)) (sym (ap (λ (g : Gone). g.calls) c.gone))
+          first_calls = subst (λ (l : List Own). Begins l (calls_of now.seat.visits)) (sym (ap (λ (g : Gone). g.calls) (ap gone_but_kept c.parts)))
               (begins_trans s.session.parts.calls (calls_of s.session.seat.visits) (calls_of now.seat.visits) w.first_calls grown.calls);
           own = subst (λ (n : ℕ). Owns n now.seat.visits now.parts.kept) (sym who_is) (grown.owns w.own);
           ties = record {
             y = tied.y;
             fed = subst (λ (l : List ℕ). Begins l tied.y) (sym x_is) tied.fed;
             cause = subst (λ (l : List ℕ). IsCause max (counts s.link) tied.y (length l) e) (sym x_is) tied.cause;
-            told_is = λ u told_is. let p = tied.told_is u told_is in (p.0, p.1 ∙ sym (ap (λ (g : Gone). g.sent) c.gone));
+            told_is = λ u told_is. let p = tied.told_is u told_is in (p.0, p.1 ∙ sym (ap (λ (g : Gone). g.sent) (ap gone_but_kept c.parts)));
           };
           fresh = subst (λ (n : ℕ). All (λ (a : Account). a.who ≢ n) accounts) (sym who_is) w.fresh;
         }
@@ -757,7 +757,7 @@ module _ {P D Q L : Type 0} (rules : P → PortRules) (root : P → Histories) (
         let away = nowhere now.seat.spot (c.spot ∙ left_nowhere answer (place_of s.session.seat.spot) left) in
         elim i.back [
           | inl h ↦ kept_back b b' key s here i.gone c.fixed c.roots (ap (λ (x : Bench P D Q L). x.had) h.1) k (record { who = now.parts.who; end = e; link = told_of (told s.link) (counts s.link) l.ties.y now.parts.sent }) l.ties.y now.parts.sent
-              (ap (λ (g : Gone). g.who) c.gone) refl (accounted_of rules root seen told counts desk t fits count wants busies b'.port e w.accounts s.link now away l) i.count (ap (λ (x : DoorTold). x.back) h.0)
+              (ap (λ (g : Gone). g.who) (ap gone_but_kept c.parts)) refl (accounted_of rules root seen told counts desk t fits count wants busies b'.port e w.accounts s.link now away l) i.count (ap (λ (x : DoorTold). x.back) h.0)
               (λ r. sym (ap (λ (x : Bench P D Q L). x.refused) h.1) ∙ r) l.fresh n
           | inr h ↦ kept_dropped b b' key s here i.gone c.fixed c.roots (ap (λ (x : Bench P D Q L). x.had) h.1) k (ap (λ (x : DoorTold). x.back) h.0) (ap (λ (x : Bench P D Q L). x.refused) h.1)
         ]
@@ -768,7 +768,7 @@ module _ {P D Q L : Type 0} (rules : P → PortRules) (root : P → Histories) (
         let w = k.works in
         let l = leaving_of rules root seen told counts desk t fits count wants busies b.port b'.port e w.accounts s answer now n c (w.lives key s here) in
         kept_put b b' key s (record { session = now; link = s.link; over = true }) here i.there i.count (ap (λ (x : Bench P D Q L). (doors x.door).back) i.same) (ap (λ (x : Bench P D Q L). x.had) i.same)
-        (λ r. sym (ap (λ (x : Bench P D Q L). x.refused) i.same) ∙ r) c.fixed c.roots (ap (λ (g : Gone). g.who) c.gone) k
+        (λ r. sym (ap (λ (x : Bench P D Q L). x.refused) i.same) ∙ r) c.fixed c.roots (ap (λ (g : Gone). g.who) (ap gone_but_kept c.parts)) k
         (lives_left rules root seen told counts desk t fits count wants busies b'.port e w.accounts (record { session = now; link = s.link; over = true }) (c.ended ∙ ap (λ (o : Option End). Some (end_or_quit o)) n) l)
         (λ r. subst (λ (o : Option End). o ≢ Some end.OutOfMemory) (n ∙ sym (c.ended ∙ ap (λ (o : Option End). Some (end_or_quit o)) n))
         (w.unspent (sym (ap (λ (x : Bench P D Q L). x.refused) i.same) ∙ r) key s here))

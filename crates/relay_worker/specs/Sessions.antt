@@ -11,7 +11,7 @@ use Rattle.session_owed.specs.Standing.{new_past}
 use Rattle.relay_session.specs.Keeping.{past_of}
 use Rattle.relay_session.specs.SeatState.{GoOn, HasFit, LeaveFails, LeavesFrom, SeatState, StandsAt, left_at, place_of}
 use Rattle.relay_session.specs.SeatVisits.{calls_of}
-use Rattle.relay_session.specs.SessionState.{SessionState, StandsFor, end_or_quit, ended_by, gone_but_kept, life_at}
+use Rattle.relay_session.specs.SessionState.{SessionState, StandsFor, end_or_quit, ended_by, life_at}
 use Rattle.relay_session.specs.Turns.{EndedBy}
 use Rattle.relay_session.specs.declared.end.End.{End}
 use Rattle.relay_session.specs.declared.end.End.TheVariants as end
@@ -88,4 +88,4 @@ pub record Closes {P Q : Type 0} (fits : P → ℕ → Q → Type 0) (rules : P 
   pub later : busies port ≤ busies port'
   pub passes : (q : ℕ) (p : Q) → fits port q p → fits port' q p
   pub ended : s'.ended ≡ Some (end_or_quit s.ended)
-  pub gone : gone_but_kept s'.parts ≡ gone_but_kept s.parts
+  pub parts : s'.parts ≡ record s.parts { kept = s'.parts.kept }

@@ -200,8 +200,8 @@ fn ran<W: Wait, P: StreamPort>(
     let Ok(place) = port.find(b"live", b"one") else {
         return Err(OutOfMemory);
     };
-    let flv = FlvRecorder::new(alloc, place, 1 << 60)?;
-    let ts = TsRecorder::new(alloc, place, (1 << 60) + 1)?;
+    let flv = FlvRecorder::new(alloc, place, 1 << 60, LIMITS.max_message)?;
+    let ts = TsRecorder::new(alloc, place, (1 << 60) + 1, LIMITS.max_message)?;
     let door = door(alloc, one, other, fails)?;
     let mut worker = Worker::new(alloc, 0, 2, LIMITS, port, door, MemRest)?;
     worker.enlist(Recorder::Flv(flv, MemSink::new(alloc, Vec::new(alloc))))?;

@@ -10,4 +10,4 @@ returns-clause-sits c =
     let names : port.rules.names ≡ map name_of c.args.places.now = search rules in
     let made : c.new-2.result ≡ record { port = port; sessions = []; recorders = rs } = search rules in
     subst (Sits (length c.args.places.now) (length c.args.plans.now)) (sym made)
-    (new_sits c.args.places.now c.args.plans.now port rs names c.in_ok-recorders.ensures c.requires.spots)
+    (new_sits c.args.places.now c.args.plans.now port rs names c.in_ok-recorders.ensures.new c.requires.spots)

@@ -10,8 +10,8 @@ returns-clause-holds c = record {
 }
 
 pub returns-clause-most : goal.returns-clause-most
-returns-clause-most c = λ m le. (
+returns-clause-most c =
     let d = c.args.core.now in
     let parts = parts_room d.reader c.held-parts.result d.kept (record { lives = c.held-parts.ensures.lives; failed = c.held-parts.ensures.failed }) c.requires.room in
     let few = others_few d.outgoing.others d.kept c.requires.light in
-    omega (arith, le, parts, few, c.held-app.ensures.most, c.kept_bytes-kept.ensures, c.unit_len-unit.ensures.value, c.ready.ensures.most, c.left.ensures.short, ap length c.later.ensures, ap length c.ready.ensures.value, ap length c.left.ensures.value))
+    omega (arith, c.requires.fits.unit, c.requires.fits.same, parts, few, c.held-app.ensures.most, c.kept_bytes-kept.ensures, c.unit_len-unit.ensures.value, c.ready.ensures.most, c.left.ensures.short, ap length c.later.ensures, ap length c.ready.ensures.value, ap length c.left.ensures.value)

@@ -43,4 +43,4 @@ returns-in-Err-clause-turn g c =
     fed_stopped (Asked P.fits P.rules P.root P.seen P.count P.wants P.busies) (g.D.Desk.grants c.args.desk.now) (life b.core b.input c.args.port.now b.seat) c.feed.new.core c.feed.new.input c.in-Err.end c.args.moved (Ended c.in-Err.end) c.in-Err.ensures.stopped refl
 
 pub make_on-requires-clause-sound : goal.make_on-requires-clause-sound
-make_on-requires-clause-sound g c = record { sound = c.in-Ok-true.ensures.sound; light = light_fed c.feed.new.core.outgoing.others c.feed.new.core.kept c.feed.ensures.light }
+make_on-requires-clause-sound g c = record { sound = c.in-Ok-true.ensures.sound; light = light_fed c.feed.new.core.outgoing.others c.feed.new.core.kept c.feed.ensures.light; fits = c.feed.ensures.fits c.requires.sound.fits }

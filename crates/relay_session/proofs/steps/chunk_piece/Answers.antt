@@ -6,6 +6,7 @@ use Rattle.chunk_reader.proofs.Short.{fed_short}
 use Rattle.relay_session.specs.Feeding.{IsStopped}
 use Rattle.relay_session.specs.declared.end.End.{End}
 use Rattle.relay_session.proofs.Bodies.{loud_most}
+use Rattle.relay_session.proofs.Fitting.{fits_kept}
 use Rattle.relay_session.proofs.Living.{before_loud, before_quiet, far, loud_acts, says_within, sound_fed}
 use Rattle.relay_session.proofs.Room.{room_loud, room_none}
 use Rattle.relay_session.proofs.Stopping.{fed_chunk, loud_heard, loud_idle, others_both, outbound_kept, over_message, over_reader, stop_acknowledge, stop_message, stop_reader}
@@ -141,3 +142,20 @@ returns-in-Err-answer-clause-light g c =
     let room = part_room c.args.piece.now part c.min-count.result (room_of c.args.core.now.inbound) c.first-part.ensures (omega (arith, c.min-count.ensures, c.room_to_next-room.ensures.value)) in
     weight_loud d.inbound used (length c.args.piece.now) c.answer.new.outgoing.others d.x d.outgoing c.acknowledge.new.outgoing c.room_to_next-room.ensures.kept (omega (arith, f.within, room))
     c.in-Ok-acknowledge.ensures.said c.acknowledge.ensures.light c.answer.ensures.light (part_used c.args.piece.now part c.min-count.result used c.first-part.ensures f.within).1
+
+pub returns-in-Err-clause-fits : goal.returns-in-Err-clause-fits
+returns-in-Err-clause-fits g c = λ f. fits_kept _ _ _ _ _ _ (omega arith) refl (ap (λ (k : ReaderKnown). k.max) (c.in-Err.ensures.err c.requires.sound.reads).now) f
+
+pub returns-in-Err-acknowledge-clause-fits : goal.returns-in-Err-acknowledge-clause-fits
+returns-in-Err-acknowledge-clause-fits g c = λ f. fits_kept _ _ _ _ _ _ c.acknowledge.ensures.unit refl (ap (λ (k : ReaderKnown). k.max) (c.in-Ok.ensures.ok c.requires.sound.reads).now) f
+
+pub returns-in-None-clause-fits : goal.returns-in-None-clause-fits
+returns-in-None-clause-fits g c = λ f. fits_kept _ _ _ _ _ _ c.acknowledge.ensures.unit refl (ap (λ (k : ReaderKnown). k.max) (c.in-Ok.ensures.ok c.requires.sound.reads).now) f
+
+pub returns-in-Ok-answer-clause-fits : goal.returns-in-Ok-answer-clause-fits
+returns-in-Ok-answer-clause-fits g c = λ f.
+    fits_kept _ _ _ _ _ _ (omega (arith, c.answer.ensures.unit, c.acknowledge.ensures.unit)) refl (ap (λ (k : ReaderKnown). k.max) (c.in-Ok.ensures.ok c.requires.sound.reads).now) f
+
+pub returns-in-Err-answer-clause-fits : goal.returns-in-Err-answer-clause-fits
+returns-in-Err-answer-clause-fits g c = λ f.
+    fits_kept _ _ _ _ _ _ (omega (arith, c.answer.ensures.unit, c.acknowledge.ensures.unit)) refl (ap (λ (k : ReaderKnown). k.max) (c.in-Ok.ensures.ok c.requires.sound.reads).now) f

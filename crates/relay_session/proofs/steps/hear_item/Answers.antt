@@ -15,3 +15,6 @@ returns-clause-others c = taken_others c.args.core.now c.take_in.new.outgoing _ 
 pub returns-in_err-take_in-clause-over : goal.returns-in_err-take_in-clause-over
 returns-in_err-take_in-clause-over c = λ desk st. on_err c.from_residual.result _ (over_taken desk c.args.core.now c.args.playing.now c.args.asked.value c.args.reply c.take_in.new.outgoing c.add-2.new.self c.requires.sound c.requires.open c.requires.plays
     c.requires.take c.requires.at (search rules) st)
+
+pub returns-clause-fits : goal.returns-clause-fits
+returns-clause-fits c = λ f. record { unit = c.take_in.ensures.unit f.unit; same = f.same }

@@ -20,7 +20,7 @@ loop-alloc-preserved g c =
     let now = c.loop-alloc.core in
     let e = c.in-Ok.ensures in
     feeding_step (g.D.Desk.grants c.args.desk.now) c.args.core.now now c.next_piece.new.core c.args.input.now c.loop-alloc.input c.left-in-loop-alloc.result.now c.used.new.self c.in-Ok.part.used c.in-Ok.part.ended
-    c.left-in-loop-alloc.ensures.value c.used.ensures c.if-part.false c.loop-alloc.invariant e.fed e.heard e.sound e.stands e.some.1 e.quiet
+    c.left-in-loop-alloc.ensures.value c.used.ensures c.if-part.false c.loop-alloc.invariant e.fed e.heard e.sound e.stands e.some.1 e.quiet c.next_piece.ensures.fits
 
 pub returns-in-Err-clause-light : goal.returns-in-Err-clause-light
 returns-in-Err-clause-light g c =

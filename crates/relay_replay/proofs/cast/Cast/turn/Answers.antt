@@ -30,4 +30,4 @@ returns-clause-turn g c =
     let there : c.args.n < length i.sessions.items = search rules in
     let read : c.index_mut.result.now ≡ get_or i.sessions.items c.args.n c.index_mut.result.now = search rules in
     rw (← c.self.view_is) (turn_of c.turn.result (granted_from 0 c.args.desk.now.list.now) c.args.n old c.index_mut.result.now c.turn.new.port
-    c.turn.new.self there read c.turn.ensures.turn)
+    c.turn.new.self there read c.turn.ensures.fixed c.turn.ensures.turn)

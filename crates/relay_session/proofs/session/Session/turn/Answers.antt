@@ -1,10 +1,11 @@
-use Rattle.std.proofs.Common.{ap, refl, subst, sym}
+use Rattle.std.proofs.Common.{◌≡◌, ap, refl, subst, sym}
 use Rattle.relay_session.specs.Onward.{GoesOn}
 use Rattle.relay_session.specs.SeatState.{SeatState}
-use Rattle.relay_session.specs.SessionState.{Publishes, SessionState, StandsFor, ended_by, life_at}
+use Rattle.relay_session.specs.SessionState.{Publishes, SessionState, StandsFor, ended_by, lasting_of, life_at}
 use Rattle.relay_session.specs.Turns.{life}
 use Rattle.relay_session.proofs.Onwards.{on_kept}
 use Rattle.relay_session.proofs.Causing.{did_kept, may_kept}
+use Rattle.relay_session.proofs.Lasting.{kept_same}
 use Rattle.relay_session.proofs.Whole.{leaves_by, living_by, published_by, sound_if, stood_if}
 use Rattle.relay_session.specs.Causes.{Did}
 use Rattle.relay_session.specs.Places.{Asked}
@@ -60,3 +61,13 @@ returns-in-None-clause-may_be g c =
     let l = sound_if i.ended b.core c.in-None.is c.self.invariant in
     may_kept (Asked P.fits P.rules P.root P.seen P.count P.wants P.busies) (g.D.Desk.grants c.args.desk.now) L.hears L.told L.counts g.met.L.Link.hears_mean L.says g.met.L.Link.says_mean P.busies (λ p s place e f q t a. a.fails) b.core.kept i.quit
     (life b.core b.input c.args.port.now b.seat) c.args.link.now k.result w k.new.link l.sound.others k.ensures.turn
+
+pub returns-in-None-clause-lasts : goal.returns-in-None-clause-lasts
+returns-in-None-clause-lasts g c =
+    let P = g.P.StreamPort in
+    let L = g.L.Link in
+    let b = c.self.inside.body in
+    let k = c.kept_on-answer in
+    let t = kept_same (Asked P.fits P.rules P.root P.seen P.count P.wants P.busies) (g.D.Desk.grants c.args.desk.now) L.hears L.says b.core.kept c.self.inside.quit (life b.core b.input c.args.port.now b.seat) c.args.link.now k.result
+    (life k.new.body.core k.new.body.input k.new.port k.new.body.seat) k.new.link k.ensures.turn in
+    subst (λ (s : SessionState g.row.P-Pass.Denot). lasting_of k.new.body.core ≡ lasting_of s.parts) c.self.view_is t

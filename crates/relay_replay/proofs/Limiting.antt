@@ -1,0 +1,158 @@
+-- What runs keeps the limits of its script
+use Rattle.std.proofs.Common.{◌≡◌, ℕ, Bool, true, false, length, All, Option, Some, None, refl, sym, ap, ◌∙◌, subst}
+use Rattle.std.proofs.lemmas.List.Elements.{All-nil, All-push, All-set}
+use Rattle.command_dialog.specs.declared.types.Ask.{Ask}
+use Rattle.command_dialog.specs.declared.types.Grant.{Grant}
+use Rattle.relay_base.specs.declared.limits.Limits.{Limits as AllLimits}
+use Rattle.relay_session.specs.SessionState.{Lasting, SessionState}
+use Rattle.relay_session.specs.declared.core_fields.Core.{Core}
+use Rattle.relay_session.specs.declared.end.End.{End}
+use Rattle.relay_session.specs.declared.turn.Turn.{Turn as TurnAnswer}
+use Rattle.relay_session.specs.declared.turn.Turn.TheVariants.{Moved, Idle, Ended}
+use Rattle.relay_script.specs.declared.replay.ReplayLine.{ReplayLine}
+use Rattle.relay_script.specs.declared.replay.ReplayLine.TheVariants.{Nothing, Limits, Stream, Guard, Recorder, Session, Piece, Eof, Room, FailRecv, FailSend, FailPut, Turn, Rec, All as Rounds, Quit}
+use Rattle.stream_registry.specs.Books.{SeenState, SoleState, sole_rules}
+use Rattle.stream_registry.specs.Names.{PortRules}
+use Rattle.relay_replay.specs.Cast.{AfterTurn, CastState, ConnState, RecState, RecTurnOf, Round, SessionTurn, SettledBy, TurnOf}
+use Rattle.relay_replay.specs.Plays.{Plays, ToldBy, told_of}
+use Rattle.relay_replay.specs.Scenes.{IsLimited, IsOpen, IsSound, LimitedBy, LimitedIf, SceneState, stream_limits}
+use Rattle.relay_replay.proofs.Serving.{all_at, each_keep, settled_keep, times_keep}
+
+-- it takes messages of at most so many bytes
+abbrev Takes : ℕ → ConnState → Type 0
+Takes m c = c.session.parts.reader.max ≡ m
+
+-- it writes units of at most so many
+abbrev Writes : ℕ → RecState → Type 0
+Writes m r = r.recorder.tape.longest ≡ m
+
+-- ---- turns
+
+after_takes : (a : TurnAnswer) (mid : SessionState SeenState) (port : SoleState) (d : ConnState) (port' : SoleState) → AfterTurn a mid port d.session d.ended port' → d.session.parts.reader.max ≡ mid.parts.reader.max
+after_takes Moved mid port d port' t = ap (λ (s : SessionState SeenState). s.parts.reader.max) t.0
+after_takes Idle mid port d port' t = ap (λ (s : SessionState SeenState). s.parts.reader.max) t.0
+after_takes (Ended e) mid port d port' t = ap (λ (c : Core). c.reader.max) t.2.parts
+
+turn_takes : (m : ℕ) (e : Option End) (desk : Ask → Grant) (port : SoleState) (c : ConnState) (port' : SoleState) (d : ConnState) → SessionTurn e desk port c port' d → Takes m c → Takes m d
+turn_takes m None desk port c port' d t k = after_takes t.answer t.mid t.between d port' t.leads ∙ ap (λ (l : Lasting). l.max) t.lasts ∙ k
+turn_takes m (Some e) desk port c port' d t k = subst (Takes m) (sym t.0) k
+
+limits_same : (l : AllLimits) (c d : CastState) → sole_rules d.port.rules ≡ sole_rules c.port.rules → c.port.rules.limits ≡ stream_limits l → d.port.rules.limits ≡ stream_limits l
+limits_same l c d e k = ap (λ (r : PortRules). r.limits 0) e ∙ k
+
+limited_of : (l : AllLimits) (desk : Ask → Grant) (n : ℕ) (c d : CastState) → TurnOf desk n c d → IsLimited l c → IsLimited l d
+limited_of l desk n c d t k =
+    let m = l.max_message in
+    let new = turn_takes m t.old.ended desk c.port t.old d.port t.new t.turn (all_at (Takes m) c.sessions n t.old t.there k.sessions) in
+    record {
+      streams = limits_same l c d t.fixed k.streams;
+      sessions = subst (All (Takes m)) (sym t.sessions) (All-set (Takes m) c.sessions n t.new new k.sessions);
+      recorders = subst (All (Writes m)) (sym t.recorders) k.recorders;
+    }
+
+limited_rec : (l : AllLimits) (n : ℕ) (c d : CastState) → RecTurnOf n c d → IsLimited l c → IsLimited l d
+limited_rec l n c d t k =
+    let m = l.max_message in
+    let new : Writes m t.new = t.turn.longest ∙ all_at (Writes m) c.recorders n t.old t.there k.recorders in
+    record {
+      streams = limits_same l c d t.fixed k.streams;
+      sessions = subst (All (Takes m)) (sym t.sessions) k.sessions;
+      recorders = subst (All (Writes m)) (sym t.recorders) (All-set (Writes m) c.recorders n t.new new k.recorders);
+    }
+
+limited_round : (l : AllLimits) (desk : Ask → Grant) (c d : CastState) → Round desk c d → IsLimited l c → IsLimited l d
+limited_round l desk c d r k =
+    each_keep (IsLimited l) RecTurnOf (limited_rec l) (length r.between.recorders) r.between d r.recorders
+    (each_keep (IsLimited l) (TurnOf desk) (limited_of l desk) (length c.sessions) c r.between r.sessions k)
+
+-- ---- lines
+
+told_takes : (m : ℕ) (line : ReplayLine) (c : ConnState) → Takes m c → Takes m (told_of line c)
+told_takes m (Piece n bytes) c k = k
+told_takes m (Eof n) c k = k
+told_takes m (Room n left) c k = k
+told_takes m (FailRecv n) c k = k
+told_takes m (FailSend n) c k = k
+told_takes m (Quit n) c k = k
+told_takes m Nothing c k = k
+told_takes m (Limits a b i q w) c k = k
+told_takes m (Stream app name) c k = k
+told_takes m (Guard n side mode key) c k = k
+told_takes m (Recorder n form) c k = k
+told_takes m Session c k = k
+told_takes m (FailPut n) c k = k
+told_takes m (Turn n j) c k = k
+told_takes m (Rec n j) c k = k
+told_takes m (Rounds j) c k = k
+
+told_limited : (o : Option ℕ) (line : ReplayLine) (l : AllLimits) (c d : CastState) → ToldBy o line c d → IsLimited l c → IsLimited l d
+told_limited None line l c d t k = subst (IsLimited l) (sym t) k
+told_limited (Some n) line l c d t k =
+    let m = l.max_message in
+    let new = told_takes m line t.old (all_at (Takes m) c.sessions n t.old t.there k.sessions) in
+    record {
+      streams = ap (λ (p : SoleState). p.rules.limits) t.port ∙ k.streams;
+      sessions = subst (All (Takes m)) (sym t.sessions) (All-set (Takes m) c.sessions n (told_of line t.old) new k.sessions);
+      recorders = subst (All (Writes m)) (sym t.recorders) k.recorders;
+    }
+
+plays_limited : (line : ReplayLine) (l : AllLimits) (desk : Ask → Grant) (c d : CastState) → Plays l desk line c d → IsLimited l c → IsLimited l d
+plays_limited Session l desk c d p k = record {
+  streams = ap (λ (x : SoleState). x.rules.limits) p.port ∙ k.streams;
+  sessions = subst (All (Takes l.max_message)) (sym p.sessions) (All-push (Takes l.max_message) c.sessions p.new k.sessions p.fresh.max);
+  recorders = subst (All (Writes l.max_message)) (sym p.recorders) k.recorders;
+}
+plays_limited (FailPut n) l desk c d p k =
+    let m = l.max_message in
+    let was = all_at (Writes m) c.recorders n p.old p.there k.recorders in
+    let new : RecState = record p.old { file = record p.old.file { put_fails = true } } in
+    record {
+      streams = ap (λ (x : SoleState). x.rules.limits) p.port ∙ k.streams;
+      sessions = subst (All (Takes m)) (sym p.sessions) k.sessions;
+      recorders = subst (All (Writes m)) (sym p.recorders) (All-set (Writes m) c.recorders n new was k.recorders);
+    }
+plays_limited (Turn n j) l desk c d p k = times_keep (IsLimited l) (TurnOf desk n) (limited_of l desk n) j c d p k
+plays_limited (Rec n j) l desk c d p k = times_keep (IsLimited l) (RecTurnOf n) (limited_rec l n) j c d p k
+plays_limited (Rounds j) l desk c d p k = times_keep (IsLimited l) (Round desk) (limited_round l desk) j c d p k
+plays_limited (Piece n bytes) l desk c d p k = told_limited (Some n) (Piece n bytes) l c d p k
+plays_limited (Eof n) l desk c d p k = told_limited (Some n) (Eof n) l c d p k
+plays_limited (Room n left) l desk c d p k = told_limited (Some n) (Room n left) l c d p k
+plays_limited (FailRecv n) l desk c d p k = told_limited (Some n) (FailRecv n) l c d p k
+plays_limited (FailSend n) l desk c d p k = told_limited (Some n) (FailSend n) l c d p k
+plays_limited (Quit n) l desk c d p k = told_limited (Some n) (Quit n) l c d p k
+plays_limited Nothing l desk c d p k = told_limited None Nothing l c d p k
+plays_limited (Limits a b i q w) l desk c d p k = told_limited None (Limits a b i q w) l c d p k
+plays_limited (Stream app name) l desk c d p k = told_limited None (Stream app name) l c d p k
+plays_limited (Guard n side mode key) l desk c d p k = told_limited None (Guard n side mode key) l c d p k
+plays_limited (Recorder n form) l desk c d p k = told_limited None (Recorder n form) l c d p k
+
+-- ---- a replay between two lines
+
+pub limited_if : (fresh : Bool) (l : AllLimits) (c : Option CastState) → LimitedBy fresh l c → LimitedIf l c
+limited_if true l c k = subst (LimitedIf l) (sym k) tt
+limited_if false l c k = k
+
+-- other limits, where nothing runs
+pub none_limited : (fresh : Bool) (l m : AllLimits) (c : Option CastState) → fresh ≡ true → LimitedBy fresh l c → LimitedIf m c
+none_limited true l m c e k = subst (LimitedIf m) (sym k) tt
+none_limited false l m c e k = absurd (cc)
+
+opened_by : (o : Option CastState) (s : SceneState) (c : CastState) → IsOpen o s c → LimitedIf s.limits o → IsLimited s.limits c
+opened_by None s c new k = record {
+  streams = new.limits;
+  sessions = subst (All (Takes s.limits.max_message)) (sym new.sessions) (All-nil (Takes s.limits.max_message));
+  recorders = new.longest;
+}
+opened_by (Some d) s c e k = subst (IsLimited s.limits) (sym e) k
+
+-- of what runs, from the first line that acts on
+pub opened_limited : (s : SceneState) (c : CastState) → IsSound s → IsOpen s.cast s c → IsLimited s.limits c
+opened_limited s c h o = opened_by s.cast s c o (limited_if s.fresh s.limits s.cast h.limited)
+
+-- and after that line
+pub acted_limited : (s : SceneState) (line : ReplayLine) (desk : Ask → Grant) (c d : CastState) → IsSound s → IsOpen s.cast s c → Plays s.limits desk line c d → IsLimited s.limits d
+acted_limited s line desk c d h o p = plays_limited line s.limits desk c d p (opened_limited s c h o)
+
+-- and after turns of a session until it is idle
+pub settled_limited : (s : SceneState) (done : Bool) (most : ℕ) (desk : Ask → Grant) (n : ℕ) (c d : CastState) → IsSound s → IsOpen s.cast s c → SettledBy done most desk n c d → IsLimited s.limits d
+settled_limited s done most desk n c d h o x = settled_keep (IsLimited s.limits) desk n (limited_of s.limits desk n) done most c d x (opened_limited s c h o)
