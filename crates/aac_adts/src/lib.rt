@@ -9,6 +9,3 @@ mod frame;
 pub use asc::Asc;
 pub use fail::AacFail;
 pub use frame::{adts, read_adts};
-
-#[cfg(test)]
-mod tests;

@@ -20,6 +20,3 @@ pub use laws::{
 pub use outbound::Outbound;
 pub use read::control_of;
 pub use write::control_message;
-
-#[cfg(test)]
-mod tests;

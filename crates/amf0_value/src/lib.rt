@@ -17,6 +17,3 @@ pub use decoding::{decode, decode_all};
 pub use fail::{AmfFail, Cause, Stop};
 pub use number::{bits_of, whole_of};
 pub use writing::encode;
-
-#[cfg(test)]
-mod tests;

@@ -18,6 +18,3 @@ pub use list::NalList;
 pub use nal::first_triple;
 pub use prefixed::{nals, put_nals};
 pub use split::split_annexb;
-
-#[cfg(test)]
-mod tests;

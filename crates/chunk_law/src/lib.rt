@@ -4,6 +4,3 @@
 mod laws;
 
 pub use laws::what_is_written_is_read;
-
-#[cfg(test)]
-mod tests;

@@ -19,8 +19,3 @@ pub use laws::{
     refused_bytes_stay_refused,
 };
 pub use reader::{Fed, Reader};
-
-#[cfg(test)]
-mod capture;
-#[cfg(test)]
-mod tests;

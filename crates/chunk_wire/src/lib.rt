@@ -18,6 +18,3 @@ pub use laws::{
 pub use message::Message;
 pub use read::{read_basic, read_head};
 pub use write::write_head;
-
-#[cfg(test)]
-mod tests;

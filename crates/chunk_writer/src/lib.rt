@@ -19,6 +19,3 @@ pub use laws::{chunks_are_those_of_put, writing_goes_on};
 pub use rule::chunk_stream;
 pub use sending::Sending;
 pub use writer::Writer;
-
-#[cfg(test)]
-mod tests;

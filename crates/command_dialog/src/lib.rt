@@ -17,6 +17,3 @@ pub use lists::{App, MessageList};
 pub use says::{begin_messages, end_messages};
 pub use talk::{Met, Talk};
 pub use types::{Act, Acts, Ask, DialogFail, Grant, Meant, Phase, Playing, Role, Switch};
-
-#[cfg(test)]
-mod tests;

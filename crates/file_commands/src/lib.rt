@@ -31,6 +31,3 @@ mod words;
 
 pub use checks::check;
 pub use remuxes::remux;
-
-#[cfg(test)]
-mod tests;

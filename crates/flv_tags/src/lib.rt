@@ -18,6 +18,3 @@ pub use laws::{
 pub use reader::{TagFed, TagReader};
 pub use tag::Tag;
 pub use writing::{write_body, write_header, write_item, write_tag};
-
-#[cfg(test)]
-mod tests;

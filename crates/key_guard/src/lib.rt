@@ -11,6 +11,3 @@ mod guard;
 pub use av_unit::KeyList;
 pub use check::{Grants, Mode, by_digest, by_name};
 pub use guard::{Check, Guard, Guards};
-
-#[cfg(test)]
-mod tests;

@@ -20,6 +20,3 @@ pub use medium::Medium;
 pub use recorder::Recorder;
 pub use transport::{TsMedium, TsRecorder};
 pub use turn::{Leaving, RecEnd, RecTurn};
-
-#[cfg(test)]
-mod tests;

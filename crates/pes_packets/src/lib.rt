@@ -12,6 +12,3 @@ pub use check::crc;
 pub use flags::PesFlags;
 pub use header::pes_header;
 pub use packets::{put_pes, put_section};
-
-#[cfg(test)]
-mod tests;

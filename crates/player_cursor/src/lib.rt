@@ -10,6 +10,3 @@
 mod cursor;
 
 pub use cursor::Cursor;
-
-#[cfg(test)]
-mod tests;

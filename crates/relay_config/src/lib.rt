@@ -23,6 +23,3 @@ pub use key::Key;
 pub use read::read_config;
 pub use report_line::report;
 pub use total::{sum, sum_of};
-
-#[cfg(test)]
-mod tests;

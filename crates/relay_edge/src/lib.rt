@@ -19,6 +19,3 @@ pub use file::RealFile;
 pub use house::RealHouse;
 pub use link::RealLink;
 pub use rest::RealRest;
-
-#[cfg(test)]
-mod tests;

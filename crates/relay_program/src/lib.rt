@@ -28,6 +28,3 @@ pub use replay_law::what_a_replay_prints;
 pub use replays::replay;
 pub use runs::{Command, command_of, run};
 pub use soaks::soak;
-
-#[cfg(test)]
-mod tests;

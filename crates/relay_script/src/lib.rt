@@ -13,6 +13,3 @@ pub use laws::{kind_law, lines_law, number_law};
 pub use line::{DrillLine, LineFail, count_of, drill_line};
 pub use replay::{Form, ReplayLine, Side, replay_line};
 pub use text::{held_text, reply_line_law, reply_text};
-
-#[cfg(test)]
-mod tests;

@@ -17,8 +17,6 @@ mod refill;
 mod seat;
 mod seat_answers;
 mod seat_law;
-#[cfg(test)]
-mod seat_tests;
 mod session;
 mod six_steps;
 mod steps;

@@ -8,6 +8,3 @@ mod heard;
 pub use answer::{Answer, Why, answer_body};
 pub use command::{Command, CommandFail, command_of};
 pub use heard::{Heard, hear};
-
-#[cfg(test)]
-mod tests;

@@ -15,6 +15,3 @@ mod slices;
 pub use fail::HandFail;
 pub use hand::{Hand, HandFed};
 pub use laws::{answer_law, cutting_law};
-
-#[cfg(test)]
-mod tests;

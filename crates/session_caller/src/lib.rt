@@ -13,6 +13,8 @@ use std::alloc::Global;
 use stream_registry::StreamPort;
 
 #[cfg(test)]
+mod seats;
+#[cfg(test)]
 mod tests;
 
 // How often a turn of that answer moved something; none goes on after one that ended.

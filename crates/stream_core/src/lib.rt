@@ -13,6 +13,3 @@ mod tally;
 
 pub use stream::Stream;
 pub use stream_model::{Call, Entry, Reply, StreamLimits, Taken};
-
-#[cfg(test)]
-mod tests;

@@ -13,8 +13,6 @@ mod place;
 mod port;
 mod shared;
 mod sole;
-#[cfg(test)]
-mod tests;
 mod ways;
 
 pub use desk::{Desk, Site, pasts_law};

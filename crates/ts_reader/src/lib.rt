@@ -19,6 +19,3 @@ pub use laws::{
 };
 pub use reader::{TsFed, TsReader};
 pub use unit::TsUnit;
-
-#[cfg(test)]
-mod tests;

@@ -17,6 +17,3 @@ mod writer;
 pub use laws::a_frame_of_sound;
 pub use left::{Left, Wrote};
 pub use writer::TsWriter;
-
-#[cfg(test)]
-mod tests;

@@ -2,5 +2,4 @@ pub mod Histories
 pub mod TurnTable
 pub mod InSlot
 pub mod Known
-pub mod Numbers
 pub mod Serving

@@ -6,8 +6,6 @@ mod machine;
 mod pass;
 mod rule;
 mod serve;
-#[cfg(test)]
-mod tests;
 mod view;
 
 pub use gate::{CallFail, Gate};

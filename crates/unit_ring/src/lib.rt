@@ -13,6 +13,3 @@ mod ring;
 mod window;
 
 pub use ring::Ring;
-
-#[cfg(test)]
-mod tests;

@@ -1,0 +1,183 @@
+use file_commands::{check, remux};
+use relay_base::Status;
+use relay_outside::{MemSink, MemSource};
+use std::alloc::{AllocError, Global};
+use std::test::Fail;
+
+// A configuration of AAC LC with 44,100 samples a second, and a frame of nine bytes.
+const SOUND: &[u8] = b"FLV\x01\x05\x00\x00\x00\x09\x00\x00\x00\x00\
+    \x08\x00\x00\x04\x00\x00\x00\x00\x00\x00\x00\xaf\x00\x12\x10\x00\x00\x00\x0f\
+    \x08\x00\x00\x0b\x00\x00\x00\x00\x00\x00\x00\xaf\x01123456789\x00\x00\x00\x16";
+
+// The same with a tag of data between, which has no body and so no class.
+const WITH_DATA: &[u8] = b"FLV\x01\x05\x00\x00\x00\x09\x00\x00\x00\x00\
+    \x08\x00\x00\x04\x00\x00\x00\x00\x00\x00\x00\xaf\x00\x12\x10\x00\x00\x00\x0f\
+    \x12\x00\x00\x00\x00\x00\x00\x00\x00\x00\x00\x00\x00\x00\x0b\
+    \x08\x00\x00\x0b\x00\x00\x00\x00\x00\x00\x00\xaf\x01123456789\x00\x00\x00\x16";
+
+// The same with a picture between, for which there is no configuration.
+const WITH_PICTURE: &[u8] = b"FLV\x01\x05\x00\x00\x00\x09\x00\x00\x00\x00\
+    \x08\x00\x00\x04\x00\x00\x00\x00\x00\x00\x00\xaf\x00\x12\x10\x00\x00\x00\x0f\
+    \x09\x00\x00\x0a\x00\x00\x00\x00\x00\x00\x00\x27\x01\x00\x00\x00\x00\x00\x00\x01\x65\x00\x00\x00\x15\
+    \x08\x00\x00\x0b\x00\x00\x00\x00\x00\x00\x00\xaf\x01123456789\x00\x00\x00\x16";
+
+// The sound without the four bytes that end its last tag.
+const CUT: &[u8] = b"FLV\x01\x05\x00\x00\x00\x09\x00\x00\x00\x00\
+    \x08\x00\x00\x04\x00\x00\x00\x00\x00\x00\x00\xaf\x00\x12\x10\x00\x00\x00\x0f\
+    \x08\x00\x00\x0b\x00\x00\x00\x00\x00\x00\x00\xaf\x01123456789";
+
+const TOLD: &[u8] = b"a
+code 0 at 0
+audio 0 16
+units 1
+code 0 at 0
+b
+code 0 at 0
+audio 0 16
+units 1
+code 0 at 0
+c
+code 0 at 0
+audio 0 16
+units 1
+code 0 at 0
+d
+code 8 at 0
+audio 0 16
+units 1
+code 0 at 0
+e
+code 4 at 32
+units 0
+code 0 at 0
+f
+code 4 at 376
+g
+code 4 at 0
+h
+code 4 at 188
+i
+code 3 at 0
+j
+code 5 at 0
+k
+code 2 at 0
+";
+
+// A file in pieces of so many bytes.
+fn source(
+    alloc: Global,
+    file: &[u8],
+    piece: usize,
+    fails: Vec<u64>,
+) -> Result<MemSource, AllocError> {
+    let mut pieces = Vec::new(alloc);
+    for part in file.chunks(piece.max(1)) {
+        let Ok(()) = pieces.push(part.to_vec(alloc)?) else {
+            return Err(AllocError);
+        };
+    }
+    Ok(MemSource::new(pieces, fails))
+}
+
+// What a command wrote, with its status in a line behind.
+fn told(alloc: Global, out: &[u8], status: Status) -> Result<Vec<u8>, AllocError> {
+    let mut text = out.to_vec(alloc)?;
+    let Status { code, place } = status;
+    if code == 6 {
+        return Err(AllocError);
+    }
+    let last = format!(in alloc; "code {code} at {place}\n")?;
+    text.extend_from_slice(last.as_str().as_bytes())?;
+    Ok(text)
+}
+
+fn words(alloc: Global, word: &[u8]) -> Result<Vec<Vec<u8>>, Fail> {
+    Ok(vec![in alloc; word.to_vec(alloc)?]?)
+}
+
+// What `check` tells of a stream, in pieces of so many bytes.
+fn checked(alloc: Global, stream: &[u8], piece: usize) -> Result<Vec<u8>, Fail> {
+    let mut input = source(alloc, stream, piece, vec![in alloc]?)?;
+    let mut out = MemSink::new(alloc, vec![in alloc]?);
+    let status = check(alloc, &words(alloc, b"check")?, &mut input, &mut out);
+    Ok(told(alloc, out.bytes(), status)?)
+}
+
+// The status of `remux` of a file, in pieces of so many bytes, and what `check` tells of what it wrote.
+fn both(alloc: Global, file: &[u8], piece: usize) -> Result<Vec<u8>, Fail> {
+    let mut input = source(alloc, file, piece, vec![in alloc]?)?;
+    let mut out = MemSink::new(alloc, vec![in alloc]?);
+    let status = remux(alloc, &words(alloc, b"remux")?, &mut input, &mut out);
+    let mut text = told(alloc, b"", status)?;
+    text.extend_from_slice(&checked(alloc, out.bytes(), piece)?)?;
+    Ok(text)
+}
+
+// What `remux` writes of the sound.
+fn stream(alloc: Global) -> Result<Vec<u8>, Fail> {
+    let mut input = source(alloc, SOUND, 100, vec![in alloc]?)?;
+    let mut out = MemSink::new(alloc, vec![in alloc]?);
+    let _ = remux(alloc, &words(alloc, b"remux")?, &mut input, &mut out);
+    Ok(out.bytes().to_vec(alloc)?)
+}
+
+// What `check` tells of the first so many bytes of that stream.
+fn first(alloc: Global, count: usize) -> Result<Vec<u8>, Fail> {
+    let stream = stream(alloc)?;
+    let bytes = stream.as_slice().get(..count).unwrap_or(b"");
+    checked(alloc, bytes, 200)
+}
+
+// What it tells of those behind the first so many.
+fn behind(alloc: Global, count: usize) -> Result<Vec<u8>, Fail> {
+    let stream = stream(alloc)?;
+    let bytes = stream.as_slice().get(count..).unwrap_or(b"");
+    checked(alloc, bytes, 200)
+}
+
+// What it tells where that byte is 17.
+fn altered(alloc: Global, place: usize) -> Result<Vec<u8>, Fail> {
+    let mut stream = stream(alloc)?;
+    if let Some(byte) = stream.get_mut(place) {
+        *byte = 17;
+    }
+    checked(alloc, &stream, 200)
+}
+
+// What `remux` does with the sound, called by that word, where these reads and puts fail.
+fn faulty(alloc: Global, word: &[u8], gets: Vec<u64>, puts: Vec<u64>) -> Result<Vec<u8>, Fail> {
+    let mut input = source(alloc, SOUND, 20, gets)?;
+    let mut out = MemSink::new(alloc, puts);
+    let status = remux(alloc, &words(alloc, word)?, &mut input, &mut out);
+    Ok(told(alloc, out.bytes(), status)?)
+}
+
+fn row(alloc: Global, row: u8) -> Result<Vec<u8>, Fail> {
+    match row {
+        b'a' => both(alloc, SOUND, 1),
+        b'b' => both(alloc, SOUND, 65),
+        b'c' => both(alloc, WITH_DATA, 7),
+        b'd' => both(alloc, WITH_PICTURE, 20),
+        b'e' => both(alloc, CUT, 19),
+        b'f' => first(alloc, 563),
+        b'g' => behind(alloc, 376),
+        b'h' => altered(alloc, 191),
+        b'i' => faulty(alloc, b"remux", vec![in alloc; 1]?, vec![in alloc]?),
+        b'j' => faulty(alloc, b"remux", vec![in alloc]?, vec![in alloc; 0]?),
+        _ => faulty(alloc, b"check", vec![in alloc]?, vec![in alloc]?),
+    }
+}
+
+#[test]
+fn what_is_told_of_files(rt: HostRuntime) -> Result<(), Fail> {
+    let alloc = rt.alloc();
+    let mut text = Vec::new(alloc);
+    for letter in b"abcdefghijk" {
+        text.push(*letter)?;
+        text.push(b'\n')?;
+        text.extend_from_slice(&row(alloc, *letter)?)?;
+    }
+    assert_eq!(rt; text.as_slice(), TOLD);
+    Ok(())
+}

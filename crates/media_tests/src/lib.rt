@@ -1,0 +1,19 @@
+//! Tests of recordings: FLV, transport streams, their readers, writers and recorders, and the commands over files.
+#![tactic(auto)]
+
+#[cfg(test)]
+mod aac;
+#[cfg(test)]
+mod avc;
+#[cfg(test)]
+mod files;
+#[cfg(test)]
+mod flv;
+#[cfg(test)]
+mod pes;
+#[cfg(test)]
+mod recorders;
+#[cfg(test)]
+mod ts_in;
+#[cfg(test)]
+mod ts_out;

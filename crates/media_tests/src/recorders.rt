@@ -1,0 +1,242 @@
+//! Recorders on a port of one thread.
+ghost use Rattle.std.specs.Prelude.{◌≡◌, ◌<◌, ℕ, length, IfOk};
+ghost use Rattle.media_recorder.specs.Ports.{FitsIf};
+
+use av_unit::{Bytes, Kind, OutOfMemory, Unit, UnitArc};
+use media_recorder::*;
+use relay_outside::{MemSink, Put, Sink};
+use std::alloc::Global;
+use std::test::Fail;
+use stream_core::{Call, Entry, StreamLimits};
+use stream_registry::{Name, NameList, Sole, StreamPort};
+
+// A header, and the tags of the publisher's three units.
+const FILE: &[u8; 66] =
+    b"FLV\x01\x05\x00\x00\x00\x09\x00\x00\x00\x00\x09\x00\x00\x03\x00\x00\x00\x00\x00\x00\x00\x17\x00\x01\x00\x00\x00\x0e\x09\x00\x00\x02\x02\x03\x04\x01\x00\x00\x00\x17\x01\x00\x00\x00\x0d\x08\x00\x00\x03\x00\x00\x05\x00\x00\x00\x00\xaf\x01\x21\x00\x00\x00\x0e";
+
+/// Takes one byte at a time.
+#[derive(Drop)]
+struct Sip {
+    list: Vec<u8>,
+}
+
+impl Sink for Sip {
+    ghost use Rattle.std.specs.Prelude.{Some};
+    ghost use Rattle.relay_outside.specs.Put.{PutStep};
+
+    ghost holds = { λ s. Some s.list.items };
+
+    ghost faults = { λ _. 0 };
+
+    ghost takes = { λ s piece answer t. PutStep piece (Some s.list.items) (Some t.list.items) 0 0 answer };
+
+    fn put(&mut self, piece: &[u8]) -> Put {
+        match self.list.extend_from_slice(&piece[..1]) {
+            Ok(()) => Put::Took(1),
+            Err(_) => Put::OutOfMemory,
+        }
+    }
+
+    ghost takes_mean = { λ s piece answer t some step. step };
+}
+
+fn bytes(alloc: Global, text: &[u8]) -> Result<Bytes, OutOfMemory>
+    ensures { IfOk result (λ b. b ≡ text.now) }
+{
+    let mut bytes = Bytes::new(alloc);
+    bytes.append(text)?;
+    Ok(bytes)
+}
+
+// A port to one stream.
+fn port(alloc: Global, players: u32) -> Result<Sole, OutOfMemory>
+    ensures { IfOk result (λ s. length s.rules.names ≡ 1) }
+{
+    let mut names = NameList::new(alloc);
+    names.push(Name {
+        app: bytes(alloc, b"live")?,
+        name: bytes(alloc, b"cam")?,
+    })?;
+    let limits = StreamLimits {
+        bytes: 1000,
+        items: 16,
+        players,
+    };
+    Sole::new(alloc, names, limits)
+}
+
+fn push(alloc: Global, kind: Kind, time: u32, body: &[u8]) -> Result<Call, OutOfMemory>
+    requires { length body.now < 100 }
+{
+    let body = bytes(alloc, body)?;
+    Ok(Call::Push(UnitArc::new(alloc, Unit { kind, time, body })?))
+}
+
+// What the publisher asks at a letter.
+fn asked(alloc: Global, letter: u8) -> Result<Call, OutOfMemory> {
+    match letter {
+        b'b' => Ok(Call::Begin),
+        b'c' => push(alloc, Kind::VConfig, 0, b"\x17\x00\x01"),
+        b'k' => push(alloc, Kind::Key, 0x0102_0304, b"\x17\x01"),
+        b'a' => push(alloc, Kind::Audio, 5, b"\xaf\x01\x21"),
+        b'e' => Ok(Call::End),
+        _ => Ok(Call::Count),
+    }
+}
+
+fn turned(turn: RecTurn) -> u8 {
+    match turn {
+        RecTurn::Moved => b'M',
+        RecTurn::Idle => b'I',
+        RecTurn::Busy => b'B',
+        RecTurn::Ended(RecEnd::SinkFault) => b'S',
+        RecTurn::Ended(RecEnd::Full) => b'F',
+        RecTurn::Ended(RecEnd::Worn) => b'W',
+        RecTurn::Ended(RecEnd::OutOfMemory) => b'O',
+    }
+}
+
+// One call of the publisher.
+fn publish<P: StreamPort>(
+    alloc: Global,
+    letter: u8,
+    port: &mut P,
+    pass: &mut P::Pass,
+) -> Result<u8, OutOfMemory>
+    requires { P.fits port.old 0 pass.old }
+    ensures pass { P.fits port.new 0 pass.new }
+    ensures rules { P.rules port.new ≡ P.rules port.old }
+    ensures others { (q : ℕ) (p : P.Pass) → P.fits port.old q p → P.fits port.new q p }
+{
+    let call = asked(alloc, letter)?;
+    match port.call(
+        0,
+        pass,
+        Entry {
+            who: 1,
+            at: 0,
+            call,
+        },
+    ) {
+        Ok(_) => Ok(b'.'),
+        Err(_) => Ok(b'-'),
+    }
+}
+
+// One turn of the recorder, or one call of the publisher.
+fn step<P: StreamPort, K: Sink>(
+    alloc: Global,
+    letter: u8,
+    port: &mut P,
+    pass: &mut P::Pass,
+    recorder: &mut FlvRecorder<P>,
+    sink: &mut K,
+) -> Result<u8, OutOfMemory>
+    requires there { 0 < length (P.rules port.old).names }
+    requires place { recorder.old.seat.place ≡ 0 }
+    requires pass { P.fits port.old 0 pass.old }
+    requires fits { FitsIf (P.fits port.old 0) recorder.old.seat.pass }
+    ensures there { 0 < length (P.rules port.new).names }
+    ensures place { recorder.new.seat.place ≡ 0 }
+    ensures pass { P.fits port.new 0 pass.new }
+    ensures fits { FitsIf (P.fits port.new 0) recorder.new.seat.pass }
+{
+    if letter == b't' {
+        return Ok(turned(recorder.turn(port, sink)));
+    }
+    still_fits_law::<P>();
+    publish(alloc, letter, port, pass)
+}
+
+// The letters in turn, and the answers.
+fn run<P: StreamPort, K: Sink>(
+    alloc: Global,
+    letters: &[u8],
+    port: &mut P,
+    recorder: &mut FlvRecorder<P>,
+    sink: &mut K,
+) -> Result<Bytes, OutOfMemory>
+    requires there { 0 < length (P.rules port.old).names }
+    requires place { recorder.old.seat.place ≡ 0 }
+    requires fits { FitsIf (P.fits port.old 0) recorder.old.seat.pass }
+    ensures there { 0 < length (P.rules port.new).names }
+    ensures place { recorder.new.seat.place ≡ 0 }
+    ensures fits { FitsIf (P.fits port.new 0) recorder.new.seat.pass }
+{
+    still_fits_law::<P>();
+    let mut answers = Bytes::new(alloc);
+    let mut pass = port.attach(0);
+    for letter in letters {
+        let answer = step(alloc, *letter, port, &mut pass, recorder, sink)?;
+        answers.append(&[answer])?;
+    }
+    Ok(answers)
+}
+
+// A recorder that joins before a broadcast of three units, with a sink whose put of that number fails.
+fn recorded(alloc: Global, fails: u64) -> Result<(Bytes, MemSink, bool), OutOfMemory> {
+    let mut port = port(alloc, 4)?;
+    let mut recorder = FlvRecorder::new(alloc, 0, 7, 4_096)?;
+    let mut sink = MemSink::new(alloc, vec![in alloc; fails]?);
+    let answers = run(
+        alloc,
+        b"ttbckaetttttttttt",
+        &mut port,
+        &mut recorder,
+        &mut sink,
+    )?;
+    let left = matches!(recorder.leave(&mut port), Leaving::Done);
+    Ok((answers, sink, left))
+}
+
+// Whether the answers are these, and the file has so many of the first bytes.
+fn is_cut(alloc: Global, fails: u64, answers: &[u8], len: usize) -> Result<bool, OutOfMemory> {
+    let (told, sink, left) = recorded(alloc, fails)?;
+    let file = sink.bytes();
+    Ok(told.as_slice() == answers && file.len() == len && FILE.starts_with(file) && left)
+}
+
+#[test]
+fn each_put_fails_once(rt: HostRuntime) -> Result<(), Fail> {
+    let alloc = rt.alloc();
+    assert!(rt; is_cut(alloc, 0, b"SS.....SSSSSSSSSS", 0)?);
+    assert!(rt; is_cut(alloc, 1, b"MM.....MMSSSSSSSS", 13)?);
+    assert!(rt; is_cut(alloc, 2, b"MM.....MMMMSSSSSS", 31)?);
+    assert!(rt; is_cut(alloc, 3, b"MM.....MMMMMMSSSS", 48)?);
+    assert!(rt; is_cut(alloc, 4, b"MM.....MMMMMMMMII", 66)?);
+    Ok(())
+}
+
+#[test]
+fn a_sink_that_takes_one_byte_takes_the_same(rt: HostRuntime) -> Result<(), Fail> {
+    let alloc = rt.alloc();
+    let mut port = port(alloc, 4)?;
+    let mut recorder = FlvRecorder::new(alloc, 0, 7, 4_096)?;
+    let mut sink = Sip {
+        list: Vec::new(alloc),
+    };
+    let answers = run(
+        alloc,
+        b"ttttttttttttttbcettttttttttttttttttttttt",
+        &mut port,
+        &mut recorder,
+        &mut sink,
+    )?;
+    assert!(rt; answers.as_slice() == b"MMMMMMMMMMMMMM...MMMMMMMMMMMMMMMMMMMMMII".as_slice());
+    assert!(rt; sink.list.len() == 31 && FILE.starts_with(sink.list.as_slice()));
+    assert!(rt; recorder.held() == 0);
+    Ok(())
+}
+
+#[test]
+fn a_recorder_without_a_place_has_a_file_of_nothing(rt: HostRuntime) -> Result<(), Fail> {
+    let alloc = rt.alloc();
+    let mut port = port(alloc, 0)?;
+    let mut recorder = FlvRecorder::new(alloc, 0, 7, 4_096)?;
+    let mut sink = MemSink::new(alloc, Vec::new(alloc));
+    let answers = run(alloc, b"ttt", &mut port, &mut recorder, &mut sink)?;
+    assert!(rt; answers.as_slice() == b"MFF".as_slice());
+    assert!(rt; sink.bytes().len() == 13 && FILE.starts_with(sink.bytes()));
+    assert!(rt; matches!(recorder.leave(&mut port), Leaving::Done));
+    Ok(())
+}

@@ -1,0 +1,10 @@
+use Rattle.std.proofs.Common.{◌<◌, ℕ, length}
+use Rattle.relay_session.specs.SeatState.{HasFit}
+use Rattle.session_caller.proofs.seats.walk.Given as goal
+
+abbrev pub invariant-loop-letter : goal.invariant-loop-letter
+invariant-loop-letter g l = record {
+  fit : HasFit (g.P.StreamPort.fits l.port) l.seat.spot;
+  place : 0 < length (g.P.StreamPort.rules l.port).names;
+  passes : (q : ℕ) (p : g.row.P-Pass.Denot) → g.P.StreamPort.fits l.initial.port q p → g.P.StreamPort.fits l.port q p;
+}

@@ -1,0 +1,300 @@
+use av_unit::Bytes;
+use chunk_wire::Message;
+use command_dialog::{
+    Act, Acts, Ask, Dialog, DialogFail, Grant, Meant, MessageList, begin_messages, end_messages,
+};
+use std::alloc::Global;
+use std::test::Fail;
+use stream_model::Reply;
+
+// A step begins with its letter: c, a, v, d, s and u for a message of type 20, 8, 9, 18, 1 and 4, and B, U, J and F for
+// the replies Began, InUse, Joined and Full. A message has the digit of its message stream behind it, and its body.
+
+/// What ffmpeg 5.1.9 sends to publish, with a key frame and a sound of few bytes.
+const FFMPEG_PUBLISHES: [&[u8]; 13] = [
+    b"c0\x02\x00\x07connect\x00\x3F\xF0\x00\x00\x00\x00\x00\x00\x03\x00\x03app\x02\x00\x04live\
+        \x00\x04type\x02\x00\x0Anonprivate\x00\x08flashVer\x02\x00\x24FMLE/3.0 (compatible; Lavf59.27.100)\
+        \x00\x05tcUrl\x02\x00\x1Brtmp://127.0.0.1:19503/live\x00\x00\x09",
+    b"s0\x00\x00\x10\x00",
+    b"c0\x02\x00\x0DreleaseStream\x00\x40\x00\x00\x00\x00\x00\x00\x00\x05\x02\x00\x03cam",
+    b"c0\x02\x00\x09FCPublish\x00\x40\x08\x00\x00\x00\x00\x00\x00\x05\x02\x00\x03cam",
+    b"c0\x02\x00\x0CcreateStream\x00\x40\x10\x00\x00\x00\x00\x00\x00\x05",
+    b"c1\x02\x00\x07publish\x00\x40\x14\x00\x00\x00\x00\x00\x00\x05\x02\x00\x03cam\x02\x00\x04live",
+    b"B",
+    b"d1\x02\x00\x0D@setDataFrame\x02\x00\x0AonMetaData\x08\x00\x00\x00\x00\x00\x00\x09",
+    b"v1\x17\x00\x00\x00\x00\x01",
+    b"v1\x17\x01\x00\x00\x50",
+    b"a1\xAF\x01",
+    b"v1\x17\x02\x00\x00\x00",
+    b"c0\x02\x00\x0CdeleteStream\x00\x40\x1C\x00\x00\x00\x00\x00\x00\x05\x00\x3F\xF0\x00\x00\x00\x00\x00\x00",
+];
+
+/// What gstreamer's rtmp2sink sends: publish with transaction 0, its metadata again and again, and deleteStream with the
+/// stream's name.
+const GSTREAMER_PUBLISHES: [&[u8]; 9] = [
+    b"c0\x02\x00\x07connect\x00\x3F\xF0\x00\x00\x00\x00\x00\x00\x03\x00\x03app\x02\x00\x05live/\
+        \x00\x0AfourCcList\x0A\x00\x00\x00\x02\x02\x00\x04av01\x02\x00\x04hvc1\x00\x00\x09",
+    b"c0\x02\x00\x08_checkbw\x00\x00\x00\x00\x00\x00\x00\x00\x00",
+    b"c0\x02\x00\x0CcreateStream\x00\x40\x10\x00\x00\x00\x00\x00\x00",
+    b"c1\x02\x00\x07publish\x00\x00\x00\x00\x00\x00\x00\x00\x00\x05\x02\x00\x03cam\x02\x00\x04live",
+    b"B",
+    b"d1\x02\x00\x0D@setDataFrame\x02\x00\x0AonMetaData\x08\x00\x00\x00\x00\x00\x00\x09",
+    b"d1\x02\x00\x0D@setDataFrame\x02\x00\x0AonMetaData\x08\x00\x00\x00\x00\x00\x00\x09",
+    b"c0\x02\x00\x0CdeleteStream\x00\x00\x00\x00\x00\x00\x00\x00\x00\x05\x02\x00\x03cam",
+    b"d1\x02\x00\x0D@setDataFrame\x02\x00\x0AonMetaData\x08\x00\x00\x00\x00\x00\x00\x09",
+];
+
+/// What ffmpeg 5.1.9 sends to play, and some switches.
+const FFMPEG_PLAYS: [&[u8]; 11] = [
+    b"c0\x02\x00\x07connect\x00\x3F\xF0\x00\x00\x00\x00\x00\x00\x03\x00\x03app\x02\x00\x04live\
+        \x00\x08flashVer\x02\x00\x0DLNX 9,0,124,2\x00\x05tcUrl\x02\x00\x1Brtmp://127.0.0.1:19510/live\
+        \x00\x04fpad\x01\x00\x00\x0Ccapabilities\x00\x40\x2E\x00\x00\x00\x00\x00\x00\
+        \x00\x0DvideoFunction\x00\x3F\xF0\x00\x00\x00\x00\x00\x00\x00\x00\x09",
+    b"c0\x02\x00\x0CcreateStream\x00\x40\x00\x00\x00\x00\x00\x00\x00\x05",
+    b"c0\x02\x00\x0FgetStreamLength\x00\x40\x08\x00\x00\x00\x00\x00\x00\x05\x02\x00\x03cam",
+    b"c1\x02\x00\x04play\x00\x40\x10\x00\x00\x00\x00\x00\x00\x05\x02\x00\x03cam\x00\xC0\x9F\x40\x00\x00\x00\x00\x00",
+    b"J",
+    b"u0\x00\x03\x00\x00\x00\x01\x00\x00\x0B\xB8",
+    b"c1\x02\x00\x0CreceiveVideo\x00\x00\x00\x00\x00\x00\x00\x00\x00\x05\x01\x00",
+    b"c1\x02\x00\x05pause\x00\x00\x00\x00\x00\x00\x00\x00\x00\x05\x01\x01\x00\x00\x00\x00\x00\x00\x00\x00\x00",
+    b"c0\x02\x00\x05pause\x00\x00\x00\x00\x00\x00\x00\x00\x00\x05\x01\x00",
+    b"a1\xAF\x01",
+    b"c0\x02\x00\x0CdeleteStream\x00\x40\x14\x00\x00\x00\x00\x00\x00\x05\x00\x3F\xF0\x00\x00\x00\x00\x00\x00",
+];
+
+/// What is refused, and what is passed over.
+const REFUSALS: [&[u8]; 14] = [
+    b"c0\x02\x00\x0CcreateStream\x00\x40\x00\x00\x00\x00\x00\x00\x00\x05",
+    b"c0\x02\x00\x07connect\x00\x3F\xF0\x00\x00\x00\x00\x00\x00\x05",
+    b"c0\x02\x00\x07connect\x00\x3F\xF0\x00\x00\x00\x00\x00\x00\x03\x00\x03app\x02\x00\x09live/?a=b\x00\x00\x09",
+    b"c0\x02\x00\x07connect\x00\x3F\xF0\x00\x00\x00\x00\x00\x00\x03\x00\x03app\x02\x00\x04live\x00\x00\x09",
+    b"c0\x02\x00\x0CcreateStream\x00\x40\x00\x00\x00\x00\x00\x00\x00\x05",
+    b"c2\x02\x00\x07publish\x00\x00\x00\x00\x00\x00\x00\x00\x00\x05\x02\x00\x03cam",
+    b"c1\x02\x00\x07publish\x00\x00\x00\x00\x00\x00\x00\x00\x00\x05\x02\x00\x03dog",
+    b"c1\x02\x00\x07publish\x00\x00\x00\x00\x00\x00\x00\x00\x00\x05\x02\x00\x07cam?abd",
+    b"c1\x02\x00\x07publish\x00\x00\x00\x00\x00\x00\x00\x00\x00\x05\x02\x00\x03cam",
+    b"U",
+    b"c1\x02\x00\x04play\x00\x00\x00\x00\x00\x00\x00\x00\x00\x05\x02\x00\x03cam",
+    b"F",
+    b"c0\x05\x11",
+    b"c0",
+];
+
+/// The type of the message that a letter stands for.
+fn kind_of(letter: u8) -> u8 {
+    match letter {
+        b'a' => 8,
+        b'v' => 9,
+        b'd' => 18,
+        b's' => 1,
+        b'u' => 4,
+        _ => 20,
+    }
+}
+
+fn stream_of(digit: u8) -> u32 {
+    match digit {
+        b'1' => 1,
+        b'2' => 2,
+        _ => 0,
+    }
+}
+
+/// The desk has the name `cam` of the app `live`, whose guard refuses the key `abd`.
+fn grant_of(ask: &Ask) -> Grant {
+    if ask.app.as_slice() != b"live".as_slice() || ask.name.as_slice() != b"cam".as_slice() {
+        return Grant::NoName;
+    }
+    if ask.key.as_slice() == b"abd".as_slice() {
+        return Grant::Refused;
+    }
+    Grant::Place(3)
+}
+
+/// Each message by its type, its message stream and the length of its body.
+fn add_messages(alloc: Global, list: &MessageList, out: &mut String) -> Result<(), Fail> {
+    for message in list.as_slice() {
+        let kind = message.kind;
+        let stream = message.stream;
+        let len = message.body.len();
+        out.push_str(&format!(in alloc; " {kind}.{stream}.{len}")?)?;
+    }
+    Ok(())
+}
+
+fn add_acts(alloc: Global, acts: &Acts, out: &mut String) -> Result<(), Fail> {
+    add_messages(alloc, &acts.says, out)?;
+    let text = match &acts.makes {
+        None => return Ok(()),
+        Some(Act::Begin(place)) => format!(in alloc; " begin {place}")?,
+        Some(Act::Join(place)) => format!(in alloc; " join {place}")?,
+        Some(Act::Push(unit)) => {
+            let kind = unit.kind;
+            let len = unit.body.len();
+            format!(in alloc; " {kind:?} {len}")?
+        }
+        Some(Act::End) => format!(in alloc; " end")?,
+        Some(Act::Leave(player)) => format!(in alloc; " leave {player}")?,
+    };
+    out.push_str(&text)?;
+    Ok(())
+}
+
+fn add_fail(alloc: Global, fail: DialogFail, out: &mut String) -> Result<(), Fail> {
+    let text = match fail {
+        DialogFail::BadCommand { at } => format!(in alloc; " refused at {at}")?,
+        DialogFail::TooManyStreams => format!(in alloc; " too many")?,
+        DialogFail::OutOfMemory => format!(in alloc; " no memory")?,
+    };
+    out.push_str(&text)?;
+    Ok(())
+}
+
+fn meet(
+    alloc: Global,
+    dialog: &mut Dialog,
+    message: Message,
+    out: &mut String,
+) -> Result<(), Fail> {
+    if message.body.len() > 1000 {
+        return Ok(());
+    }
+    match dialog.asks(alloc, &message) {
+        Err(fail) => add_fail(alloc, fail, out),
+        Ok(meant) => {
+            let grant = match meant.ask() {
+                None => None,
+                Some(ask) => Some(grant_of(ask)),
+            };
+            match dialog.step(alloc, message, meant, grant) {
+                Err(fail) => add_fail(alloc, fail, out),
+                Ok(acts) => add_acts(alloc, &acts, out),
+            }
+        }
+    }
+}
+
+fn hear_reply(
+    alloc: Global,
+    dialog: &mut Dialog,
+    reply: &Reply,
+    out: &mut String,
+) -> Result<(), Fail> {
+    match dialog.answered(alloc, reply) {
+        Err(fail) => add_fail(alloc, fail, out),
+        Ok(says) => add_messages(alloc, &says, out),
+    }
+}
+
+fn take_step(
+    alloc: Global,
+    dialog: &mut Dialog,
+    step: &[u8],
+    out: &mut String,
+) -> Result<(), Fail> {
+    match step {
+        [b'B'] => hear_reply(alloc, dialog, &Reply::Began { n: 0 }, out),
+        [b'U'] => hear_reply(alloc, dialog, &Reply::InUse { by: 9 }, out),
+        [b'J'] => hear_reply(alloc, dialog, &Reply::Joined { player: 7, from: 2 }, out),
+        [b'F'] => hear_reply(alloc, dialog, &Reply::Full, out),
+        [letter, digit, text @ ..] => {
+            let mut body = Bytes::new(alloc);
+            body.append(text)?;
+            let message = Message {
+                kind: kind_of(*letter),
+                stream: stream_of(*digit),
+                time: 0,
+                body,
+            };
+            meet(alloc, dialog, message, out)
+        }
+        _ => Ok(()),
+    }
+}
+
+/// What a dialogue makes of each step, one after the other.
+fn told(alloc: Global, dialog: &mut Dialog, steps: &[&[u8]]) -> Result<String, Fail> {
+    let mut out = String::new(alloc);
+    for step in steps {
+        take_step(alloc, dialog, *step, &mut out)?;
+        out.push(';')?;
+    }
+    Ok(out)
+}
+
+#[test]
+fn encoders_publish(rt: HostRuntime) -> Result<(), Fail> {
+    let alloc = rt.alloc();
+    let mut dialog = Dialog::new(alloc, 2_500_000);
+    let out = told(alloc, &mut dialog, &FFMPEG_PUBLISHES)?;
+    let want =
+        " 5.0.4 6.0.5 1.0.4 20.0.190;;;; 20.0.29; begin 3; 20.1.100; Meta 21; VConfig 6; Key 5; Audio 2;; end;";
+    assert_eq!(rt; out.as_str(), want);
+    assert_eq!(rt; dialog.held(), 4);
+    let mut dialog = Dialog::new(alloc, 2_500_000);
+    let out = told(alloc, &mut dialog, &GSTREAMER_PUBLISHES)?;
+    let want =
+        " 5.0.4 6.0.5 1.0.4 20.0.190;; 20.0.29; begin 3; 20.1.100; Meta 21; Meta 21;; Meta 21;";
+    assert_eq!(rt; out.as_str(), want);
+    Ok(())
+}
+
+#[test]
+fn players_play(rt: HostRuntime) -> Result<(), Fail> {
+    let alloc = rt.alloc();
+    let mut dialog = Dialog::new(alloc, 2_500_000);
+    let out = told(alloc, &mut dialog, &FFMPEG_PLAYS)?;
+    let want = " 5.0.4 6.0.5 1.0.4 20.0.190; 20.0.29;; join 3; 4.0.6 20.1.94;;;;;; leave 7;";
+    assert_eq!(rt; out.as_str(), want);
+    let mut out = String::new(alloc);
+    add_messages(alloc, &begin_messages(alloc, 1)?, &mut out)?;
+    add_messages(alloc, &end_messages(alloc, 1)?, &mut out)?;
+    assert_eq!(rt; out.as_str(), " 4.0.6 20.1.104 4.0.6 20.1.108");
+    Ok(())
+}
+
+#[test]
+fn a_granted_play_tells_its_switches(rt: HostRuntime) -> Result<(), Fail> {
+    let alloc = rt.alloc();
+    let mut dialog = Dialog::new(alloc, 2_500_000);
+    told(alloc, &mut dialog, &FFMPEG_PLAYS[..4])?;
+    assert!(rt; dialog.playing().is_none());
+    told(alloc, &mut dialog, &FFMPEG_PLAYS[4..10])?;
+    let Some(playing) = dialog.playing() else {
+        assert!(rt; false);
+        return Ok(());
+    };
+    assert_eq!(rt; playing.player, 7);
+    assert!(rt; playing.want.audio && !playing.want.video && playing.paused);
+    Ok(())
+}
+
+#[test]
+fn the_first_cause_is_told(rt: HostRuntime) -> Result<(), Fail> {
+    let alloc = rt.alloc();
+    let mut dialog = Dialog::new(alloc, 2_500_000);
+    let out = told(alloc, &mut dialog, &REFUSALS)?;
+    let want =
+        ";; 5.0.4 6.0.5 1.0.4 20.0.190;; 20.0.29;; 20.1.103; 20.1.98; begin 3; 20.1.97; join 3; 20.1.99; \
+        refused at 1; refused at 0;";
+    assert_eq!(rt; out.as_str(), want);
+    Ok(())
+}
+
+#[test]
+fn sixteen_message_streams_are_open(rt: HostRuntime) -> Result<(), Fail> {
+    let alloc = rt.alloc();
+    let mut dialog = Dialog::new(alloc, 2_500_000);
+    told(alloc, &mut dialog, &FFMPEG_PLAYS[..1])?;
+    for _ in 0..16 {
+        let out = told(alloc, &mut dialog, &FFMPEG_PLAYS[1..2])?;
+        assert_eq!(rt; out.as_str(), " 20.0.29;");
+    }
+    let out = told(alloc, &mut dialog, &FFMPEG_PLAYS[1..2])?;
+    assert_eq!(rt; out.as_str(), " too many;");
+    let out = told(alloc, &mut dialog, &FFMPEG_PLAYS[10..])?;
+    assert_eq!(rt; out.as_str(), ";");
+    let out = told(alloc, &mut dialog, &FFMPEG_PLAYS[1..2])?;
+    assert_eq!(rt; out.as_str(), " 20.0.29;");
+    Ok(())
+}
