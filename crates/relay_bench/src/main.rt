@@ -7,6 +7,7 @@ mod flv;
 mod gate;
 mod ports;
 mod rates;
+mod session;
 mod stream;
 mod ts;
 mod writing;
@@ -35,6 +36,9 @@ fn main(rt: HostRuntime) -> io::Result<()> {
         }
         if word.as_str() == "stream" {
             stream::measure(&rt, rt.alloc())?;
+        }
+        if word.as_str() == "session" {
+            session::measure(&rt, rt.alloc())?;
         }
         if word.as_str() == "ts" {
             ts::measure(&rt, rt.alloc())?;

@@ -35,7 +35,7 @@ fn bytes(alloc: Global, text: &[u8]) -> Result<Bytes, OutOfMemory> {
     Ok(bytes)
 }
 
-fn names(alloc: Global) -> Result<NameList, OutOfMemory>
+pub(crate) fn names(alloc: Global) -> Result<NameList, OutOfMemory>
     ensures { IfOk result (λ n. length n ≤ 64) }
 {
     let mut names = NameList::new(alloc);
