@@ -1,3 +1,6 @@
+ghost use Rattle.std.specs.Prelude.{◌≡◌};
+ghost use Rattle.key_guard.specs.Allowed.{is_allowed};
+
 use av_unit::Bytes;
 use key_guard::*;
 use std::alloc::{AllocError, Global};
@@ -12,6 +15,27 @@ fn only(alloc: Global, key: &[u8]) -> Result<Grants, AllocError> {
     Ok(Grants::Keys(KeyList::from_vec(vec![in alloc; key]?)))
 }
 
+// Whether the grants allow the key in mode `Plain`.
+fn is_named(grants: &Grants, key: &[u8]) -> bool
+    ensures { result ≡ is_allowed Mode.Plain grants.now key.now }
+{
+    by_name(grants, key)
+}
+
+// Whether the grants allow the key in mode `Digest`.
+fn is_digested(grants: &Grants, key: &[u8]) -> bool
+    ensures { result ≡ is_allowed Mode.Digest grants.now key.now }
+{
+    by_digest(grants, key)
+}
+
+// The guards of a relay.
+pub(crate) fn guards(alloc: Global) -> Result<Guards, Fail> {
+    let plain = Guard::new(Mode::Plain, Box::new(alloc, is_named)?);
+    let digest = Guard::new(Mode::Digest, Box::new(alloc, is_digested)?);
+    Ok(Guards::new(plain, digest))
+}
+
 // Guards may be handed to a thread and lent to several.
 fn crosses_threads<T: Send + Sync>(value: T) -> T {
     value
@@ -20,9 +44,7 @@ fn crosses_threads<T: Send + Sync>(value: T) -> T {
 #[test]
 fn a_guard_answers_what_its_mode_allows(rt: HostRuntime) -> Result<(), Fail> {
     let alloc = rt.alloc();
-    let plain = Guard::new(Mode::Plain, Box::new(alloc, by_name)?);
-    let digest = Guard::new(Mode::Digest, Box::new(alloc, by_digest)?);
-    let guards = crosses_threads(Guards::new(plain, digest));
+    let guards = crosses_threads(guards(alloc)?);
     let named = only(alloc, b"abc")?;
     let digests = only(alloc, DIGEST_OF_ABC)?;
     let none = Grants::Keys(KeyList::from_vec(Vec::new(alloc)));

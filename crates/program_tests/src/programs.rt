@@ -1,8 +1,7 @@
 ghost use Rattle.std.specs.Prelude.{◌≡◌, None};
-ghost use Rattle.key_guard.specs.Allowed.{is_allowed};
 ghost use Rattle.relay_outside.specs.Put.{PutStep};
 
-use key_guard::{Grants, Guard, Guards, Mode, by_digest, by_name};
+use crate::keys::guards;
 use relay_base::Status;
 use relay_outside::{MemSink, MemSource, Put, Sink};
 use relay_program::{drill, run};
@@ -23,26 +22,6 @@ fn source(
         };
     }
     Ok(MemSource::new(pieces, fails))
-}
-
-// Whether the grants allow the key in mode `Plain`.
-fn is_named(grants: &Grants, key: &[u8]) -> bool
-    ensures { result ≡ is_allowed Mode.Plain grants.now key.now }
-{
-    by_name(grants, key)
-}
-
-// Whether the grants allow the key in mode `Digest`.
-fn is_digested(grants: &Grants, key: &[u8]) -> bool
-    ensures { result ≡ is_allowed Mode.Digest grants.now key.now }
-{
-    by_digest(grants, key)
-}
-
-fn guards(alloc: Global) -> Result<Guards, Fail> {
-    let plain = Guard::new(Mode::Plain, Box::new(alloc, is_named)?);
-    let digest = Guard::new(Mode::Digest, Box::new(alloc, is_digested)?);
-    Ok(Guards::new(plain, digest))
 }
 
 fn words(alloc: Global) -> Result<Vec<Vec<u8>>, Fail> {
