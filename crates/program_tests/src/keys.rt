@@ -36,15 +36,10 @@ pub(crate) fn guards(alloc: Global) -> Result<Guards, Fail> {
     Ok(Guards::new(plain, digest))
 }
 
-// Guards may be handed to a thread and lent to several.
-fn crosses_threads<T: Send + Sync>(value: T) -> T {
-    value
-}
-
 #[test]
 fn a_guard_answers_what_its_mode_allows(rt: HostRuntime) -> Result<(), Fail> {
     let alloc = rt.alloc();
-    let guards = crosses_threads(guards(alloc)?);
+    let guards = guards(alloc)?;
     let named = only(alloc, b"abc")?;
     let digests = only(alloc, DIGEST_OF_ABC)?;
     let none = Grants::Keys(KeyList::from_vec(Vec::new(alloc)));
