@@ -1,4 +1,4 @@
-ghost use Rattle.std.specs.Prelude.{◌≡◌, ℕ, IfOk, Ok};
+ghost use Rattle.std.specs.Prelude.{◌≡◌, IfOk, Ok};
 ghost use Rattle.aac_adts.specs.Config.{Config, IsConfig, Begins, config_of, checked};
 
 use crate::AacFail;

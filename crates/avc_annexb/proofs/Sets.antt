@@ -34,12 +34,6 @@ pub record Counts (count total nal counter : ℕ) (bytes left : List ℕ) (units
   pub nals : AreNals units
   pub read : with_sets units (sets_in (count - counter) total (nal + length units) left) ≡ sets_in count total nal bytes
 
-pub counts_start : (count total nal : ℕ) (bytes : List ℕ) → Counts count total nal 0 bytes bytes []
-counts_start count total nal bytes =
-    let z : count - 0 ≡ count = omega arith in
-    let n : nal + 0 ≡ nal = omega arith in
-    record { many = refl; nals = tt; read = with_none _ ∙ (rw (z, n) refl) }
-
 pub counts_more : (count total nal counter n : ℕ) (bytes left u rest : List ℕ) (units more : List (List ℕ)) → counter < count → n ≡ nal + length units
     → front_of (Short total) n 2 left ≡ Ok (u, rest) → more ≡ units ++ u ∷ [] → Counts count total nal counter bytes left units → Counts count total nal (counter + 1) bytes rest more
 counts_more count total nal counter n bytes left u rest units more lt at e is w =

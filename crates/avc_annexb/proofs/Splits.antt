@@ -79,13 +79,6 @@ is_one (a ∷ b ∷ []) n = absurd (omega arith)
 is_one (a ∷ b ∷ c ∷ []) n = absurd (omega arith)
 is_one (a ∷ b ∷ c ∷ d ∷ rest) n = one_number a b c d
 
-pub is_short : (s : List ℕ) → length s < 4 → is_start s ≡ false
-is_short [] n = refl
-is_short (a ∷ []) n = refl
-is_short (a ∷ b ∷ []) n = refl
-is_short (a ∷ b ∷ c ∷ []) n = refl
-is_short (a ∷ b ∷ c ∷ d ∷ rest) n = absurd (omega arith)
-
 pub skip1 : (s : List ℕ) → 4 ≤ length s → is_start s ≡ false → start_in s ≡ further 1 (start_in (drop 1 s))
 skip1 [] n h = absurd (omega arith)
 skip1 (a ∷ s) n h = not_here a s h

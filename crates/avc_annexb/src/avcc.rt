@@ -1,4 +1,4 @@
-ghost use Rattle.std.specs.Prelude.{◌≡◌, ℕ, ◌≤◌, ◌<◌, List, length, Ok, Err, IfOk};
+ghost use Rattle.std.specs.Prelude.{◌≡◌, ◌≤◌, ◌<◌, length, Ok, Err, IfOk};
 ghost use Rattle.avc_annexb.specs.Nal.{Gives};
 ghost use Rattle.avc_annexb.specs.Prefixed.{IsSize};
 ghost use Rattle.avc_annexb.specs.Record.{IsConfig, record_of, sets_in, size_read, SetsGiven};

@@ -16,9 +16,6 @@ fed_to old piece used = record { max = old.max; fed = old.fed ++ take used piece
 pub rest_is : (piece : List ℕ) (used : ℕ) → take (length piece - used) (drop used piece) ≡ drop used piece
 rest_is piece used = take_all (length piece - used) (drop used piece) (omega (arith, length-drop used piece))
 
-pub fed_start : (old : ReaderKnown) (piece : List ℕ) → old.failed ≡ None → old ≡ fed_to old piece 0
-fed_start old piece e = rw (append-nil, ← e) refl
-
 pub feed_more : (old mid new : ReaderKnown) (piece : List ℕ) (used more : ℕ) (m : Option Message) → mid ≡ fed_to old piece used → IsTakenTo mid (drop used piece) more m new → new ≡ after_bytes old piece (used + more) m
 feed_more old mid new piece used more m e t =
     let P : ReaderKnown → Type 0 = λ k. new ≡ after_bytes k (drop used piece) more m in

@@ -1,5 +1,5 @@
 -- What the parts of a header say of the whole
-use Rattle.std.proofs.Common.{◌≡◌, ℕ, ◌+◌, ◌<◌, ◌≤◌, Bool, true, false, cond, IsTrue, List, length, drop, refl, arith}
+use Rattle.std.proofs.Common.{◌≡◌, ℕ, ◌+◌, ◌<◌, ◌≤◌, Bool, true, cond, List, length, drop, refl, arith}
 use Rattle.std.proofs.lemmas.List.{length-drop}
 use Rattle.chunk_wire.specs.declared.headers.Basic.{Basic}
 use Rattle.chunk_wire.specs.declared.headers.Head.{Head}
@@ -31,11 +31,6 @@ short_whole s r at e whole a x w h room = record {
 
 pub whole_is : (s : State) (r : List ℕ) (at : ℕ) (e : Bool) (whole : ℕ) → at ≡ basic_size r + head_size (format_in r) → e ≡ is_extended s r → whole ≡ at + cond e 4 0 → whole ≤ length r → header_size s r ≤ length r
 whole_is s r at e whole a x w h = let p = size_parts s r in let v = rw x at w in omega arith
-
--- the extended time is there
-pub far_enough : (at n whole : ℕ) (e : Bool) → whole ≡ at + cond e 4 0 → whole ≤ n → IsTrue e → at + 4 ≤ n
-far_enough at n whole true w h t = omega arith
-far_enough at n whole false w h t = absurd (cc)
 
 pub opened_terms : (s : State) (r : List ℕ) (t : Terms) (part : ℕ) (h : Head) (v : ℕ) (e : Bool) → t ≡ (kept_before s r).terms → part ≡ length (kept_before s r).part → h ≡ head_fields r → v ≡ value_in s r → e ≡ is_extended s r → terms_by t part h v e ≡ (opened s r).terms
 unfolding opened

@@ -1,7 +1,7 @@
 -- A header is determined by its own bytes, whatever follows them
-use Rattle.std.proofs.Common.{◌≡◌, ℕ, ◌+◌, ◌/◌, ◌<◌, ◌≤◌, Bool, true, false, cond, List, ◌++◌, length, take, drop, slice_index, refl, sym, ap, ◌∙◌, arith}
+use Rattle.std.proofs.Common.{◌≡◌, ℕ, ◌+◌, ◌/◌, ◌<◌, ◌≤◌, Bool, true, false, cond, List, ◌++◌, length, drop, slice_index, refl, sym, ap, ◌∙◌, arith}
 use Rattle.std.proofs.lemmas.Bool.Decides.{nat_tests}
-use Rattle.std.proofs.lemmas.List.{get_or-drop, get_or_append_left, get_or-take}
+use Rattle.std.proofs.lemmas.List.{get_or-drop, get_or_append_left}
 use Rattle.relay_base.specs.Numbers.{be24_of, be32_of, le32_of}
 use Rattle.chunk_wire.specs.declared.headers.Basic.{Basic}
 use Rattle.chunk_wire.specs.Layout.{basic_size, id_in, basic_in, format_in, head_in, head_size}
@@ -15,9 +15,6 @@ Same n a b = (i : ℕ) → i < n → slice_index a i ≡ slice_index b i
 
 pub same_append : (a x : List ℕ) → Same (length a) (a ++ x) a
 same_append a x i h = get_or_append_left a x 0 i h
-
-pub same_take : (n : ℕ) (a : List ℕ) → Same n a (take n a)
-same_take n a i h = sym (get_or-take n a i 0 h)
 
 pub same_back : (n : ℕ) (a b : List ℕ) → Same n a b → Same n b a
 same_back n a b s i h = sym (s i h)

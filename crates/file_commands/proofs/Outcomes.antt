@@ -65,24 +65,6 @@ module _ (Gives : List ℕ → List ℕ → Type 0) (Stops Cut : List ℕ → �
   refused_there read file now at given f (inr h) =
       subst (λ (l : List ℕ). IsRefused Gives Stops Cut l at given) (sym (at_end read now file f h.0)) (inr (inl h.1))
 
-  -- the words are others
-  pub not_asked : (asked : Bool) (now : Seen) → asked ≡ false → Outcome Gives Stops Cut Whole asked now now (record { code = 2; place = 0 })
-  not_asked asked now other = record {
-    words = ((λ e. other), (λ e. refl));
-    read = λ e. elim e [ inl nil ↦ absurd (omega (arith, nil)) | inr eight ↦ absurd (omega (arith, eight)) ];
-    all = λ e file is. absurd (omega (arith, e));
-    left_out = λ e file is. absurd (omega (arith, e));
-    refused = λ e file is. absurd (omega (arith, e));
-    after_fault = λ e read is. absurd (omega (arith, e));
-    part = λ e read is. elim e [ inl five ↦ absurd (omega (arith, five)) | inr six ↦ absurd (omega (arith, six)) ];
-    source_fault = λ e. absurd (omega (arith, e));
-    sink_fault = λ e. absurd (omega (arith, e));
-    source = λ e. refl;
-    sink = λ e. refl;
-    codes = inr (inl refl);
-    place = λ e. refl;
-  }
-
   -- of a file that was read to its end
   wrote_all_of : (some_out : Bool) (old new : Seen) → IsRead Gives Stops Cut Whole some_out old.left new.left old.held new.held → (file : List ℕ)
       → old.left ≡ Some file → WritesAll Whole file some_out old.held new.held

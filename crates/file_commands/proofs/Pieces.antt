@@ -23,9 +23,6 @@ left_parts left used =
     ap (λ (l : List ℕ). take used left ++ l) (take_all (length left - used) (drop used left) (omega (arith, length-drop used left)))
     ∙ take-append-drop used left
 
-pub left_shorter : (left : List ℕ) (used : ℕ) → 0 < used → used ≤ length left → length (left_after left used) < length left
-left_shorter left used some within = omega (arith, length-take (length left - used) (drop used left), length-drop used left, some, within)
-
 pub fed_on : (fed fed' left all : List ℕ) (used : ℕ) → fed' ≡ fed ++ take used left → fed ++ left ≡ all → fed' ++ left_after left used ≡ all
 fed_on fed fed' left all used e is =
     ap (λ (l : List ℕ). l ++ left_after left used) e ∙ append_assoc fed (take used left) (left_after left used)

@@ -1,5 +1,5 @@
 //! A file of FLV that becomes a transport stream.
-ghost use Rattle.std.specs.Prelude.{◌≡◌, ◌≤◌, ◌++◌, ◌∷◌, [], ℕ, List, length, OnOk, IfOk, refl};
+ghost use Rattle.std.specs.Prelude.{◌≡◌, ◌≤◌, ◌++◌, ◌∷◌, [], length, OnOk, IfOk, refl};
 ghost use Rattle.av_unit.specs.declared.item.Item.TheVariants.{Unit as AUnit};
 ghost use Rattle.file_commands.specs.Remux.{RemuxGives, RemuxStops, RemuxCut, RemuxWhole, items_of, remux_text};
 ghost use Rattle.file_commands.specs.Fits.{TagsFit, Writes, tags_refusal};

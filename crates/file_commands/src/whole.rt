@@ -1,6 +1,5 @@
 //! Reading a file to its end.
-ghost use Rattle.std.specs.Prelude.{◌≡◌, ◌≤◌, ◌<◌, ◌+◌, ◌^◌, ◌++◌, ℕ, Bool, List, [], length, Option, MatchResult, OnOk, true};
-ghost use Rattle.std.specs.Io.KnownBytes.{append_known};
+ghost use Rattle.std.specs.Prelude.{◌≡◌, ◌≤◌, ◌<◌, ◌+◌, ◌^◌, ◌++◌, ℕ, List, [], length, Option, MatchResult, OnOk, true};
 ghost use Rattle.file_commands.specs.Written.{Writes};
 ghost use Rattle.file_commands.specs.Outcome.{Outcome, WritesAll, seen};
 ghost use Rattle.file_commands.specs.Parts.{PutFails, PieceFails, TakeFails, EndFails, IsRead, FileFails, SinkCause, SinkFaults, SourceFaults, Settles, SettlesFaults, status_of, whole_status};
@@ -119,7 +118,8 @@ fn read_all<C: Convert, S: Source, K: Sink>(
     requires fresh { C.fed file.old ≡ [] }
     requires text { text.old ≡ C.given file.old }
     requires room { 0 < length piece.old }
-    ensures ends { MatchResult result (λ some_out. IsRead C.gives C.stops C.cut C.whole some_out (S.left input.old) (S.left input.new) (K.holds out.old) (K.holds out.new))
+    ensures ends { MatchResult result
+        (λ some_out. IsRead C.gives C.stops C.cut C.whole some_out (S.left input.old) (S.left input.new) (K.holds out.old) (K.holds out.new))
         (λ fail. FileFails C.gives C.stops C.cut C.whole fail (S.left input.old) (S.left input.new) text.new (K.holds out.old) (K.holds out.new)) }
     ensures source { MatchResult result (λ _. S.faults input.new ≡ S.faults input.old)
         (λ fail. SourceFaults fail (S.faults input.old) (S.faults input.new)) }
@@ -149,7 +149,8 @@ fn read_file<C: Convert, S: Source, K: Sink>(
     requires fits { C.fits file.old }
     requires fresh { C.fed file.old ≡ [] }
     requires text { text.old ≡ C.given file.old }
-    ensures ends { MatchResult result (λ some_out. IsRead C.gives C.stops C.cut C.whole some_out (S.left input.old) (S.left input.new) (K.holds out.old) (K.holds out.new))
+    ensures ends { MatchResult result
+        (λ some_out. IsRead C.gives C.stops C.cut C.whole some_out (S.left input.old) (S.left input.new) (K.holds out.old) (K.holds out.new))
         (λ fail. FileFails C.gives C.stops C.cut C.whole fail (S.left input.old) (S.left input.new) text.new (K.holds out.old) (K.holds out.new)) }
     ensures source { MatchResult result (λ _. S.faults input.new ≡ S.faults input.old)
         (λ fail. SourceFaults fail (S.faults input.old) (S.faults input.new)) }

@@ -43,13 +43,6 @@ read_of fed given part s = elim s.at [
   | inr i ↦ (part_bytes part, inr i)
 ]
 
--- the part that is there is no more than was fed
-pub part_within : (fed : List ℕ) (given : List Tag) (part : Part) → IsStanding fed given part → length (part_bytes part) ≤ length fed
-part_within fed given part s = elim s.at [
-  | inl h ↦ omega (arith, ap length h.1)
-  | inr i ↦ omega (arith, in_tags_long fed given (part_bytes part) i)
-]
-
 header_stood : (fed : List ℕ) (byte : ℕ) (given : List Tag) (part : Part) → IsPart part → part_bytes part ≡ [] → InHeader fed given fed
     → (length fed < 9 → length fed ≢ 4 → byte ≡ slice_index header (length fed)) → Stood (fed ++ byte ∷ []) given None part
 header_stood fed byte given part p none h fits =

@@ -1,7 +1,7 @@
 -- What the bytes of a tag mean is the same with more bytes after them
 use Rattle.std.proofs.Common.{◌≡◌, ℕ, ◌+◌, ◌-◌, ◌<◌, ◌≤◌, List, ◌++◌, length, take, drop, slice_index, refl, sym, ap, ◌∙◌, arith}
-use Rattle.std.proofs.Common.{append_assoc, length-append, length-drop}
-use Rattle.std.proofs.lemmas.List.{get_or-drop, get_or_append_left, drop-append-le, take-append-le, take_at, drop_at}
+use Rattle.std.proofs.Common.{append_assoc, length-append}
+use Rattle.std.proofs.lemmas.List.{get_or-drop, get_or_append_left, take_at, drop_at}
 use Rattle.relay_base.specs.Numbers.{be24_of, be32_of}
 use Rattle.flv_tags.specs.Layout.{kind_in, size_in, time_in, back_in, tag_size, tag_in}
 
@@ -61,15 +61,6 @@ tag_by : (b : List ℕ) (kind time size : ℕ) → kind_in b ≡ kind → time_i
     → tag_in b ≡ record { kind = kind; time = time; body = take size (drop 11 b) }
 unfolding tag_in
 tag_by b kind time size k t s = rw (k, t, s) refl
-
-pub tag_more : (r x : List ℕ) → tag_size r ≤ length r → tag_in (r ++ x) ≡ tag_in r
-tag_more r x h =
-    let long : length (drop 11 r) ≡ length r - 11 = length-drop 11 r in
-    let body : take (size_in r) (drop 11 (r ++ x)) ≡ take (size_in r) (drop 11 r) =
-    ap (take (size_in r)) (drop-append-le 11 r x (omega arith)) ∙ take-append-le (size_in r) (drop 11 r) x (omega arith) in
-    tag_by (r ++ x) (kind_in r) (time_in r) (size_in r) (kind_more r x (omega arith)) (time_more r x (omega arith)) (size_more r x (omega arith))
-    ∙ ap (λ (t : List ℕ). record { kind = kind_in r; time = time_in r; body = t }) body
-    ∙ sym (tag_by r (kind_in r) (time_in r) (size_in r) refl refl refl)
 
 -- the tag of a header, a body and the number after it
 pub parts_tag : (h b k : List ℕ) → length h ≡ 11 → length b ≡ size_in h → tag_in (h ++ (b ++ k)) ≡ record { kind = kind_in h; time = time_in h; body = b }

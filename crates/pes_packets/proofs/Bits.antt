@@ -10,10 +10,6 @@ use Rattle.pes_packets.specs.Header.{header, start_bytes, flag_bytes, time_bytes
 four : (a b c d e f g h : ℕ) → a ≡ e → b ≡ f → c ≡ g → d ≡ h → a ∷ b ∷ c ∷ d ∷ [] ≡ e ∷ f ∷ g ∷ h ∷ []
 four a b c d e f g h p q r s = rw (p, q, r, s) refl
 
-abbrev head_number : ℕ → ℕ → ℕ → ℕ → ℕ
-head_number start pid control counter =
-    71 * 16777216 + (0 * 8388608 + (start * 4194304 + (0 * 2097152 + (pid * 256 + (0 * 64 + (control * 16 + (counter * 1 + 0)))))))
-
 pub head_is : (start : Bool) (pid control counter s high low : ℕ) → pid < 8192 → control < 4 → counter < 16 → s ≡ bit start * 64 → high ≡ pid / 256 % 256 → low ≡ pid % 256
     → 71 ∷ (s + high) ∷ low ∷ (control * 16 + counter) ∷ [] ≡ head_bytes start pid control counter
 unfolding head_bytes
@@ -81,10 +77,6 @@ or_none_length (Some base) = ap (λ (n : ℕ). n + 1) (pcr_length base)
 pub told_length : (f : PesFlags) → length (told f) ≡ told_size f.pcr
 unfolding told
 told_length f = sym (omega arith) ∙ or_none_length f.pcr
-
-told_most : (o : Option ℕ) → (1 ≤ told_size o) × (told_size o ≤ 7)
-told_most None = (omega arith, omega arith)
-told_most (Some base) = (omega arith, omega arith)
 
 pub told_is_none : (f : PesFlags) (j r : ℕ) → f.pcr ≡ None → j ≡ bit f.jump * 128 → r ≡ bit f.random * 64 → (j + r) ∷ [] ≡ told f
 told_is_none f j r e h k =

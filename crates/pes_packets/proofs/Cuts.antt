@@ -36,9 +36,6 @@ pub record Runs (pid start counter : ℕ) (rest left old out : List ℕ) : Type 
   pub count : counted counter (length (cuts (length left) 184 left)) ≡ counted start (length (cuts (length rest) 184 rest))
   pub behind : (more : List ℕ) × (out ≡ old ++ more)
 
-pub runs_start : (pid start : ℕ) (rest old : List ℕ) → start < 16 → Runs pid start start rest rest old old
-runs_start pid start rest old small = record { small = small; text = refl; count = refl; behind = ([], sym (append-nil old)) }
-
 pub runs_more : (pid start counter next : ℕ) (rest left after old out new : List ℕ) → 0 < length left → next ≡ (counter + 1) % 16 → after ≡ drop 184 left
     → new ≡ out ++ packet pid counter false silent (take 184 left) → Runs pid start counter rest left old out → Runs pid start next rest after old new
 unfolding packets

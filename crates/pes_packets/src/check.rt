@@ -1,5 +1,5 @@
 ghost use Rattle.std.specs.Prelude.{◌≡◌, ◌*◌, ◌^◌, bit_xor};
-ghost use Rattle.pes_packets.specs.Crc.{shifted, shifted_by, crc_of, crc_from};
+ghost use Rattle.pes_packets.specs.Crc.{shifted, shifted_by, crc_of};
 
 // The polynomial of a section's check, but for its highest term.
 const POLYNOMIAL: u32 = 0x04C1_1DB7;

@@ -1,5 +1,5 @@
 ghost use Rattle.std.specs.Prelude.{◌≡◌, ℕ, ◌<◌, ◌^◌, ◌++◌, List, OnOk, OnErr};
-ghost use Rattle.pes_packets.specs.Header.{header, start_bytes, flag_bytes, time_bytes};
+ghost use Rattle.pes_packets.specs.Header.{header, time_bytes};
 ghost use Rattle.pes_packets.specs.Packet.{IsTime};
 
 use av_unit::{Bytes, OutOfMemory};

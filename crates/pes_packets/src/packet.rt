@@ -1,5 +1,5 @@
 //! One transport packet.
-ghost use Rattle.std.specs.Prelude.{◌≡◌, ℕ, ◌+◌, ◌*◌, ◌<◌, ◌≤◌, ◌^◌, ◌++◌, List, length, replicate, IfSome, OnOk, OnErr};
+ghost use Rattle.std.specs.Prelude.{◌≡◌, ℕ, ◌+◌, ◌*◌, ◌<◌, ◌≤◌, ◌++◌, List, length, replicate, OnOk, OnErr};
 ghost use Rattle.pes_packets.specs.Packet.{IsCounter, IsPid, IsTime, AreFlags, bit, head_bytes, pcr_bytes, told, tells, adaptation, room, packet};
 
 use crate::PesFlags;

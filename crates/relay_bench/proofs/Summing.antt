@@ -10,10 +10,6 @@ pub sum_more : (n : ℕ) (h : List (ℕ × ℕ)) (e : ℕ × ℕ) → sum_after 
 sum_more n [] e = refl
 sum_more n (x ∷ h) e = sum_more ((n + x.0) % 2 ^ 64) h e
 
-pub last_lawful : (n : ℕ) (h : List (ℕ × ℕ)) (e : ℕ × ℕ) → LawfulFrom n (h ++ e ∷ []) → e.1 ≡ (sum_after n h + e.0) % 2 ^ 64
-last_lawful n [] e l = l.0
-last_lawful n (x ∷ h) e l = last_lawful ((n + x.0) % 2 ^ 64) h e l.1
-
 pub sums_more : (before call : ℕ) (h : List (ℕ × ℕ)) → Sums before h → Sums ((before + call) % 2 ^ 64) (h ++ (call, (before + call) % 2 ^ 64) ∷ [])
 sums_more before call h s =
     let e : ℕ × ℕ = (call, (before + call) % 2 ^ 64) in

@@ -1,5 +1,5 @@
 //! Bytes a second of the two commands over files, from memory to memory.
-ghost use Rattle.std.specs.Prelude.{◌≡◌, ◌≤◌, length, IfOk};
+ghost use Rattle.std.specs.Prelude.{◌≤◌, length, IfOk};
 
 use crate::rates::megabytes;
 use av_unit::Bytes;

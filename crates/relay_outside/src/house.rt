@@ -1,4 +1,4 @@
-ghost use Rattle.std.specs.Prelude.{◌≡◌, List, Option, Some, IfSome, IfNone, OnOk, OnErr};
+ghost use Rattle.std.specs.Prelude.{◌≡◌, List, Option, IfSome, IfNone, OnOk, OnErr};
 ghost use Rattle.relay_outside.specs.Doors.{IsNewDoor, IsDone, with_one};
 ghost use Rattle.relay_outside.specs.Houses.{Asked, HouseTold, IsNewFile, asked_door, Refuses, Keeps, kept_file, with_shut, shut_door};
 

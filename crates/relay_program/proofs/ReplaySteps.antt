@@ -151,11 +151,6 @@ feed_next r more h = record { ahead_is = refl; meaning_is = is_near r.line (r.pl
 pub feed_stops : (fail : DrillFail) (r : Replaying) (more : List ℕ) → r.place + 1 ≤ 2 ^ 28 → ObeyFails fail r.line r.number r.scene → Stops fail r (10 ∷ more)
 feed_stops fail r more h p = obey_stops fail r (10 ∷ more) (line_at r.line (r.place + 1)) (lines_from (r.place + 1) [] more) (feed_next r more h) p
 
--- the LF stands past the last byte that a script may have
-pub feed_over : (r : Replaying) (more : List ℕ) → r.place ≡ 2 ^ 28 → Stops (Outside r.number) r (10 ∷ more)
-feed_over r more e =
-    first_is r.number (line_at r.line (r.place + 1)) (lines_from (r.place + 1) [] more) (stand_of r.scene) (too_long r.line (r.place + 1) (inr (omega arith)))
-
 pub feed_goes : (r new : Replaying) (more : List ℕ) → r.place + 1 ≤ 2 ^ 28 → new.line ≡ [] → new.place ≡ r.place + 1 → new.number ≡ r.number + 1
     → Obeyed r.line r.scene new.scene → Advances r (10 ∷ more) new more
 feed_goes r new more h line place number o =

@@ -1,12 +1,11 @@
-ghost use Rattle.std.specs.Prelude.{◌≡◌, ◌<◌, ◌≤◌, ◌+◌, ◌^◌, ◌++◌, ◌∷◌, [], List, ℕ, length, map, position, ◌==◌};
+ghost use Rattle.std.specs.Prelude.{◌≡◌, ◌<◌, ◌+◌, ◌^◌, ◌++◌, ◌∷◌, [], List, ℕ, length, map, position, ◌==◌};
 ghost use Rattle.std.specs.Prelude.{Some, None, MatchResult, OnOk, IfErr};
 ghost use Rattle.std.specs.Io.KnownBytes.{IsAtEnd};
 ghost use Rattle.relay_script.specs.Script.{NoLineFeed};
-ghost use Rattle.relay_replay.specs.Prints.{Prints};
 ghost use Rattle.relay_replay.specs.Scenes.{IsSound, start};
 ghost use Rattle.relay_program.specs.Outcome.{in_out};
 ghost use Rattle.relay_program.specs.Parts.{SourceFaults};
-ghost use Rattle.relay_program.specs.Replay.{Goes, Printed, outside_line};
+ghost use Rattle.relay_program.specs.Replay.{Printed, outside_line};
 ghost use Rattle.relay_program.specs.Replayed.{Replayed};
 ghost use Rattle.relay_program.specs.ReplayParts.{HasNoSink, Fit, Advances, Stops, StopsAt, Extended, ExtendFails, Obeyed, ObeyFails, EndsIn, EndsPrinted};
 ghost use Rattle.relay_program.specs.Words.{is_replay};
@@ -152,7 +151,8 @@ impl Replaying {
         requires { Fit self.old }
         ensures fit { OnOk result (Fit self.new) }
         ensures place { OnOk result (self.new.place ≡ self.old.place + length piece.now) }
-        ensures goes { (rest : List ℕ) → MatchResult result (λ _. Advances self.old (piece.now ++ rest) self.new rest) (λ fail. Stops fail self.old (piece.now ++ rest)) }
+        ensures goes { (rest : List ℕ) → MatchResult result
+            (λ _. Advances self.old (piece.now ++ rest) self.new rest) (λ fail. Stops fail self.old (piece.now ++ rest)) }
     {
         let mut left = piece;
         while let Some(feed) = first_line_feed(left) {

@@ -19,7 +19,7 @@ use Rattle.relay_session.specs.SessionState.{BeginsOwed, SessionState, StandsFor
 use Rattle.relay_session.specs.Turns.{EndedBy}
 use Rattle.relay_session.specs.declared.end.End.{End}
 use Rattle.relay_session.specs.declared.turn.Turn.{Turn}
-use Rattle.relay_replay.specs.Cast.{ConnState, RecState, CastState, AfterTurn, AnsweredBy, AnsweredTurn, Turned, Times, Each}
+use Rattle.relay_replay.specs.Cast.{ConnState, RecState, CastState, AfterTurn, AnsweredBy, AnsweredTurn, Turned, Each}
 use Rattle.relay_replay.specs.Scenes.{Fits, Ready, ReadyBy, Sits}
 
 -- ---- the desk grants places that are there
@@ -145,11 +145,6 @@ turn_of (Ok a) desk n c x port' y h e fixed turn = record {
 turn_of (Err e) desk n c x port' y h same fixed turn = tt
 
 -- ---- one step more
-
-pub times_more : {A : Type 0} → (k : ℕ) (step : A → A → Type 0) (c m d : A) → Times k step c m → step m d → Times (k + 1) step c d
-times_more k step c m d before one =
-    let same : suc k ≡ k + 1 = omega arith in
-    subst (λ (n : ℕ). Times n step c d) same (m, (before, one))
 
 pub each_more : {A : Type 0} → (k : ℕ) (step : ℕ → A → A → Type 0) (c m d : A) → Each k step c m → step k m d → Each (k + 1) step c d
 each_more k step c m d before one =

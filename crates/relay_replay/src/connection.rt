@@ -1,4 +1,4 @@
-ghost use Rattle.std.specs.Prelude.{◌≡◌, ◌≤◌, ℕ, [], length, IfOk, OnOk, Some, None};
+ghost use Rattle.std.specs.Prelude.{◌≡◌, ◌≤◌, ℕ, length, IfOk, OnOk, Some, None};
 ghost use Rattle.relay_session.specs.Grants.{granted_from};
 ghost use Rattle.relay_session.specs.Places.{IsAt, IsOffered};
 ghost use Rattle.relay_session.specs.SeatState.{HasFit};

@@ -1,8 +1,7 @@
 ghost use Rattle.std.specs.Prelude.{◌≡◌, ◌≢◌, ℕ, ◌+◌, ◌<◌, ◌≤◌, [], true, length, OnOk, IfOk, Some, None};
 ghost use Rattle.media_recorder.specs.Mediums.{most_held as most_recorded};
 ghost use Rattle.media_recorder.specs.Ports.{FitsIf};
-ghost use Rattle.media_recorder.specs.Turns.{Turns};
-ghost use Rattle.stream_registry.specs.Books.{FitsSole, SeenState, SoleState, journal_at, sole_rules};
+ghost use Rattle.stream_registry.specs.Books.{FitsSole, SeenState, sole_rules};
 ghost use Rattle.relay_replay.specs.Cast.{RecorderTurn, AfterRecTurn, EndsBy, IsText, RecTurnsBy, form_of, recorder_of, text_in};
 ghost use Rattle.relay_replay.specs.Prints.{RecHolds};
 ghost use Rattle.relay_replay.specs.Scenes.{Fits, IsNewRecorder};

@@ -1,4 +1,4 @@
-ghost use Rattle.std.specs.Prelude.{◌≡◌, ◌↔◌, ◌<◌, ◌≤◌, ◌+◌, ◌^◌, ◌++◌, [], length, map, All, IsTrue, IfOk, OnOk, Some, None, Ok, Err, true, false};
+ghost use Rattle.std.specs.Prelude.{◌≡◌, ◌↔◌, ◌<◌, ◌≤◌, ◌+◌, ◌^◌, ◌++◌, [], length, map, All, IfOk, OnOk, Some, None, Ok, Err, true, false};
 ghost use Rattle.relay_session.specs.Grants.{granted_from};
 ghost use Rattle.std.specs.Prelude.{◌∷◌, option_map, slice_get, slice_index_or};
 ghost use Rattle.std.specs.List.{list_any};

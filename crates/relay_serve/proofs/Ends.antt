@@ -3,7 +3,7 @@ use Rattle.std.proofs.Common.{◌≡◌, ◌≢◌, ◌⊎◌, ℕ, true, List, 
 use Rattle.relay_config.specs.declared.config.Config.{Config}
 use Rattle.relay_config.specs.declared.config.ConfigFail.{ConfigFail}
 use Rattle.relay_config.specs.declared.config.ConfigFail.TheVariants as fail
-use Rattle.relay_config.specs.Accepts.{Accepts, refusal}
+use Rattle.relay_config.specs.Accepts.{refusal}
 use Rattle.relay_serve.specs.declared.serving.Ending.{Ending}
 use Rattle.relay_serve.specs.declared.serving.Ending.TheVariants as end
 use Rattle.relay_serve.specs.declared.starting.OpenFail.{OpenFail}
@@ -17,16 +17,6 @@ pub runs_unopened : (config : Config) (histories : Histories) (held : Option (Li
     → HouseCause cause house house' → RunsAs config histories (seen held faults house asked) (seen held faults house' asked') (unopened_as cause)
 runs_unopened config histories held faults house house' asked asked' opened.HouseFault h = (h, refl, refl)
 runs_unopened config histories held faults house house' asked asked' opened.OutOfMemory h = (refl, ap (λ (x : HouseTold). x.faults) h)
-
-pub ends_accepted : (old new : Outer) (ending : Ending) (bytes : List ℕ) (config : Config) → new.source_faults ≡ old.source_faults
-    → TakesText old.left new.left bytes → Accepts bytes config → (histories : Histories) × RunsAs config histories old.out new.out ending → EndsAs true old new ending
-ends_accepted old new end.Served bytes config s t a r = (refl, s, record { bytes = bytes; taken = t; config = config; accepts = a; histories = r.0; runs = r.1 })
-ends_accepted old new end.SinkFault bytes config s t a r = (refl, s, record { bytes = bytes; taken = t; config = config; accepts = a; histories = r.0; runs = r.1 })
-ends_accepted old new end.HouseFault bytes config s t a r = (refl, s, record { bytes = bytes; taken = t; config = config; accepts = a; histories = r.0; runs = r.1 })
-ends_accepted old new end.OutOfMemory bytes config s t a r = (refl, s, r.1.0, r.1.1)
-ends_accepted old new end.BadWords bytes config s t a r = absurd r.1
-ends_accepted old new end.SourceFault bytes config s t a r = absurd r.1
-ends_accepted old new end.Refused bytes config s t a r = absurd r.1
 
 cause_is : (cause : ConfigFail) (bytes : List ℕ) → cause ≢ fail.OutOfMemory → (cause ≡ fail.OutOfMemory) ⊎ (refusal bytes ≡ Some cause) → refusal bytes ≡ Some cause
 cause_is cause bytes n (inl e) = absurd (n e)

@@ -1,5 +1,5 @@
 -- Recorders that a worker is given, one after the other
-use Rattle.std.proofs.Common.{◌≡◌, ℕ, ◌+◌, ◌-◌, ◌≤◌, ◌%◌, List, [], ◌∷◌, ◌++◌, length, get_or, take, drop, append_assoc, append-nil, Option, refl, sym, ap, subst, ◌∙◌, arith}
+use Rattle.std.proofs.Common.{◌≡◌, ℕ, ◌+◌, ◌-◌, ◌≤◌, ◌%◌, List, [], ◌∷◌, ◌++◌, length, get_or, take, drop, append_assoc, Option, refl, sym, ap, subst, ◌∙◌, arith}
 use Rattle.std.specs.Prelude.{map, if◌then◌else◌, ◌==◌}
 use Rattle.std.proofs.lemmas.List.{map_push, take_all}
 use Rattle.std.proofs.lemmas.List.Elements.{All-push}
@@ -16,9 +16,6 @@ use Rattle.relay_serve.specs.Settling.{Enlists}
 use Rattle.relay_serve.specs.Starts.{HasTally}
 
 module _ {D K L : Type 0} (holds : K → Option (List ℕ)) (faults : K → ℕ) where
-  -- none yet
-  pub enlists_none : (w : WorkerState Streams D K (PassKnown Site Attempt) L) → Enlists holds faults [] w w
-  enlists_none w = record { bench = refl; terms = refl; labels = sym (append-nil (map label_of w.recorders)); tallies = λ all. all }
 
   -- these, and then the others
   pub enlists_then : (recordings others : List Label) (w v u : WorkerState Streams D K (PassKnown Site Attempt) L) → Enlists holds faults recordings w v

@@ -42,15 +42,6 @@ module _ {K : Type 0} where
       ap (λ (n : ℕ). label n (state_of s).seat.place (form_of s)) who
       ∙ (ap (λ (n : ℕ). label (state_of r).seat.who n (form_of s)) place ∙ ap (label (state_of r).seat.who (state_of r).seat.place) form)
 
-  pub there_at : (rules : PortRules) (port : Streams) (r : Recorder Streams K (PassKnown Site Attempt)) → HasRules rules port → IsFiledBy rules r
-      → (state_of r).seat.place < length (shared_rules port).names
-  there_at rules port r e f = subst (λ (q : PortRules). (state_of r).seat.place < length q.names) (sym e) f.there
-
-  pub fits_at : (rules : PortRules) (port : Streams) (r : Recorder Streams K (PassKnown Site Attempt)) → HasRules rules port → IsFiledBy rules r
-      → FitsIf (λ (p : PassKnown Site Attempt). slice_get (gates port.roots) (state_of r).seat.place ≡ Some p.gate) (state_of r).seat.pass
-  fits_at rules port r e f =
-      subst (λ (q : PortRules). FitsIf (λ (p : PassKnown Site Attempt). slice_get q.gates (state_of r).seat.place ≡ Some p.gate) (state_of r).seat.pass) (sym e) f.fit
-
   pub filed_by : (rules : PortRules) (port : Streams) (r : Recorder Streams K (PassKnown Site Attempt)) → HasRules rules port
       → (state_of r).seat.place < length (shared_rules port).names
       → FitsIf (λ (p : PassKnown Site Attempt). slice_get (gates port.roots) (state_of r).seat.place ≡ Some p.gate) (state_of r).seat.pass → IsFiledBy rules r
@@ -58,10 +49,6 @@ module _ {K : Type 0} where
     there = subst (λ (q : PortRules). (state_of r).seat.place < length q.names) e l;
     fit = subst (λ (q : PortRules). FitsIf (λ (p : PassKnown Site Attempt). slice_get q.gates (state_of r).seat.place ≡ Some p.gate) (state_of r).seat.pass) e f;
   }
-
-  -- by rules that are the same
-  pub filed_again : (rules rules' : PortRules) (rs : List (Recorder Streams K (PassKnown Site Attempt))) → rules ≡ rules' → All (IsFiledBy rules) rs → All (IsFiledBy rules') rs
-  filed_again rules rules' rs e all = subst (λ (q : PortRules). All (IsFiledBy q) rs) e all
 
   pub filed_all : (rules : PortRules) (port : Streams) (rs : List (Recorder Streams K (PassKnown Site Attempt))) → HasRules rules port
       → All (IsFiled (λ (place : ℕ) (p : PassKnown Site Attempt). slice_get (gates port.roots) place ≡ Some p.gate) (length (shared_rules port).names)) rs → All (IsFiledBy rules) rs

@@ -1,5 +1,5 @@
 //! The last call at each place, and the report.
-ghost use Rattle.std.specs.Prelude.{◌≡◌, ◌≢◌, ◌<◌, ◌≤◌, ◌+◌, ◌++◌, ℕ, None, Contains, length, codes, string_bytes, vec_len, map, IfOk, OnOk};
+ghost use Rattle.std.specs.Prelude.{◌≡◌, ◌≢◌, ◌<◌, ◌≤◌, ◌+◌, ◌++◌, ℕ, None, Contains, length, string_bytes, vec_len, map, IfOk, OnOk};
 ghost use Rattle.std.specs.Fmt.{decimal};
 ghost use Rattle.turn_gate.specs.Histories.{Begins};
 ghost use Rattle.stream_registry.specs.Gates.{told_at};

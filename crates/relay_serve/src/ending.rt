@@ -1,5 +1,5 @@
 //! What comes after the workers: ports are gathered, recorders take what is left and leave, files are kept and doors shut.
-ghost use Rattle.std.specs.Prelude.{◌≡◌, ◌+◌, ◌≤◌, ℕ, List, [], ◌∷◌, true, false, All, Contains, Some, length, map, vec_len, IfOk, option_map};
+ghost use Rattle.std.specs.Prelude.{◌≡◌, ◌+◌, ◌≤◌, ℕ, List, [], ◌∷◌, true, false, All, Contains, Some, map, vec_len, IfOk, option_map};
 ghost use Rattle.std.specs.List.{range_with_len};
 ghost use Rattle.relay_outside.specs.Doors.{with_one};
 ghost use Rattle.relay_outside.specs.Houses.{kept_file, shut_door};
@@ -7,7 +7,7 @@ ghost use Rattle.relay_serve.specs.Recorded.{HasLeft, IsRecorded, IsSettled, Rec
 ghost use Rattle.relay_serve.specs.Recordings.{file_name, recordings_of, recordings_upto};
 ghost use Rattle.relay_serve.specs.Settling.{EachAt, IsBalanced, IsLeft, IsServing, IsShut, TellsMore};
 ghost use Rattle.relay_serve.specs.Starts.{HasRules, HasTally, IsFiledBy};
-ghost use Rattle.relay_worker.specs.Filed.{form_of, sink_of, state_of};
+ghost use Rattle.relay_worker.specs.Filed.{sink_of, state_of};
 ghost use Rattle.relay_worker.specs.Running.{HasRun, label_of};
 ghost use Rattle.stream_registry.specs.Gates.{numbers, told_at};
 ghost use Rattle.stream_registry.specs.Roots.{Later};

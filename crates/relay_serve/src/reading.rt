@@ -1,5 +1,5 @@
 //! The text of a configuration.
-ghost use Rattle.std.specs.Prelude.{◌≡◌, ◌≤◌, length, OnOk, MatchResult};
+ghost use Rattle.std.specs.Prelude.{◌≡◌, MatchResult};
 ghost use Rattle.relay_serve.specs.Ends.{SourceCause};
 ghost use Rattle.relay_serve.specs.Taking.{TakesText};
 ghost use Rattle.std.specs.Prelude.{IfOk};

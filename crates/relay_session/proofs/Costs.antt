@@ -1,12 +1,11 @@
 -- What is said at a message, or at a reply, is short
 use Rattle.std.proofs.Common.{◌≡◌, ◌≤◌, ℕ, List, [], ◌∷◌, length, Option, Some, None, refl, arith}
 use Rattle.std.specs.Int.{bytes_high_first}
-use Rattle.ack_window.specs.Controls.{message_of, ping_answer_of}
-use Rattle.ack_window.specs.declared.control.Control.{Control}
+use Rattle.ack_window.specs.Controls.{message_of}
 use Rattle.ack_window.specs.declared.control.Control.TheVariants as control
 use Rattle.chunk_wire.specs.declared.message.Message.{Message}
 use Rattle.command_dialog.specs.Dialog as dialog
-use Rattle.command_dialog.specs.Dialog.{answers, connected, granted, refused_by, refuses, told_in, told_play, told_publish}
+use Rattle.command_dialog.specs.Dialog.{answers, connected, refused_by, refuses, told_in, told_play, told_publish}
 use Rattle.command_dialog.specs.State.{State}
 use Rattle.command_dialog.specs.declared.types.Grant.{Grant}
 use Rattle.command_dialog.specs.declared.types.Grant.TheVariants as grant
@@ -24,7 +23,6 @@ use Rattle.rtmp_command.proofs.Lengths.{body_of_short}
 use Rattle.stream_model.specs.declared.replies.Reply.{Reply}
 use Rattle.stream_model.specs.declared.replies.Reply.TheVariants as reply
 use Rattle.relay_session.specs.Owing.{cost_of, costs_of}
-use Rattle.relay_session.specs.Session.{pongs}
 
 answer_cost : (id : ℕ) (a : Answer) → cost_of (answers id a) ≤ 3518
 answer_cost id a = omega (arith, body_of_short a)
@@ -46,9 +44,6 @@ size_cost = omega arith
 
 event_cost : (event id : ℕ) → cost_of (message_of (control.User event id)) ≤ 390
 event_cost event id = omega arith
-
-pub ack_cost : (n : ℕ) → cost_of (message_of (control.Acknowledgement n)) ≤ 356
-ack_cost n = omega (arith, four n)
 
 refusal_cost : (r : Role) (id : ℕ) (w : Why) → costs_of (refuses r id w) ≤ 3518
 refusal_cost role.Publish id w = one_cost id (answer.PublishRefused w)
@@ -77,21 +72,6 @@ says_cost s g meant.Media = omega arith
 -- at a message that is no control, where its meaning is this
 pub meant_cost : (s : State) (g : Option Grant) (m : Meant) (l : List Message) → l ≡ dialog.says s g m → costs_of l ≤ 4640
 meant_cost s g m l e = rw e (says_cost s g m)
-
-pub pong_cost : (c : Control) → costs_of (pongs (ping_answer_of c)) ≤ 4640
-pong_cost c = pong_by (ping_answer_of c)
-  where
-    control_cost : (c : Control) → cost_of (message_of c) ≤ 400
-    control_cost (control.ChunkSize n) = omega (arith, four n)
-    control_cost (control.Abort n) = omega (arith, four n)
-    control_cost (control.Acknowledgement n) = omega (arith, four n)
-    control_cost (control.User event n) = omega arith
-    control_cost (control.Window n) = omega (arith, four n)
-    control_cost (control.Bandwidth n limit) = omega arith
-
-    pong_by : (o : Option Control) → costs_of (pongs o) ≤ 4640
-    pong_by None = omega arith
-    pong_by (Some d) = omega (arith, control_cost d)
 
 publish_cost : (id : ℕ) (r : Reply) → costs_of (told_publish id r) ≤ 3518
 publish_cost id (reply.Began n) = one_cost id answer.PublishStart

@@ -1,5 +1,5 @@
 -- A unit in hand is written chunk by chunk
-use Rattle.std.proofs.Common.{◌≡◌, ℕ, ◌+◌, ◌-◌, ◌*◌, ◌/◌, ◌%◌, ◌<◌, ◌≤◌, Bool, true, false, nat_lt, cond, List, [], ◌∷◌, ◌++◌, length, refl, sym, ap, ◌∙◌, arith, append-nil, append_assoc, length-append}
+use Rattle.std.proofs.Common.{◌≡◌, ℕ, ◌+◌, ◌-◌, ◌*◌, ◌/◌, ◌%◌, ◌<◌, ◌≤◌, Bool, true, false, nat_lt, cond, List, [], ◌∷◌, ◌++◌, length, ap, ◌∙◌, arith, append_assoc, length-append}
 use Rattle.chunk_wire.specs.Written.{basic_bytes, field_bytes, head_bytes}
 use Rattle.chunk_writer.specs.declared.begun.Begun.{Begun}
 use Rattle.chunk_writer.specs.InHand.{InHand, after_chunk, chunk_of, format_of, left_of, payload_of}
@@ -35,10 +35,6 @@ pub record IsFilling (place most : ℕ) (old sending : InHand) (body before now 
   pub grows : length before ≤ length now
   pub size : sending.size ≡ old.size
   pub bound : (b : ℕ) → most + (18 + old.size) ≤ b → length before - place ≤ b → length now - place ≤ b
-
-pub fill_start : (place most : ℕ) (old : InHand) (body before : List ℕ) → IsHeld old body → IsFilling place most old old body before before
-fill_start place most old body before h =
-    record { held = h; goes = record { same = refl; more = []; after = sym (append-nil before) }; grows = omega arith; size = refl; bound = λ b room le. le }
 
 pub fill_more : (place most : ℕ) (old sending new : InHand) (body before now next : List ℕ) → IsFilling place most old sending body before now → length now - place < most → new ≡ after_chunk sending body
     → next ≡ now ++ chunk_of sending body → next ++ left_of new body ≡ now ++ left_of sending body → IsFilling place most old new body before next

@@ -1,13 +1,12 @@
 -- Feeding a buffer, piece by piece
-use Rattle.std.proofs.Common.{◌≡◌, ◌≤◌, ◌<◌, ◌+◌, ◌*◌, ℕ, length-append, length-drop, Option, Some, List, [], ◌++◌, length, drop, Bool, false, refl, sym, ap, ◌∙◌, subst, arith, append-nil, append_assoc, None}
+use Rattle.std.proofs.Common.{◌≡◌, ◌≤◌, ◌<◌, ◌+◌, ◌*◌, ℕ, length-append, length-drop, Option, Some, List, ◌++◌, length, drop, Bool, false, ap, ◌∙◌, subst, arith, append_assoc, None}
 use Rattle.command_dialog.specs.declared.types.Ask.{Ask}
 use Rattle.command_dialog.specs.declared.types.Grant.{Grant}
 use Rattle.relay_session.specs.Feeding.{Decides, Fixed, Heard, Hears, IsFed, IsStopped, heard_of}
 use Rattle.stream_model.specs.declared.calls.Entry.{Entry}
-use Rattle.relay_session.proofs.Room.{room_none}
 use Rattle.relay_session.specs.Bounds.{IsLight, weight}
 use Rattle.relay_session.specs.Holding.{HandFits}
-use Rattle.relay_session.specs.Keeping.{HasEnded, IsSound, StandsBefore}
+use Rattle.relay_session.specs.Keeping.{IsSound, StandsBefore}
 use Rattle.relay_session.specs.declared.core_fields.Core.{Core}
 use Rattle.relay_session.specs.declared.end.End.{End}
 
@@ -20,17 +19,6 @@ pub record IsFeeding (desk : Ask → Grant) (old : Core) (input : List ℕ) (now
   pub idle : now.kept ≡ None
   pub light : weight now.outgoing.others now.x now.inbound + 356 * length left ≤ weight old.outgoing.others old.x old.inbound + 356 * length input
   pub fits : HandFits old → HandFits now
-
-pub feeding_start : (desk : Ask → Grant) (c : Core) (input : List ℕ) → IsSound c → c.kept ≡ None → IsFeeding desk c input c input
-feeding_start desk c input l k = record {
-  sound = l;
-  stands = λ st. st;
-  fed = record { fed = []; split = refl; x = sym (append-nil c.x); fixed = refl; others = omega arith };
-  heard = refl;
-  idle = k;
-  light = omega arith;
-  fits = λ f. f;
-}
 
 pub fed_then : (a b c : Core) (i j k : List ℕ) → IsFed a i b j → IsFed b j c k → IsFed a i c k
 fed_then a b c i j k f g = record {
@@ -75,17 +63,10 @@ pub fed_light : (desk : Ask → Grant) (old now next : Core) (input left : List 
     → 16000 * next.outgoing.others ≤ weight now.outgoing.others now.x now.inbound + (356 * n + 4640000) → 16 * next.outgoing.others ≤ 186694
 fed_light desk old now next input left n f few short ne le = omega (arith, f.light, few, short, ne, le)
 
-pub still_light : (desk : Ask → Grant) (old now : Core) (input left : List ℕ) → IsFeeding desk old input now left → old.outgoing.others ≤ 8192 → length input ≤ 4096 → 16 * now.outgoing.others ≤ 186694
-still_light desk old now input left f few short = omega (arith, f.light, few, short)
-
 -- what waits then leaves room for the answers to a call
 pub light_fed : (n : ℕ) (kept : Option Entry) → 16 * n ≤ 186694 → IsLight n kept
 light_fed n None le = omega (arith, le)
 light_fed n (Some e) le = omega (arith, le)
-
-pub ended_fed : (old new : Core) (input : List ℕ) (e : End) → IsSound old → IsStopped old input e new → old.kept ≡ None → 16 * new.outgoing.others ≤ 186694 → HandFits new → HasEnded new
-ended_fed old new input e l s k le fi =
-    record { counted = s.counted; room = room_none new.reader new.kept (s.kept ∙ k) (omega (arith, l.short, ap (λ (x : Fixed). x.max) s.fixed)); light = light_fed new.outgoing.others new.kept le; fits = fi }
 
 decides_same : (n max : ℕ) (h k : Heard) (y z : List ℕ) (e : End) (other : ℕ) → max ≡ other → h ≡ k → y ≡ z → Decides max h y n e → Decides other k z n e
 decides_same n max h k y z e other me he ye d =

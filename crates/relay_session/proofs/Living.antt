@@ -130,10 +130,6 @@ version_take [] [] (suc n) some e = refl
 version_take [] (b ∷ piece) zero some e = absurd (omega (arith, some))
 version_take [] (b ∷ piece) (suc n) some e = e
 
-pub version_first : (x piece : List ℕ) (b : ℕ) → bad_version x ≡ None → bad_version (x ++ piece) ≡ Some b → length x ≡ 0
-version_first [] piece b e f = refl
-version_first (a ∷ x) piece b e f = absurd (let h : None ≡ Some b = sym e ∙ f in cc)
-
 pub sound_hand : (c : Core) (piece x : List ℕ) (o : Owing) (used : ℕ) (k : Handshake) (more : List ℕ) → IsSound c → length c.x < hand_bytes → 0 < used → used ≡ used_of c.hand.fed piece
     → k ≡ record { fed = c.hand.fed ++ read_of c.hand.fed piece; failed = None } → length k.fed ≤ hand_bytes → x ≡ c.x ++ take used piece → bad_version (c.hand.fed ++ piece) ≡ None
     → pending o ≡ pending c.outgoing ++ more → o.others ≡ c.outgoing.others + length more

@@ -13,7 +13,7 @@ use Rattle.relay_session.specs.Onward.{GoesOn}
 use Rattle.relay_session.specs.Owing.{pending}
 use Rattle.relay_session.specs.Places.{Asked}
 use Rattle.relay_session.specs.SeatState.{SeatState, known}
-use Rattle.relay_session.specs.Turns.{AfterCall, AfterKept, CallAsked, CalledBy, CameAs, EmptyBy, EndedBy, Fed, FedAs, FedBy, Input, InputBy, IsEnded, KeptBy, Life, Loudly, Quietly, QuitBy, SendBy, Sent, SentAs, Stopping, Taken, TakenBy, is_hungry, is_nil, life, takes}
+use Rattle.relay_session.specs.Turns.{AfterCall, AfterKept, CallAsked, CalledBy, CameAs, EmptyBy, Fed, FedAs, FedBy, Input, InputBy, IsEnded, KeptBy, Life, Loudly, Quietly, QuitBy, SendBy, Sent, SentAs, Stopping, Taken, TakenBy, is_hungry, is_nil, life, takes}
 use Rattle.relay_session.specs.declared.end.End.{End}
 use Rattle.relay_session.specs.declared.seat_answers.Made.{Made}
 use Rattle.relay_session.specs.declared.seat_answers.Made.TheVariants as made
@@ -145,7 +145,3 @@ module _ {P Q : Type 0} (fits : P → ℕ → Q → Type 0) (rules : P → PortR
         pub on_kept : (o : Option Entry) (quit : Bool) (v : Life P (SeatState Q)) (l : L) (a : Turn) (w : Life P (SeatState Q)) (m : L) → KeptBy Asks desk hears says o quit v l a w m → On v w
         on_kept None quit v l a w m t = on_quit quit v l false a w m t
         on_kept (Some e) quit v l a w m t = on_then v t.1.0 w (on_called_as v t.1.0 e t.0 t.1.1.0) (on_after_kept quit v t.1.0 t.0 l a w m t.1.1.1)
-
-        pub on_turned : (o : Option End) (quit : Bool) (v : Life P (SeatState Q)) (l : L) (a : Turn) (w : Life P (SeatState Q)) (m : L) → EndedBy Asks desk hears says o quit v l a w m → On v w
-        on_turned None quit v l a w m t = on_kept v.parts.kept quit v l a w m t
-        on_turned (Some e) quit v l a w m t = subst (On v) (sym t.1) (on_refl v)

@@ -1,6 +1,6 @@
 -- What is pending
 use Rattle.std.proofs.Common.{◌≡◌, ℕ, ◌+◌, ◌-◌, ◌*◌, max, ◌<◌, ◌≤◌, false, nat_eq, List, [], ◌∷◌, ◌++◌, length, drop, take, get_or, Option, Some, None, Result, Ok, Err, OnOk, OnErr, refl, sym, ap, ◌∙◌, subst, arith, append-nil, append_assoc, length-append}
-use Rattle.std.proofs.lemmas.List.{append_cancel_left, drop-append-le, length-drop, take_all}
+use Rattle.std.proofs.lemmas.List.{append_cancel_left, drop-append-le, take_all}
 use Rattle.av_unit.specs.declared.bytes.OutOfMemory.{OutOfMemory}
 use Rattle.chunk_wire.specs.declared.message.Message.{Message}
 use Rattle.chunk_writer.specs.WriterKnown.{WriterKnown}
@@ -149,15 +149,6 @@ unit_says s stream u w v h first later is none he ve fe le =
       others = refl;
     })
 
--- the messages of an item, where nothing is pending
-pub all_shows : (s : Owing) (l : List Message) (w v : WriterKnown) (empty first later : List ℕ) → s.writer ≡ w → pending s ≡ [] → v ≡ after_all w l → empty ≡ [] → first ≡ empty ++ written w l → later ≡ []
-    → Shows s l (owing first 0 (length first) None later v)
-all_shows s l w v empty first later is none ve ee fe le = rw (ve, fe, ee, le) (record {
-  bytes = append-nil (written w l) ∙ ap (λ (x : WriterKnown). written x l) (sym is) ∙ ap (λ (b : List ℕ). b ++ written s.writer l) (sym none);
-  writer = ap (λ (x : WriterKnown). after_all x l) (sym is);
-  others = omega arith;
-})
-
 -- what the loop over messages keeps: what is to be written is what is left to be written
 pub record IsWriting (old : WriterKnown) (before : List ℕ) (all : List Message) (now : WriterKnown) (out : List ℕ) (rest : List Message) : Type 0 where
   pub bytes : out ++ written now rest ≡ before ++ written old all
@@ -166,9 +157,6 @@ pub record IsWriting (old : WriterKnown) (before : List ℕ) (all : List Message
   pub grows : length before ≤ length out
   pub sized : IsSized old.size → IsSized now.size
   pub light : IsSized old.size → 16 * length out + costs_of rest ≤ 16 * length before + costs_of all
-
-pub writing_first : (w : WriterKnown) (b : List ℕ) (l : List Message) → AreWritable l → IsWriting w b l w b l
-writing_first w b l a = record { bytes = refl; writer = refl; can = a; grows = omega arith; sized = λ k. k; light = λ k. omega arith }
 
 rest_of : (m : Message) (ms : List Message) → take (length (m ∷ ms) - 1) (drop 1 (m ∷ ms)) ≡ ms
 rest_of m ms = take_all (length (m ∷ ms) - 1) ms (omega arith)
@@ -210,11 +198,3 @@ pub written_all : (old now : WriterKnown) (before out : List ℕ) (all l : List 
 written_all old now before out all [] none i =
     (sym (none_after now) ∙ i.writer, sym (append-nil out) ∙ ap (λ (b : List ℕ). out ++ b) (sym (none_written now)) ∙ i.bytes)
 written_all old now before out all (x ∷ l) none i = absurd (omega (arith, none))
-
--- enough is encoded
-pub fill_ready : (out : List ℕ) (offset most : ℕ) → most ≤ length out - offset → most ≤ length (drop offset out)
-fill_ready out offset most le = omega (arith, le, length-drop offset out)
-
--- what is left of the first bytes, of which those up to a place are of an item
-pub others_trimmed : (first : List ℕ) (offset item : ℕ) → offset ≤ length first → length (drop offset first) - max 0 (item - offset) ≡ length first - max offset item
-others_trimmed first offset item le = omega (arith, le, length-drop offset first)

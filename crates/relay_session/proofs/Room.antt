@@ -11,7 +11,7 @@ use Rattle.chunk_reader.specs.Control.{by_message, controlled, dropped, dropped_
 use Rattle.chunk_reader.specs.Feeds.{IsFedTo}
 use Rattle.chunk_reader.specs.ReaderKnown.{ReaderKnown}
 use Rattle.chunk_reader.specs.Reads.{AreChunks, IsChunkWithin, Reads, ended, held_bytes, messages, part_limit, state_after}
-use Rattle.relay_session.specs.Bounds.{Acts, HasRoom, kept_bytes}
+use Rattle.relay_session.specs.Bounds.{HasRoom, kept_bytes}
 use Rattle.stream_model.specs.declared.calls.Entry.{Entry}
 use Rattle.chunk_reader.proofs.Once.{one_reading}
 use Rattle.chunk_reader.proofs.Reading.{held_short, held_whole}
@@ -135,7 +135,3 @@ room_none k kept e sh = record {
   alone = omega (arith, ap kept_bytes e);
   together = λ s r q. omega (arith, ap kept_bytes e, q.rest.admitted.held);
 }
-
-pub acts_none : (kept : Option Entry) → kept ≡ None → Acts kept
-acts_none None e = tt
-acts_none (Some x) e = absurd (cc)

@@ -15,7 +15,7 @@ use Rattle.relay_session.specs.Places.{IsAt, IsOffered, IsThere}
 use Rattle.relay_session.specs.Session.{place_by}
 use Rattle.relay_session.proofs.Placing.{place_there}
 use Rattle.relay_session.specs.SeatState.{SeatState}
-use Rattle.relay_session.specs.Turns.{AfterCall, AfterKept, CalledBy, CameAs, EmptyBy, Fed, Input, InputBy, IsEnded, IsFilled, IsTried, KeptBy, Life, Loudly, Quietly, QuitBy, SendBy, Sent, SentAs, Stopping, TakeAsked, Taken, TakenBy, TriedAs, answer, gone_of, is_held_back, is_hungry, is_nil, life, takes, takes_if}
+use Rattle.relay_session.specs.Turns.{AfterCall, AfterKept, CalledBy, CameAs, EmptyBy, Fed, Input, InputBy, IsEnded, IsFilled, IsTried, KeptBy, Life, Loudly, Quietly, QuitBy, SendBy, Sent, SentAs, Stopping, Taken, TriedAs, is_held_back, is_hungry, is_nil, life, takes, takes_if}
 use Rattle.relay_session.specs.declared.core_fields.Core.{Core}
 use Rattle.relay_session.specs.declared.end.End.{End}
 use Rattle.relay_session.specs.declared.end.End.TheVariants as end
@@ -52,14 +52,8 @@ takes_some c p e =
 
 -- ---- where it is
 
-pub at_other : {Q : Type 0} (fits : ℕ → Q → Type 0) (count : ℕ) (c d : Core) (s : SeatState Q) → IsAt fits count c s → d.place ≡ c.place → d.calls ≡ c.calls → IsAt fits count d s
-at_other fits count c d s a p k = record { fit = a.fit; there = subst (IsThere count) (sym p) a.there; calls = k ∙ a.calls }
-
 pub same_core : (c : Core) (e : Entry) → c.kept ≡ Some e → record c { kept = Some e } ≡ c
 same_core c e k = ap (λ (o : Option Entry). record c { kept = o }) (sym k)
-
-pub none_core : (c : Core) → c.kept ≡ None → record c { kept = None } ≡ c
-none_core c k = ap (λ (o : Option Entry). record c { kept = o }) (sym k)
 
 -- ---- what is sent
 
@@ -77,9 +71,6 @@ first_pending o piece e (inr none) = e ∙ ap (take 16384) (sym (append-nil o.re
 pub sent_within : (l piece : List ℕ) (most n : ℕ) → piece ≡ take most l → n ≤ length piece → n ≤ length l
 sent_within l piece most n e le = omega (arith, le, ap length e, length-take most l)
 
-pub filled_gone : (c d : Core) → IsFilled c d → gone_of d ≡ gone_of c
-filled_gone c d f = ap gone_of f.rest
-
 pub at_heard : {Q : Type 0} (fits : ℕ → Q → Type 0) (count : ℕ) (desk : Ask → Grant) (c d : Core) (s : SeatState Q) (b : Bool) → IsAt fits count c s → IsOffered desk count → b ≡ true → Hears desk c d b → fixed_of d ≡ fixed_of c → IsAt fits count d s
 at_heard fits count desk c d s b a o be h f =
     let k : Hears desk c d true = subst (Hears desk c d) be h in
@@ -94,20 +85,7 @@ ok_differs (Err x) e f = absurd (cc)
 module _ {P S : Type 0} (asks : P → S → ℕ → Entry → Made → P → S → Type 0) where
   -- ---- step 6
 
-  pub taken_none : (v : Life P S) (c : Core) (moved : Bool) (a : Turn) → IsFilled v.parts c → None ≡ takes c → a ≡ answer moved → Taken asks v moved a (life c v.input v.port v.seat)
-  taken_none v c moved a f e ae =
-      inl (c, f, subst (λ (o : Option Playing). TakenBy asks o (life c v.input v.port v.seat) moved a (life c v.input v.port v.seat)) e (ae, refl))
-
-  pub taken_some : (v w : Life P S) (c : Core) (p : Playing) (moved : Bool) (a : Turn) → IsFilled v.parts c → Some p ≡ takes c → TakeAsked asks (life c v.input v.port v.seat) p moved a w → Taken asks v moved a w
-  taken_some v w c p moved a f e t = inl (c, f, subst (λ (o : Option Playing). TakenBy asks o (life c v.input v.port v.seat) moved a w) e t)
-
   -- ---- the call that a message asked for
-
-  pub called_none : (v w : Life P S) (k : Option Entry) (a : Turn) → v.parts.kept ≡ None → k ≡ None → Taken asks (life (record v.parts { kept = k }) v.input v.port v.seat) true a w → CalledBy asks v.parts.kept v a w
-  called_none v w k a e ke t =
-      let same : record v.parts { kept = k } ≡ v.parts = ap (λ (o : Option Entry). record v.parts { kept = o }) (ke ∙ sym e) in
-      let T : Core → Type 0 = λ c. Taken asks (life c v.input v.port v.seat) true a w in
-      subst (λ (o : Option Entry). CalledBy asks o v a w) (sym e) (subst T same t)
 
   after_tried : (v m w : Life P S) (came : Made) (result : Result Bool End) (b : Bool) (a : Turn) → result ≡ Ok b → TriedAs v came result m → Taken asks m true a w → AfterCall asks v came m a w
   after_tried v m w (made.Answer r) result b a e (inl t) k = inl (t.1, k)
@@ -161,12 +139,6 @@ module _ {P S : Type 0} (asks : P → S → ℕ → Entry → Made → P → S �
     fed_stopped v c left e moved a s ae = (Stopping e, (c, (s, record { ended = ae; gone = refl; port = refl; seat = refl })))
 
     module _ {L : Type 0} (hears : L → ℕ → Came → L → Type 0) where
-      pub input_full : (v w : Life P S) (l : L) (moved : Bool) (a : Turn) → is_hungry v.parts ≡ false → Taken asks v moved a w → Input asks desk hears v l moved a w l
-      input_full v w l moved a e t = subst (λ (b : Bool). InputBy asks desk hears b v l moved a w l) (sym e) (t, refl)
-
-      pub input_left : (v w : Life P S) (l : L) (moved : Bool) (a : Turn) → is_hungry v.parts ≡ true → is_nil v.input ≡ false → Fed asks desk v moved a w → Input asks desk hears v l moved a w l
-      input_left v w l moved a h n t =
-          subst (λ (b : Bool). InputBy asks desk hears b v l moved a w l) (sym h) (subst (λ (b : Bool). EmptyBy asks desk hears b v l moved a w l) (sym n) (t, refl))
 
       pub input_came : (v w : Life P S) (l m : L) (came : Came) (moved : Bool) (a : Turn) → is_hungry v.parts ≡ true → is_nil v.input ≡ true → hears l 4096 came m → CameAs asks desk came v moved a w → Input asks desk hears v l moved a w m
       input_came v w l m came moved a h n s t =
@@ -174,10 +146,6 @@ module _ {P S : Type 0} (asks : P → S → ℕ → Entry → Made → P → S �
 
       module _ (says : L → List ℕ → Said → L → Type 0) where
         -- ---- step 4
-
-        pub sent_none : (v w : Life P S) (l m : L) (c : Core) (moved : Bool) (a : Turn) → IsFilled v.parts c → is_nil (pending c.outgoing) ≡ true → Input asks desk hears (life c v.input v.port v.seat) l moved a w m → Sent asks desk hears says v l moved a w m
-        sent_none v w l m c moved a f n t =
-            inl (c, (f, subst (λ (b : Bool). SendBy asks desk hears says b (life c v.input v.port v.seat) l moved a w m) (sym n) t))
 
         pub sent_some : (v w : Life P S) (l k m : L) (c : Core) (b : List ℕ) (q : Said) (moved : Bool) (a : Turn) → IsFilled v.parts c → is_nil (pending c.outgoing) ≡ false → b ≡ take 16384 (pending c.outgoing) → says l b q k
             → SentAs asks desk hears says q (life c v.input v.port v.seat) k moved a w m → Sent asks desk hears says v l moved a w m

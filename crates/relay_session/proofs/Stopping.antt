@@ -1,7 +1,7 @@
 -- What was fed, and why a session ends at a byte
 use Rattle.std.proofs.Common.{◌≡◌, ◌≤◌, ◌<◌, ◌+◌, ◌-◌, ◌^◌, ◌⊎◌, inl, inr, ℕ, suc, List, [], ◌∷◌, ◌++◌, length, take, drop, min, refl, sym, ap, ◌∙◌, subst, arith, append-nil, append_assoc, length-append, Option, Some, None, Result, Ok, Err}
 use Rattle.std.proofs.lemmas.List.{take-append-drop, take-append-le, drop-append-le, length-drop, length-take, length-take-le}
-use Rattle.std.specs.Prelude.{true, is_some}
+use Rattle.std.specs.Prelude.{true}
 use Rattle.chunk_wire.specs.State as wire
 use Rattle.chunk_wire.specs.declared.message.Message.{Message}
 use Rattle.chunk_reader.specs.declared.fail.ReadFail.{ReadFail}
@@ -15,7 +15,6 @@ use Rattle.chunk_reader.specs.Sound.{IsRead}
 use Rattle.chunk_reader.specs.Stops.{Stops}
 use Rattle.chunk_reader.proofs.Before.{before_last}
 use Rattle.chunk_reader.proofs.Settled.{stays_refused}
-use Rattle.rtmp_handshake.specs.Answer.{bad_version}
 use Rattle.rtmp_handshake.specs.Handshake.{Handshake}
 use Rattle.ack_window.specs.Controls.{control_in}
 use Rattle.ack_window.specs.declared.control.Control.{Control}
@@ -41,7 +40,7 @@ use Rattle.relay_session.specs.Session.{does, ended_by, entry_by, outbound_by, o
 use Rattle.relay_session.specs.declared.core_fields.Core.{Core}
 use Rattle.relay_session.specs.declared.end.End.{End}
 use Rattle.relay_session.specs.declared.end.End.TheVariants as end
-use Rattle.relay_session.proofs.Living.{says_others, version_first}
+use Rattle.relay_session.proofs.Living.{says_others}
 use Rattle.relay_session.proofs.Placing.{idle_after}
 
 take_past : (x p : List ℕ) (k : ℕ) → take (length x + k) (x ++ p) ≡ x ++ take k p
@@ -59,14 +58,6 @@ fed_hand c piece more x o used k be oe xe = record {
   fixed = refl;
   others = omega (arith, oe, ap length be, length-append (pending c.outgoing) more);
 }
-
-is_some_by : {X : Type 0} (o : Option X) (x : X) → o ≡ Some x → is_some o ≡ true
-is_some_by o x e = rw e refl
-
-pub stop_version : (c : Core) (piece : List ℕ) (k : Handshake) (b : ℕ) → IsSound c → bad_version (c.x ++ piece) ≡ Some b → IsStopped c piece (end.BadVersion 0) (record c { hand = k })
-stop_version c piece k b l e =
-    let z : length c.x ≡ 0 = version_first c.x piece b l.version e in
-    record { fed = []; left = piece; split = refl; x = sym (append-nil c.x); counted = l.counted; fixed = refl; kept = refl; place = refl; cause = (sym z, z, is_some_by (bad_version (c.x ++ piece)) b e) }
 
 pub stop_memory : (c : Core) (piece : List ℕ) (k : Handshake) (o : Owing) → IsSound c → IsStopped c piece end.OutOfMemory (record c { hand = k; outgoing = o })
 stop_memory c piece k o l = record { fed = []; left = piece; split = refl; x = sym (append-nil c.x); counted = l.counted; fixed = refl; kept = refl; place = refl; cause = tt }
@@ -119,9 +110,6 @@ fed_chunk c piece part x count used m r i b s o kept place pe f oe xe =
 pub others_both : (a o p : Owing) (k l : List Message) → Says a k o → Says o l p → length (pending a) + p.others ≡ a.others + length (pending p)
 others_both a o p k l s t = omega (arith, says_others a o k s, says_others o p l t)
 
-pub quiet_heard : (c : Core) (part : List ℕ) (used : ℕ) (r : ReaderKnown) → IsFedTo c.reader part used None r → r.given ≡ c.reader.given
-quiet_heard c part used r f = ap (λ (k : ReaderKnown). k.given) f.now ∙ append-nil c.reader.given
-
 pub loud_heard : (desk : Ask → Grant) (c : Core) (part x : List ℕ) (used last : ℕ) (m : Message) (r : ReaderKnown) (i : InWindow) (b : OutWindow) (s : State) (o : Owing) (kept : Option Entry) (place : Option ℕ) → IsSound c → hand_bytes ≤ length c.x
     → IsFedTo c.reader part used (Some m) r → s ≡ (does desk c.dialog m).state → kept ≡ entry_by c.who (c.fed + used) (does desk c.dialog m).makes → b ≡ outbound_by c.outbound m → place ≡ place_by desk c.dialog c.place m
     → x ≡ c.x ++ take used part → last ≡ c.fed + used - 1 → refused last c.dialog m ≡ None
@@ -150,9 +138,6 @@ over_fed desk c q x r i b s o n h k room read max xe st =
 
 dropped : (c : Core) (q : List ℕ) → IsSound c → hand_bytes ≤ length c.x → drop hand_bytes (c.x ++ q) ≡ c.reader.fed ++ q
 dropped c q l h = drop-append-le hand_bytes c.x q h ∙ ap (λ (b : List ℕ). b ++ q) (sym l.fed)
-
-pub read_none : (c : Core) → IsSound c → IsRead c.reader.max (drop hand_bytes (c.x ++ [])) c.reader.given
-read_none c l = subst (λ (b : List ℕ). IsRead c.reader.max (drop hand_bytes b) c.reader.given) (sym (append-nil c.x)) (read_here c l)
 
 pub read_some : (c : Core) (part : List ℕ) (e : ReadFail) (r : ReaderKnown) → IsSound c → hand_bytes ≤ length c.x → (f : reader.IsRefused c.reader part e r) → IsRead c.reader.max (drop hand_bytes (c.x ++ take f.after part)) c.reader.given
 read_some c part e r l h f =
@@ -350,12 +335,6 @@ over_reader desk c piece part x count at before e r l h k f pe le ae be xe st =
     subst (λ (n : ℕ). IsRead c.reader.max (drop hand_bytes (c.x ++ take n part)) c.reader.given) (sym p.0) (read_some c part e r l h f) in
     over_fed desk c (take before part) x r c.inbound c.outbound c.dialog c.outgoing at h k (part_less part before (room_of c.inbound) (omega (arith, f.within, p.0)) (part_room piece part count (room_of c.inbound) pe le))
     read (ap (λ (v : ReaderKnown). v.max) f.now) xe st
-
-pub over_acknowledge : (desk : Ask → Grant) (c : Core) (part : List ℕ) (used : ℕ) (m : Option Message) (r : ReaderKnown) (i : InWindow) (o : Owing) → IsSound c → IsFedTo c.reader part used m r
-    → StandsBefore desk c → IsOver desk (record c { reader = r; inbound = i; outgoing = o })
-over_acknowledge desk c part used m r i o l f st =
-    let max : r.max ≡ c.reader.max = fixed_read c part used m r f in
-    rw max (record { ms = c.reader.given; read = read_here c l; more = pending c.outgoing; owes = st.owes; talks = st.talks })
 
 pub over_message : (desk : Ask → Grant) (c : Core) (piece part x : List ℕ) (count used n : ℕ) (m : Message) (r : ReaderKnown) (i : InWindow) (b : OutWindow) (s : State) (o : Owing) → IsSound c → hand_bytes ≤ length c.x → c.kept ≡ None
     → IsFedTo c.reader part used (Some m) r → part ≡ take count piece → count ≤ room_of c.inbound → x ≡ c.x ++ take (used - 1) part

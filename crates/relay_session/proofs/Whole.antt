@@ -97,6 +97,3 @@ published_by (Some e) desk c l s = record {
 module _ {P S : Type 0} (asks : P → S → ℕ → Entry → Made → P → S → Type 0) (desk : Ask → Grant) {L : Type 0} (hears : L → ℕ → Came → L → Type 0) (says : L → List ℕ → Said → L → Type 0) where
   pub turned : (o : Option End) (quit : Bool) (v w : Life P S) (l m : L) (a : Turn) → o ≡ None → KeptBy asks desk hears says v.parts.kept quit v l a w m → EndedBy asks desk hears says o quit v l a w m
   turned o quit v w l m a e k = subst (λ (x : Option End). EndedBy asks desk hears says x quit v l a w m) (sym e) k
-
-  pub over_turned : (o : Option End) (quit : Bool) (v : Life P S) (l : L) (e : End) (a : Turn) → o ≡ Some e → a ≡ Ended e → EndedBy asks desk hears says o quit v l a v l
-  over_turned o quit v l e a is ae = subst (λ (x : Option End). EndedBy asks desk hears says x quit v l a v l) (sym is) (ae, refl, refl)

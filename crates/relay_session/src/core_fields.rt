@@ -7,8 +7,8 @@ use rtmp_handshake::Hand;
 use stream_model::{Entry, Reply};
 
 /// What a session keeps of its peer's bytes and of what it owes. `longest` is how many bytes its longest message has, and so
-/// its longest unit. `place` is the place of its calls, `greeting` how many bytes of the handshake's answer aren't sent yet. `x`, the bytes fed, `calls`, its own calls with their replies, and
-/// `sent`, the bytes sent, are of no bytes.
+/// its longest unit. `place` is the place of its calls, `greeting` how many bytes of the handshake's answer aren't sent yet.
+/// `x`, the bytes fed, `calls`, its own calls with their replies, and `sent`, the bytes sent, are of no bytes.
 #[derive(Drop)]
 pub struct Core {
     pub who: u64,

@@ -1,7 +1,6 @@
 -- Acts one after another
-use Rattle.std.proofs.Common.{◌≡◌, ◌+◌, ℕ, suc, List, [], ◌∷◌, ◌++◌, ap, subst, arith}
-use Rattle.relay_replay.specs.Scenes.{SceneState, stand_of}
-use Rattle.relay_replay.specs.Stand.{Stand, acted}
+use Rattle.std.proofs.Common.{◌≡◌, ◌+◌, ℕ, suc, List, [], ◌∷◌, ◌++◌, subst, arith}
+use Rattle.relay_replay.specs.Scenes.{SceneState}
 use Rattle.relay_soak.specs.Runs.{Act, Runs, unit_acts, units}
 
 -- some acts, and then others
@@ -14,7 +13,3 @@ pub runs_more : (n : ℕ) (s m t : SceneState) → Runs (units n) s m → Runs (
 runs_more n s m t r q =
     let one : suc n ≡ n + 1 = omega arith in
     subst (λ (k : ℕ). Runs (units k) s t) one (runs_both (units n) (unit_acts n) s m t r q)
-
--- the streams stay where sessions act
-pub same_places : (s t : SceneState) (k : ℕ) → stand_of t ≡ acted k (stand_of s) → t.places ≡ s.places
-same_places s t k e = ap (λ (x : Stand). x.places) e

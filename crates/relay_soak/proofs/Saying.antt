@@ -1,21 +1,12 @@
 -- What clients write
-use Rattle.std.proofs.Common.{◌≡◌, ◌≤◌, ◌<◌, ◌+◌, ◌*◌, ◌%◌, ◌^◌, ◌==◌, ℕ, suc, Bool, true, false, if◌then◌else◌, List, [], ◌∷◌, ◌++◌, length, refl, sym, ap, ◌∙◌, subst, arith, append_assoc, append-nil, length-append}
-use Rattle.std.proofs.Math.ListN.{replicate}
-use Rattle.std.proofs.lemmas.List.{length-replicate}
-use Rattle.std.proofs.Math.Nat.{mod-le}
+use Rattle.std.proofs.Common.{◌≡◌, ◌≤◌, ◌+◌, ℕ, suc, Bool, true, false, if◌then◌else◌, List, [], ◌∷◌, ◌++◌, length, sym, ap, ◌∙◌, subst, arith, append_assoc, append-nil}
 use Rattle.chunk_wire.specs.declared.message.Message.{Message}
 use Rattle.chunk_writer.specs.WriterKnown.{WriterKnown}
-use Rattle.chunk_writer.specs.Rule.{is_written}
-use Rattle.chunk_writer.specs.Written.{IsWritable, after_all, bytes_of, next, sets_size, written}
-use Rattle.relay_soak.specs.Clients.{command}
-use Rattle.relay_soak.specs.Units.{before, body, head, message}
+use Rattle.chunk_writer.specs.Written.{after_all, bytes_of, next, written}
+use Rattle.relay_soak.specs.Units.{before, message}
 
 never : false ≡ true → ⊥
 never e = cc
-
--- a command can be written
-pub command_can : (stream : ℕ) (text : List ℕ) → length text < 2 ^ 24 → IsWritable (command stream text)
-command_can stream text short = record { kind = refl; short = short; some = λ e. absurd (never e); most = λ e. absurd (never e) }
 
 -- three messages in turn
 pub written_three : (w w1 w2 : WriterKnown) (a b c : Message) (front o1 o2 o3 : List ℕ) → w1 ≡ next w a → w2 ≡ next w1 b → o1 ≡ front ++ bytes_of w a → o2 ≡ o1 ++ bytes_of w1 b → o3 ≡ o2 ++ bytes_of w2 c
@@ -43,38 +34,8 @@ head_by false true c = omega arith
 head_by false false true = omega arith
 head_by false false false = omega arith
 
-short_body : (i : ℕ) → i < 100000 → length (body i) < 2 ^ 24
-short_body i h =
-    let n = 8 + (37 * i) % 990 in
-    let all : length (body i) ≡ length (head i) + length (replicate n 0) = length-append (head i) (replicate n 0) in
-    let front : length (head i) ≤ 2 = head_by (i % 250 == 0) (i % 250 == 1) (i % 2 == 0) in
-    omega (arith, all, front, length-replicate {A = ℕ} n 0, mod-le (37 * i) 990, h)
-
-kind_by : (a b c : Bool) → is_written (if a then 9 else (if b then 9 else (if c then 9 else 8))) ≡ true
-kind_by true b c = refl
-kind_by false true c = refl
-kind_by false false true = refl
-kind_by false false false = refl
-
-no_size : (a b c : Bool) (time : ℕ) (text : List ℕ) → sets_size (record { kind = if a then 9 else (if b then 9 else (if c then 9 else 8)); stream = 1; time = time; body = text }) ≡ false
-no_size true b c time text = refl
-no_size false true c time text = refl
-no_size false false true time text = refl
-no_size false false false time text = refl
-
 both : (x : Bool) → x ≡ false → x ≡ true → ⊥
 both x f t = never (sym f ∙ t)
-
--- a unit's message can be written
-pub unit_can : (i : ℕ) → i < 100000 → IsWritable (message i)
-unit_can i h =
-    let no = no_size (i % 250 == 0) (i % 250 == 1) (i % 2 == 0) (20 * i) (body i) in
-    record {
-      kind = kind_by (i % 250 == 0) (i % 250 == 1) (i % 2 == 0);
-      short = short_body i h;
-      some = λ e. absurd (both (sets_size (message i)) no e);
-      most = λ e. absurd (both (sets_size (message i)) no e);
-    }
 
 pub before_more : (i : ℕ) (w v : WriterKnown) → w ≡ before i → v ≡ next w (message i) → v ≡ before (i + 1)
 before_more i w v e f =

@@ -178,13 +178,6 @@ grows_same who visits kept visits' kept' v k = record {
 grows_then : (who : ℕ) (u : List Visit) (i : Option Entry) (v : List Visit) (j : Option Entry) (w : List Visit) (k : Option Entry) → Grows who u i v j → Grows who v j w k → Grows who u i w k
 grows_then who u i v j w k a b = record { calls = begins_trans (calls_of u) (calls_of v) (calls_of w) a.calls b.calls; owns = λ o. b.owns (a.owns o) }
 
--- none waits any more
-grows_none : (who : ℕ) (visits : List Visit) (kept : Option Entry) → Grows who visits kept visits None
-grows_none who visits kept = record {
-  calls = begins_same (calls_of visits) (calls_of visits) refl;
-  owns = λ o. record { made = o.made; waits = λ e is. absurd (let n : None ≡ Some e = is in cc) };
-}
-
 -- one call
 grows_made : (who place : ℕ) (e : Entry) (r : Reply) (visits visits' : List Visit) (kept : Option Entry) → (Owns who visits kept → e.who ≡ who) → IsMade place e r visits visits' → Grows who visits kept visits' None
 grows_made who place e r visits visits' kept named m = record {

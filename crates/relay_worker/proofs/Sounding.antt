@@ -56,9 +56,6 @@ module _ {P Q : Type 0} (fits : P → ℕ → Q → Type 0) (rules : P → PortR
     pub fixed : rules y ≡ rules x
     pub passes : (q : ℕ) (p : Q) → fits x q p → fits y q p
 
-  goes_refl : (x : P) → Goes x x
-  goes_refl x = record { fixed = refl; passes = λ q p f. f }
-
 module _ {P Q L : Type 0} (fits : P → ℕ → Q → Type 0) (rules : P → PortRules) where
   pub at_on : (x y : P) (number had : ℕ) (s : Seated P L Q) → Goes fits rules x y → IsSeated (fits x) (length (rules x).names) number had s → IsSeated (fits y) (length (rules y).names) number had s
   at_on x y number had s g i =
@@ -269,9 +266,6 @@ module _ {P Q : Type 0} (fits : P → ℕ → Q → Type 0) (rules : P → PortR
   pub goes_of : (x y : P) → GoesAhead fits rules root x y → Goes fits rules x y
   goes_of x y a = record { fixed = a.fixed; passes = a.passes }
 
-pub goes_same : {P Q : Type 0} (fits : P → ℕ → Q → Type 0) (rules : P → PortRules) (x y : P) → y ≡ x → Goes fits rules x y
-goes_same fits rules x y e = subst (Goes fits rules x) (sym e) (goes_refl fits rules x)
-
 -- ---- whether a session has ended
 
 module _ {X : Type 0} where
@@ -398,9 +392,6 @@ module _ {P D K Q L : Type 0} where
 
   pub keeps_trans : (fits : P → ℕ → Q → Type 0) (rules : P → PortRules) (root : P → Histories) (u v w : WorkerState P D K Q L) → KeepsOn fits rules root u v → KeepsOn fits rules root v w → KeepsOn fits rules root u w
   keeps_trans fits rules root u v w a b = record { terms = b.terms ∙ a.terms; port = ahead_trans fits rules root u.bench.port v.bench.port w.bench.port a.port b.port; labels = b.labels ∙ a.labels }
-
-  pub keeps_refl : (fits : P → ℕ → Q → Type 0) (rules : P → PortRules) (root : P → Histories) (w : WorkerState P D K Q L) → KeepsOn fits rules root w w
-  keeps_refl fits rules root w = record { terms = refl; port = ahead_refl fits rules root w.bench.port; labels = refl }
 
   pub rounds_at : (told : L → Option LinkTold) (counts : L → LinkCounts) (doors : D → DoorTold) (takes : P → Seated P L Q → Turn → P → Seated P L Q → Type 0) (closes : P → SessionState Q → Leaving → P → SessionState Q → Type 0)
       (files : P → Recorder P K Q → RecTurn → P → Recorder P K Q → Type 0) (w v w' : WorkerState P D K Q L) (a : Round) → w ≡ v → Rounds told counts doors takes closes files w a w' → Rounds told counts doors takes closes files v a w'

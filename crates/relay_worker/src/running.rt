@@ -1,5 +1,5 @@
 //! All workers at the same time.
-ghost use Rattle.std.specs.Prelude.{◌≡◌, ◌<◌, ℕ, All, length, slice_index_or};
+ghost use Rattle.std.specs.Prelude.{◌<◌, ℕ, All, length, slice_index_or};
 ghost use Rattle.relay_session.specs.Places.{IsOffered};
 ghost use Rattle.relay_worker.specs.Books.{HasBooks};
 ghost use Rattle.relay_worker.specs.Filed.{Tallies};

@@ -34,12 +34,6 @@ read_whole fed piece h =
     let e : length (read_of fed piece) ≡ min (3073 - length fed) (length piece) = length-take (3073 - length fed) piece in
     omega arith
 
--- a piece by which 1,537 bytes are there is read up to them
-read_enough : (fed piece : List ℕ) → 1537 ≤ length fed + length piece → 1537 ≤ length fed + length (read_of fed piece)
-read_enough fed piece h =
-    let e : length (read_of fed piece) ≡ min (3073 - length fed) (length piece) = length-take (3073 - length fed) piece in
-    omega arith
-
 -- what a step over the bytes kept of C1 puts out
 pub out_is : (fed piece kept new taken out : List ℕ) (before : ℕ) → before ≡ length fed → taken ≡ read_of fed piece
     → (before < 1537 → kept ≡ kept_of 0 fed)

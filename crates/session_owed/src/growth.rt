@@ -1,4 +1,4 @@
-ghost use Rattle.std.specs.Prelude.{◌≡◌, ◌<◌, ◌≤◌, ℕ, ◌+◌, List, [], ◌∷◌, ◌++◌, length, drop, false, Option, Some, None};
+ghost use Rattle.std.specs.Prelude.{◌≡◌, ◌<◌, ◌≤◌, ℕ, ◌+◌, List, [], ◌∷◌, ◌++◌, drop, false, Option, Some, None};
 ghost use Rattle.chunk_reader.specs.Reads.{Reads};
 ghost use Rattle.chunk_wire.specs.State.{State};
 ghost use Rattle.chunk_wire.specs.declared.message.Message.{Message};
@@ -10,7 +10,7 @@ ghost use Rattle.session_owed.specs.Dialogue.{Dialogue};
 ghost use Rattle.session_owed.specs.Owed.{out, owed};
 ghost use Rattle.session_owed.specs.Published.{published, pushed_by, pushed_in};
 ghost use Rattle.session_owed.specs.Talk.{Own, hand_bytes, is_take, item_of, talk};
-ghost use Rattle.session_owed.specs.Talks.{NeverTakes, Talks, kept_by, step_of};
+ghost use Rattle.session_owed.specs.Talks.{Talks, step_of};
 
 /// The messages owed grow by what each step says, for any dialogue. `inbound` is the window in effect at the next byte.
 pub fn growth_law<S>()

@@ -1,4 +1,4 @@
-ghost use Rattle.std.specs.Prelude.{◌≡◌, ◌<◌, ◌≤◌, ℕ, ◌+◌, true, List, [], ◌∷◌, ◌++◌, length, Option, Some, None};
+ghost use Rattle.std.specs.Prelude.{◌≡◌, ◌<◌, ◌≤◌, ℕ, ◌+◌, true, List, ◌++◌, length, Some, None};
 ghost use Rattle.chunk_wire.specs.declared.message.Message.{Message};
 ghost use Rattle.ack_window.specs.Inbound.{room_of};
 ghost use Rattle.rtmp_handshake.specs.Answer.{answered};

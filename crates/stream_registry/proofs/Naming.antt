@@ -1,13 +1,8 @@
 -- A walk over names that looks for one
-use Rattle.std.proofs.Common.{◌≡◌, ℕ, ◌+◌, ◌<◌, List, length, get_or, slice_get, Some, sym, ◌∙◌, subst, ap, arith, inl, inr}
+use Rattle.std.proofs.Common.{◌≡◌, ℕ, ◌+◌, List, slice_get, Some, sym, ◌∙◌, subst, ap, arith, inl, inr}
 use Rattle.std.proofs.lemmas.Bool.{cases_eq}
-use Rattle.std.proofs.lemmas.Option.{slice_get_read}
 use Rattle.stream_registry.specs.declared.names.Name.{Name}
 use Rattle.stream_registry.specs.Names.{IsNamed, NoneNamed}
-
--- the name at a place that is there
-pub name_at : (names : List Name) (place : ℕ) (n : Name) → place < length names → n ≡ get_or names place n → slice_get names place ≡ Some n
-name_at names place n there read = slice_get_read names (length names) place n (λ i. length names) there read
 
 pub none_more : (names : List Name) (place : ℕ) (m : Name) (app name : List ℕ) → NoneNamed names place app name → slice_get names place ≡ Some m → (IsNamed m app name → ⊥) → NoneNamed names (place + 1) app name
 none_more names place m app name none at other q n l here is = elim (cases_eq q place) [

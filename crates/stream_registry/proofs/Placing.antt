@@ -19,7 +19,7 @@ use Rattle.stream_registry.specs.Roots.{Root, Later, Remembers, seen_of, seen_at
 use Rattle.stream_registry.specs.Told.{Keeps}
 use Rattle.stream_registry.specs.declared.desk.Site.{Site}
 use Rattle.stream_registry.specs.declared.names.Name.{Name}
-use Rattle.stream_registry.specs.SharedState.{Streams, IsFork, IsNewPort, limits_of, shared_rules}
+use Rattle.stream_registry.specs.SharedState.{Streams, IsFork, IsNewPort}
 use Rattle.stream_registry.specs.Placed.{Placed}
 use Rattle.stream_registry.specs.Sites.{site, AreSites, AreApart, AreNewRoots}
 use Rattle.stream_registry.specs.Gates.{told, told_at, numbers}
@@ -163,7 +163,3 @@ new_each names first (p ∷ ps) n a =
       no_busies = f.2;
     } in
     All-cons (IsNewPort names (gates first.roots)) p ps new (new_each names first ps n (All-tail (IsFork first) p ps a))
-
--- what never changes of a port that has the same names and gates
-pub rules_same : (s t : Streams) → t.names ≡ s.names → gates t.roots ≡ gates s.roots → shared_rules t ≡ shared_rules s
-rules_same s t n g = λ i. record { names = n i; limits = λ place. limits_of (slice_get (g i) place); gates = g i }

@@ -1,9 +1,7 @@
 -- Roots that grow
 use Rattle.std.proofs.Common.{◌≡◌, ◌≢◌, ℕ, zero, suc, ◌+◌, ◌<◌, ◌≤◌, List, [], ◌∷◌, ◌++◌, length, slice_get, slice_set, Some, refl, sym, ap, ◌∙◌, subst, append_assoc, append-nil, arith, get_or, take, drop, length-append, inl, inr}
 use Rattle.std.proofs.lemmas.Bool.{cases_eq}
-use Rattle.std.specs.Prelude.{All}
 use Rattle.std.specs.Option.{option_map}
-use Rattle.std.proofs.lemmas.List.Elements.{All-head, All-tail}
 use Rattle.std.proofs.lemmas.Option.{slice_get_within, slice_get_read, slice_get_past, slice_get-map, slice_get-get_or}
 use Rattle.std.proofs.lemmas.List.{length-map, set-get_or, take_more, take-append-le, take_all}
 use Rattle.turn_gate.specs.Histories.{Begins, longer}
@@ -15,15 +13,6 @@ begins_same xs = ([], append-nil xs)
 
 pub begins_trans : {E : Type 0} (xs ys zs : List E) → Begins xs ys → Begins ys zs → Begins xs zs
 begins_trans {E} xs ys zs b c = (b.0 ++ c.0, sym (append_assoc xs b.0 c.0) ∙ (ap (λ (l : List E). l ++ c.0) b.1 ∙ c.1))
-
--- what stands in a list stands in what goes on from it
-pub begins_get : {E : Type 0} (xs rest : List E) (n : ℕ) (x : E) → slice_get xs n ≡ Some x → slice_get (xs ++ rest) n ≡ Some x
-begins_get [] rest n x at = absurd (cc)
-begins_get (y ∷ xs) rest zero x at = at
-begins_get (y ∷ xs) rest (suc n) x at = begins_get xs rest n x at
-
-pub begins_at : {E : Type 0} (xs ys : List E) (n : ℕ) (x : E) → Begins xs ys → slice_get xs n ≡ Some x → slice_get ys n ≡ Some x
-begins_at {E} xs ys n x b at = subst (λ (l : List E). slice_get l n ≡ Some x) b.1 (begins_get xs b.0 n x at)
 
 module _ {A E : Type 0} where
   pub grown_same : (roots : List (Root A E)) → Grown roots roots
@@ -61,11 +50,6 @@ module _ {A E : Type 0} where
   detaches roots items place g v w is at read s =
       let here = at_item roots items place g v is at read in
       (subst (λ (l : List (Root A E)). Grown l (slice_set items place w)) is (grown_set items place v w here s), seen_set_here items place v w here)
-
-  pub seen_empty : (roots : List (Root A E)) → All (λ k. k.seen ≡ []) roots → (p : ℕ) → seen_at roots p ≡ []
-  seen_empty [] a p = refl
-  seen_empty (k ∷ ks) a zero = All-head (λ (r : Root A E). r.seen ≡ []) k ks a
-  seen_empty (k ∷ ks) a (suc p) = seen_empty ks (All-tail (λ (r : Root A E). r.seen ≡ []) k ks a) p
 
   pub seen_past : (roots : List (Root A E)) (p : ℕ) → length roots ≤ p → seen_at roots p ≡ []
   seen_past roots p far = ap seen_of (slice_get_past roots p far)

@@ -135,10 +135,6 @@ delimiter_nal : IsNal delimiter
 unfolding dirty_in triple_in
 delimiter_nal = record { some = omega arith; clean = refl }
 
-sets_of : Bool → AvcConfig → List (List ℕ)
-sets_of true c = c.sps ++ c.pps
-sets_of false c = []
-
 sets_stream : (key : Bool) (c : AvcConfig) → HasNals c → IsStream (sets_if key c)
 sets_stream true c a = record { units = c.sps ++ c.pps; nals = nals_append c.sps c.pps a.0 a.1; text_is = sym (annexb_append c.sps c.pps) }
 sets_stream false c a = record { units = []; nals = tt; text_is = refl }

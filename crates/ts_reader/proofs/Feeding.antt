@@ -10,8 +10,8 @@ use Rattle.ts_reader.specs.declared.fail.TsFail.TheVariants.{NoSync, OutOfMemory
 use Rattle.ts_reader.specs.declared.state.State.{State}
 use Rattle.ts_reader.specs.Mux.{start}
 use Rattle.ts_reader.specs.Reads.{EndFails, Ends, Gives, Stops}
-use Rattle.ts_reader.specs.Known.{Known, fresh}
-use Rattle.ts_reader.specs.Feeds.{IsEnded, IsFedTo, IsRefused, IsRefusedAtEnd, IsTakenTo, Stands, after_bytes}
+use Rattle.ts_reader.specs.Known.{Known}
+use Rattle.ts_reader.specs.Feeds.{IsFedTo, IsRefused, IsRefusedAtEnd, IsTakenTo, Stands, after_bytes}
 use Rattle.ts_reader.specs.Sound.{Fails, IsLast, IsSound, IsStanding, LastFails, Takes, mux_of}
 use Rattle.ts_reader.proofs.Standing.{before_last, nothing_stands, stands_of, stopped, taken_gives, taken_stood}
 
@@ -213,16 +213,3 @@ pub end_refused : (state : State) (part : List ℕ) (at : ℕ) (failed : Option 
     → IsSound state part at failed fed given → failed ≡ None → LastFails at (mux_of state) part e
     → IsRefusedAtEnd (record { fed = fed; given = given; failed = failed }) e (record { fed = fed; given = given; failed = Some e })
 end_refused state part at failed fed given e s lives l = record { cause = end_fails state part at failed fed given e s lives l; now = refl }
-
-pub end_given : (state : State) (part : List ℕ) (at : ℕ) (failed : Option TsFail) (fed : List ℕ) (given : List TsUnit) (u : Option TsUnit) (new : Known)
-    → IsSound state part at failed fed given → failed ≡ None → IsLast (mux_of state) part u → new ≡ fresh
-    → IsEnded (record { fed = fed; given = given; failed = failed }) u new
-end_given state part at failed fed given u new s lives l n = record { given = ended state part at failed fed given u s lives l; now = n }
-
--- a reader that failed keeps what it was fed
-pub sound_failed : (old new : State) (part rest : List ℕ) (at : ℕ) (failed : Option TsFail) (fed : List ℕ) (given : List TsUnit) (e : TsFail)
-    → IsSound old part at failed fed given → IsSound new rest at (Some e) fed given
-sound_failed old new part rest at failed fed given e s = record {
-  read = record { m = s.read.m; r = s.read.r; read = s.read.read };
-  standing = λ l. absurd (cc);
-}

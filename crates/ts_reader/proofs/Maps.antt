@@ -1,5 +1,5 @@
 -- The section of a map
-use Rattle.std.proofs.Common.{◌≡◌, ℕ, ◌+◌, ◌*◌, ◌<◌, Bool, true, false, List, [], ◌∷◌, ◌++◌, length, refl, ap, ◌∙◌, arith}
+use Rattle.std.proofs.Common.{◌≡◌, ℕ, ◌+◌, ◌*◌, ◌<◌, Bool, true, false, List, [], ◌∷◌, ◌++◌, refl, ap, ◌∙◌, arith}
 use Rattle.std.specs.Int.{bytes_high_first}
 use Rattle.bit_fields.specs.Fields.{field_bytes}
 use Rattle.pes_packets.specs.Crc.{crc_from, crc_of, shifted, shifted_by}
@@ -32,13 +32,6 @@ pub pmt_is : (v a : Bool) (n : ℕ) (b : List ℕ) → n < 32 → b ≡ (map_hea
     → b ++ bytes_high_first 4 (crc_of b) ≡ pmt v a n
 unfolding pmt
 pmt_is v a n b p e = ap checked (e ∙ body_is v a n p)
-
--- how long it is
-pub body_length : (v a : Bool) (n : ℕ) → length ((map_head v a n ++ map_stream v 27 0) ++ map_stream a 15 1) < 23
-body_length true true n = omega arith
-body_length true false n = omega arith
-body_length false true n = omega arith
-body_length false false n = omega arith
 
 pub pat_is : 0 ∷ 176 ∷ 13 ∷ 0 ∷ 1 ∷ 193 ∷ 0 ∷ 0 ∷ 0 ∷ 1 ∷ 240 ∷ 0 ∷ 42 ∷ 177 ∷ 4 ∷ 178 ∷ [] ≡ pat
 unfolding pat crc_from shifted_by shifted

@@ -55,5 +55,6 @@ pub fn a_byte_stream_is_nal_units()
 /// The packets of tables that are written are read, with any counter, and with any version and streams of a map.
 pub fn written_tables_are_read()
     ensures association { (c : ℕ) → c < 16 → is_pat (section_text pat_pid c pat) ≡ true }
-    ensures map { (video audio : Bool) (version c : ℕ) → version < 32 → c < 16 → listed_in (section_text pmt_pid c (pmt video audio version)) ≡ Some (these video audio) }
+    ensures map { (video audio : Bool) (version c : ℕ) → version < 32 → c < 16
+        → listed_in (section_text pmt_pid c (pmt video audio version)) ≡ Some (these video audio) }
 {}

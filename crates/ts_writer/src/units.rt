@@ -1,6 +1,6 @@
 //! Units as PES packets.
-ghost use Rattle.std.specs.Prelude.{◌≡◌, ◌<◌, ◌*◌, ◌%◌, ◌^◌, ◌++◌, ℕ, List, [], ◌∷◌, length, drop, IfOk, IfErr, OnOk, OnErr};
-ghost use Rattle.std.specs.Prelude.{Result as AResult, Ok as AnOk};
+ghost use Rattle.std.specs.Prelude.{◌≡◌, ◌<◌, ◌*◌, ◌%◌, ◌^◌, ◌++◌, ℕ, List, [], length, drop, IfOk, IfErr, OnOk, OnErr};
+ghost use Rattle.std.specs.Prelude.{Ok as AnOk};
 ghost use Rattle.av_unit.specs.Classes.{high as high_of, low as low_of, second_is};
 ghost use Rattle.avc_annexb.specs.AnnexB.{kept_of};
 ghost use Rattle.ts_writer.specs.Frames.{Frame, Gives, IsCause, IsFramed, framed_of, video_config, audio_config, shown, clock, delimiter, sets_if, access_unit, of_avc, some_text, picture, units_text, video_frame, some_raw, audio_frame};
@@ -127,7 +127,8 @@ fn put_sets(config: &Avcc, key: bool, out: &mut Bytes) -> Result<(), OutOfMemory
 
 /// Appends the access unit of a picture's NAL units.
 fn put_access_unit(config: &Avcc, key: bool, units: &[u8], out: &mut Bytes) -> Result<(), Stop>
-    ensures ok { OnOk result ((text : List ℕ) × (kept_of config.now.size units.now ≡ AnOk text) × (0 < length text) × (out.new ≡ out.old ++ access_unit config.now key text)) }
+    ensures ok { OnOk result ((text : List ℕ) × (kept_of config.now.size units.now ≡ AnOk text) × (0 < length text)
+        × (out.new ≡ out.old ++ access_unit config.now key text)) }
     ensures err { IfErr result (λ e. (whole : List ℕ → Frame) → IsCause e (some_text whole (of_avc (kept_of config.now.size units.now)))) }
 {
     out.append(&[0, 0, 0, 1, 9, 0xF0])?;

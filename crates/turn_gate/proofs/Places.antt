@@ -34,20 +34,6 @@ module _ {E : Type 0} where
   pub longer_length : (xs ys : List E) → (length xs ≤ length (longer xs ys)) × (length ys ≤ length (longer xs ys)) × (length (shorter xs ys) ≤ length (longer xs ys))
   longer_length xs ys = pick (λ p q. (length xs ≤ length p) × (length ys ≤ length p) × (length q ≤ length p)) xs ys (λ l. (omega arith, l, l)) (λ l. (omega arith, omega arith, omega arith))
 
-  -- a list that is no longer than its own beginning is that beginning
-  begins_whole : (xs ys : List E) → Begins xs ys → length ys ≤ length xs → xs ≡ ys
-  begins_whole [] [] b l = refl
-  begins_whole [] (y ∷ ys) b l = absurd (omega arith)
-  begins_whole (x ∷ xs) [] b l = absurd (let e = ap length b.1 in omega arith)
-  begins_whole (x ∷ xs) (y ∷ ys) b l =
-      let head : x ≡ y = ap (λ (l : List E). get_or l 0 y) b.1 in
-      let t = begins_whole xs ys (b.0, ap (drop 1) b.1) (omega arith) in
-      λ i. head i ∷ t i
-
-  -- the longer of a beginning and the whole is the whole
-  pub longer_whole : (xs ys : List E) → Begins xs ys → longer xs ys ≡ ys
-  longer_whole xs ys b = pick (λ p q. p ≡ ys) xs ys (λ l. begins_whole xs ys b l) (λ _. refl)
-
 pub times-append : (p : ℕ) (xs ys : List ℕ) → times p (xs ++ ys) ≡ times p xs + times p ys
 times-append p [] ys = omega arith
 times-append p (x ∷ xs) ys = omega (arith, times-append p xs ys)
