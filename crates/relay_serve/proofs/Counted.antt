@@ -64,17 +64,17 @@ pushed_get (z ∷ xs) x y zero e = inl e
 pushed_get (z ∷ xs) x y (suc n) e = shift xs z x y n (pushed_get xs x y n e)
 
 module _ (limits : ℕ → StreamLimits) (xs : List (Option Counts)) (x : Option Counts) (hs ks : Histories) where
-  all_by : (place : ℕ) (c : Counts) → AllEnd limits xs hs → EndsIf (limits (length xs)) x (ks (length xs)) → ((q : ℕ) → q ≢ length xs → ks q ≡ hs q)
-      → (slice_get xs place ≡ Some (Some c)) ⊎ ((place ≡ length xs) × (x ≡ Some c)) → EndsWith (limits place) c (ks place)
-  all_by place c old new o (inl e) =
-      let l : place < length xs = slice_get_within xs place (Some c) e in
-      subst (EndsWith (limits place) c) (sym (o place (λ f. omega (arith, f, l)))) (old place c e)
-  all_by place c old new o (inr e) =
-      subst (λ (n : ℕ). EndsWith (limits n) c (ks n)) (sym e.0) (subst (λ (y : Option Counts). EndsIf (limits (length xs)) y (ks (length xs))) e.1 new)
+  all_by : (place : ℕ) (y : Option Counts) → AllEnd limits xs hs → EndsIf (limits (length xs)) x (ks (length xs)) → ((q : ℕ) → q ≢ length xs → ks q ≡ hs q)
+      → (slice_get xs place ≡ Some y) ⊎ ((place ≡ length xs) × (x ≡ y)) → EndsIf (limits place) y (ks place)
+  all_by place y old new o (inl e) =
+      let l : place < length xs = slice_get_within xs place y e in
+      subst (EndsIf (limits place) y) (sym (o place (λ f. omega (arith, f, l)))) (old place y e)
+  all_by place y old new o (inr e) =
+      subst (λ (n : ℕ). EndsIf (limits n) y (ks n)) (sym e.0) (subst (λ (z : Option Counts). EndsIf (limits (length xs)) z (ks (length xs))) e.1 new)
 
-  -- one history more ends with its Count
+  -- one history more ends with its Count, or is full
   pub all_more : AllEnd limits xs hs → EndsIf (limits (length xs)) x (ks (length xs)) → ((q : ℕ) → q ≢ length xs → ks q ≡ hs q) → AllEnd limits (xs ++ x ∷ []) ks
-  all_more old new o = λ place c at. all_by place c old new o (pushed_get xs x (Some c) place at)
+  all_more old new o = λ place y at. all_by place y old new o (pushed_get xs x y place at)
 
 pub later_same : (hs : Histories) → Later hs hs
 later_same hs = record { at = λ q. begins_same (hs q) }

@@ -47,16 +47,16 @@ pub rest_length : {X : Type 0} (xs : List X) → 1 ≤ length xs → length (tak
 rest_length [] l = absurd (omega (arith, l))
 rest_length (x ∷ xs) l = let r = ap length (rest_is x xs) in omega (arith, r)
 
-abbrev pub own_at : ℕ → ℕ → ℕ → PlaceRule → List Label
-own_at workers worker place rule = if place % workers == worker then recordings_at place rule else []
+abbrev pub own_at : ℕ → ℕ → ℕ → ℕ → PlaceRule → List Label
+own_at longest workers worker place rule = if place % workers == worker then recordings_at longest place rule else []
 
 -- those of the first place, and of the others
-pub own_more : (workers worker place : ℕ) (left : List PlaceRule) (rule : PlaceRule) → 1 ≤ length left → rule ≡ get_or left 0 rule
-    → own_from workers worker place left ≡ own_at workers worker place rule ++ own_from workers worker (place + 1) (take (length left - 1) (drop 1 left))
-own_more workers worker place [] rule l e = absurd (omega (arith, l))
-own_more workers worker place (x ∷ xs) rule l e =
-    ap (λ (p : PlaceRule). own_at workers worker place p ++ own_from workers worker (place + 1) xs) (sym e)
-    ∙ ap (λ (ys : List PlaceRule). own_at workers worker place rule ++ own_from workers worker (place + 1) ys) (sym (rest_is x xs))
+pub own_more : (longest workers worker place : ℕ) (left : List PlaceRule) (rule : PlaceRule) → 1 ≤ length left → rule ≡ get_or left 0 rule
+    → own_from longest workers worker place left ≡ own_at longest workers worker place rule ++ own_from longest workers worker (place + 1) (take (length left - 1) (drop 1 left))
+own_more longest workers worker place [] rule l e = absurd (omega (arith, l))
+own_more longest workers worker place (x ∷ xs) rule l e =
+    ap (λ (p : PlaceRule). own_at longest workers worker place p ++ own_from longest workers worker (place + 1) xs) (sym e)
+    ∙ ap (λ (ys : List PlaceRule). own_at longest workers worker place rule ++ own_from longest workers worker (place + 1) ys) (sym (rest_is x xs))
 
 -- labels that are there, and those that are left
 pub labels_more : (old new own rest left all : List Label) → new ≡ old ++ own → left ≡ own ++ rest → old ++ left ≡ all → new ++ rest ≡ all

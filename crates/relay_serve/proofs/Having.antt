@@ -16,13 +16,13 @@ use Rattle.relay_serve.specs.Recordings.{file_in, own_from, recording, recording
 if_has : (o : Option (List ℕ)) (r : Label) (name : List ℕ) → o ≡ Some name → Contains (recording_if o r) r
 if_has o r name e = subst (λ (x : Option (List ℕ)). Contains (recording_if x r) r) (sym e) (Contains-push [] r)
 
-at_has : (place : ℕ) (rule : PlaceRule) (f : Form) (name : List ℕ) → file_in f rule ≡ Some name → Contains (recordings_at place rule) (recording place f)
-at_has place rule form.Flv name e =
-    Contains-append_left (recording_if rule.flv (recording place form.Flv)) (recording_if rule.ts (recording place form.Ts)) (recording place form.Flv)
-    (if_has rule.flv (recording place form.Flv) name e)
-at_has place rule form.Ts name e =
-    Contains-append_right (recording_if rule.flv (recording place form.Flv)) (recording_if rule.ts (recording place form.Ts)) (recording place form.Ts)
-    (if_has rule.ts (recording place form.Ts) name e)
+at_has : (longest place : ℕ) (rule : PlaceRule) (f : Form) (name : List ℕ) → file_in f rule ≡ Some name → Contains (recordings_at longest place rule) (recording longest place f)
+at_has longest place rule form.Flv name e =
+    Contains-append_left (recording_if rule.flv (recording longest place form.Flv)) (recording_if rule.ts (recording longest place form.Ts)) (recording longest place form.Flv)
+    (if_has rule.flv (recording longest place form.Flv) name e)
+at_has longest place rule form.Ts name e =
+    Contains-append_right (recording_if rule.flv (recording longest place form.Flv)) (recording_if rule.ts (recording longest place form.Ts)) (recording longest place form.Ts)
+    (if_has rule.ts (recording longest place form.Ts) name e)
 
 chosen : (b : Bool) (rs : List Label) (r : Label) → b ≡ true → Contains rs r → Contains (if b then rs else []) r
 chosen true rs r e c = c
@@ -31,22 +31,22 @@ chosen false rs r e c = absurd (let f : false ≡ true = e in cc)
 same_number : (m n : ℕ) → m ≡ n → (m == n) ≡ true
 same_number m n e = grind (arith, nat_tests, e)
 
-own_has : (workers worker first i : ℕ) (rules : List PlaceRule) (rule : PlaceRule) (f : Form) (name : List ℕ) → slice_get rules i ≡ Some rule
-    → file_in f rule ≡ Some name → (first + i) % workers ≡ worker → Contains (own_from workers worker first rules) (recording (first + i) f)
-own_has workers worker first i [] rule f name at e m = absurd (let g : None ≡ Some rule = at in cc)
-own_has workers worker first zero (r ∷ rules) rule f name at e m =
+own_has : (longest workers worker first i : ℕ) (rules : List PlaceRule) (rule : PlaceRule) (f : Form) (name : List ℕ) → slice_get rules i ≡ Some rule
+    → file_in f rule ≡ Some name → (first + i) % workers ≡ worker → Contains (own_from longest workers worker first rules) (recording longest (first + i) f)
+own_has longest workers worker first i [] rule f name at e m = absurd (let g : None ≡ Some rule = at in cc)
+own_has longest workers worker first zero (r ∷ rules) rule f name at e m =
     let is : r ≡ rule = let g : Some r ≡ Some rule = at in cc in
     let here : first + 0 ≡ first = omega arith in
-    subst (λ (n : ℕ). Contains (own_from workers worker first (r ∷ rules)) (recording n f)) (sym here)
-    (Contains-append_left (if first % workers == worker then recordings_at first r else []) (own_from workers worker (first + 1) rules) (recording first f)
-    (chosen (first % workers == worker) (recordings_at first r) (recording first f)
+    subst (λ (n : ℕ). Contains (own_from longest workers worker first (r ∷ rules)) (recording longest n f)) (sym here)
+    (Contains-append_left (if first % workers == worker then recordings_at longest first r else []) (own_from longest workers worker (first + 1) rules) (recording longest first f)
+    (chosen (first % workers == worker) (recordings_at longest first r) (recording longest first f)
     (same_number (first % workers) worker (ap (λ (n : ℕ). n % workers) (sym here) ∙ m))
-    (at_has first r f name (ap (file_in f) is ∙ e))))
-own_has workers worker first (suc i) (r ∷ rules) rule f name at e m =
+    (at_has longest first r f name (ap (file_in f) is ∙ e))))
+own_has longest workers worker first (suc i) (r ∷ rules) rule f name at e m =
     let there : first + suc i ≡ first + 1 + i = omega arith in
-    subst (λ (n : ℕ). Contains (own_from workers worker first (r ∷ rules)) (recording n f)) (sym there)
-    (Contains-append_right (if first % workers == worker then recordings_at first r else []) (own_from workers worker (first + 1) rules) (recording (first + 1 + i) f)
-    (own_has workers worker (first + 1) i rules rule f name at e (ap (λ (n : ℕ). n % workers) (sym there) ∙ m)))
+    subst (λ (n : ℕ). Contains (own_from longest workers worker first (r ∷ rules)) (recording longest n f)) (sym there)
+    (Contains-append_right (if first % workers == worker then recordings_at longest first r else []) (own_from longest workers worker (first + 1) rules) (recording longest (first + 1 + i) f)
+    (own_has longest workers worker (first + 1) i rules rule f name at e (ap (λ (n : ℕ). n % workers) (sym there) ∙ m)))
 
 module _ (f : ℕ → List Label) (r : Label) (w : ℕ) where
   flat_by : (a n : ℕ) → Contains (f w) r → Contains (flat_map f (range_with_len (a + 1) n)) r ⊎ (a ≡ w) → Contains (flat_map f (range_with_len a (suc n))) r
@@ -63,10 +63,10 @@ module _ (f : ℕ → List Label) (r : Label) (w : ℕ) where
   flat_has a (suc n) l m c = flat_by a n c (flat_next a n (λ k. flat_has (a + 1) n k (omega (arith, m)) c) l (cases_lt a w))
 
 pub has_each : (config : Config) (place : ℕ) (rule : PlaceRule) (f : Form) (name : List ℕ) → 0 < config.workers → slice_get config.places place ≡ Some rule
-    → file_in f rule ≡ Some name → Contains (recordings_upto config config.workers) (recording place f)
+    → file_in f rule ≡ Some name → Contains (recordings_upto config config.workers) (recording config.limits.max_message place f)
 has_each config place rule f name some at e =
     let w : ℕ = place % config.workers in
     let here : 0 + place ≡ place = omega arith in
-    flat_has (recordings_of config) (recording place f) w 0 config.workers (omega arith) (omega (arith, mod_below place config.workers some))
-    (subst (λ (n : ℕ). Contains (recordings_of config w) (recording n f)) here
-    (own_has config.workers w 0 place config.places rule f name at e (ap (λ (n : ℕ). n % config.workers) here)))
+    flat_has (recordings_of config) (recording config.limits.max_message place f) w 0 config.workers (omega arith) (omega (arith, mod_below place config.workers some))
+    (subst (λ (n : ℕ). Contains (recordings_of config w) (recording config.limits.max_message n f)) here
+    (own_has config.limits.max_message config.workers w 0 place config.places rule f name at e (ap (λ (n : ℕ). n % config.workers) here)))

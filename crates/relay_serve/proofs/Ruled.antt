@@ -32,15 +32,18 @@ same_rules names ids p q a b =
     ap (λ (n : List Name). record { names = n; limits = λ place. limits_of (slice_get (gates p.roots) place); gates = gates p.roots }) (a.names_are ∙ sym b.names_are)
     ∙ ap (λ (h : List (GateId Site)). record { names = q.names; limits = λ place. limits_of (slice_get h place); gates = h }) (a.gates_are ∙ sym b.gates_are)
 
-abbrev label : ℕ → ℕ → Form → Label
-label who place form = record { who = who; place = place; form = form }
+abbrev label : ℕ → ℕ → Form → ℕ → Label
+label who place form longest = record { who = who; place = place; form = form; longest = longest }
 
 module _ {K : Type 0} where
   pub label_same : (r s : Recorder Streams K (PassKnown Site Attempt)) → (state_of s).seat.who ≡ (state_of r).seat.who
-      → (state_of s).seat.place ≡ (state_of r).seat.place → form_of s ≡ form_of r → label_of s ≡ label_of r
-  label_same r s who place form =
-      ap (λ (n : ℕ). label n (state_of s).seat.place (form_of s)) who
-      ∙ (ap (λ (n : ℕ). label (state_of r).seat.who n (form_of s)) place ∙ ap (label (state_of r).seat.who (state_of r).seat.place) form)
+      → (state_of s).seat.place ≡ (state_of r).seat.place → form_of s ≡ form_of r → (state_of s).tape.longest ≡ (state_of r).tape.longest
+      → label_of s ≡ label_of r
+  label_same r s who place form longest =
+      ap (λ (n : ℕ). label n (state_of s).seat.place (form_of s) (state_of s).tape.longest) who
+      ∙ (ap (λ (n : ℕ). label (state_of r).seat.who n (form_of s) (state_of s).tape.longest) place
+      ∙ (ap (λ (f : Form). label (state_of r).seat.who (state_of r).seat.place f (state_of s).tape.longest) form
+      ∙ ap (label (state_of r).seat.who (state_of r).seat.place (form_of r)) longest))
 
   pub filed_by : (rules : PortRules) (port : Streams) (r : Recorder Streams K (PassKnown Site Attempt)) → HasRules rules port
       → (state_of r).seat.place < length (shared_rules port).names

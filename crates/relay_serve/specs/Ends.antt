@@ -83,7 +83,7 @@ pub record Reports (config : Config) (histories : Histories) (old new : Seen) : 
   pub streams : ℕ → StreamLimits
   pub limited : (place : ℕ) → place < length config.places → streams place ≡ limits_in config
   -- the line of a stream tells what the last call of its history was answered: the server's own Count. Each reply of that
-  -- history is the one that the rules give after the calls before it
+  -- history is the one that the rules give after the calls before it. Or the line tells that the history is full, and it is
   pub last : AllEnd streams counts histories
   -- the histories once no session lived any more
   pub joined : Histories

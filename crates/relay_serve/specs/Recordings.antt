@@ -13,9 +13,9 @@ abbrev pub recorder_name : ℕ → Form → ℕ
 recorder_name place form.Flv = 2 ^ 60 + 2 * place
 recorder_name place form.Ts = 2 ^ 60 + 2 * place + 1
 
--- A RECORDING of the stream at a place
-abbrev pub recording : ℕ → Form → Label
-recording place form = record { who = recorder_name place form; place = place; form = form }
+-- A RECORDING of the stream at a place, of units of at most `longest` bytes
+abbrev pub recording : ℕ → ℕ → Form → Label
+recording longest place form = record { who = recorder_name place form; place = place; form = form; longest = longest }
 
 -- its file in that form, if it is recorded so
 abbrev pub file_in : Form → PlaceRule → Option (List ℕ)
@@ -31,20 +31,20 @@ recording_if None r = []
 recording_if (Some name) r = r ∷ []
 
 -- those of the stream at a place: FLV before the transport stream
-abbrev pub recordings_at : ℕ → PlaceRule → List Label
-recordings_at place rule =
-    recording_if (file_in form.Flv rule) (recording place form.Flv) ++ recording_if (file_in form.Ts rule) (recording place form.Ts)
+abbrev pub recordings_at : ℕ → ℕ → PlaceRule → List Label
+recordings_at longest place rule =
+    recording_if (file_in form.Flv rule) (recording longest place form.Flv) ++ recording_if (file_in form.Ts rule) (recording longest place form.Ts)
 
 -- those of the worker with this number, of so many, where the places are numbered from `place` on: those at each place that is
 -- its number, modulo the number of workers
-abbrev pub own_from : ℕ → ℕ → ℕ → List PlaceRule → List Label
-own_from workers worker place [] = []
-own_from workers worker place (rule ∷ rules) =
-    (if place % workers == worker then recordings_at place rule else []) ++ own_from workers worker (place + 1) rules
+abbrev pub own_from : ℕ → ℕ → ℕ → ℕ → List PlaceRule → List Label
+own_from longest workers worker place [] = []
+own_from longest workers worker place (rule ∷ rules) =
+    (if place % workers == worker then recordings_at longest place rule else []) ++ own_from longest workers worker (place + 1) rules
 
--- THE RECORDINGS OF A WORKER, by their places
+-- THE RECORDINGS OF A WORKER, by their places: of units as long as the configuration's longest message
 abbrev pub recordings_of : Config → ℕ → List Label
-recordings_of config worker = own_from config.workers worker 0 config.places
+recordings_of config worker = own_from config.limits.max_message config.workers worker 0 config.places
 
 -- THE RECORDINGS of the first workers, by their numbers
 abbrev pub recordings_upto : Config → ℕ → List Label

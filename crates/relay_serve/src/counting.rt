@@ -28,7 +28,7 @@ pub(crate) struct Counts {
     pub skips: u64,
 }
 
-// The Count of the stream at a place. None where its history is full.
+// The Count of the stream at a place. None comes where it was answered that the history is full.
 fn count_one<W: Wait>(
     rt: &W,
     port: &mut Shared<Desk>,
@@ -68,15 +68,18 @@ fn count_one<W: Wait>(
             }
             Ok(_) => return Err(OutOfMemory),
             Err(PortFail::Busy(_)) => {}
-            Err(PortFail::Worn(_)) => return Ok(None),
+            Err(PortFail::Worn(_)) => {
+                port.detach(place, pass);
+                return Ok(None);
+            }
             Err(PortFail::OutOfMemory(_)) => return Err(OutOfMemory),
         }
     }
     unreachable!()
 }
 
-// The same. A stream that is among those whose history is full isn't asked.
-fn count_unless<W: Wait>(
+// The same. Where a recorder has found the history full, no Count is taken for an answer: a history doesn't shrink.
+fn count_as_found<W: Wait>(
     rt: &W,
     port: &mut Shared<Desk>,
     place: u32,
@@ -89,13 +92,13 @@ fn count_unless<W: Wait>(
     ensures grown { Begins (told_at port.old.roots place) (told_at port.new.roots place) }
     ensures others { (q : ℕ) → q ≢ place → told_at port.new.roots q ≡ told_at port.old.roots q }
 {
-    if full.contains(&place) {
-        return Ok(None);
+    match count_one(rt, port, place)? {
+        Some(_) if full.contains(&place) => Err(OutOfMemory),
+        counts => Ok(counts),
     }
-    count_one(rt, port, place)
 }
 
-/// The Count of each stream, its last call. Those at the places in `full` have a full history, and none.
+/// The Count of each stream, its last call. A stream whose history is full has none, and those at the places in `full` are such.
 pub(crate) fn count_all<W: Wait>(
     rt: &W,
     alloc: Global,
@@ -112,7 +115,7 @@ pub(crate) fn count_all<W: Wait>(
 {
     let mut list = Vec::new(alloc);
     for place in 0..places {
-        let counts = count_unless(rt, port, place, full)?;
+        let counts = count_as_found(rt, port, place, full)?;
         if list.push(counts).is_err() {
             return Err(OutOfMemory);
         }

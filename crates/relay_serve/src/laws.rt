@@ -9,5 +9,5 @@ ghost use Rattle.relay_worker.specs.declared.recorder.Form.{Form};
 pub fn recordings_law()
     ensures { (config : Config) (place : ℕ) (rule : PlaceRule) (form : Form) (name : List ℕ) → 0 < config.workers
         → slice_get config.places place ≡ Some rule → file_in form rule ≡ Some name
-        → Contains (recordings_upto config config.workers) (recording place form) }
+        → Contains (recordings_upto config config.workers) (recording config.limits.max_message place form) }
 {}

@@ -78,7 +78,7 @@ fn new_recorder<K: Sink>(
     file: K,
 ) -> Result<ServeRecorder<K>, OutOfMemory>
     requires { IsNewFile (K.holds file) (K.faults file) }
-    ensures label { IfOk result (λ r. label_of r ≡ recording place form) }
+    ensures label { IfOk result (λ r. label_of r ≡ recording longest place form) }
     ensures nowhere { IfOk result (λ r. (state_of r).seat.pass ≡ None) }
     ensures tally { IfOk result (λ r. HasTally K.holds K.faults r) }
 {
@@ -100,7 +100,7 @@ fn open_recording<H: House>(
     name: &[u8],
 ) -> Result<(), OpenFail>
     requires { place < length (shared_rules worker.old.bench.port).names }
-    ensures enlists { OnOk result (Enlists H.File.holds H.File.faults (recording place form ∷ []) worker.old worker.new) }
+    ensures enlists { OnOk result (Enlists H.File.holds H.File.faults (recording longest place form ∷ []) worker.old worker.new) }
     ensures house { MatchResult result (λ _. H.told house.new ≡ H.told house.old) (λ fail. HouseCause fail (H.told house.old) (H.told house.new)) }
     ensures asked { H.asked house.new ≡ H.asked house.old }
 {
@@ -127,7 +127,7 @@ fn open_if<H: House>(
     name: &Option<Bytes>,
 ) -> Result<(), OpenFail>
     requires { place < length (shared_rules worker.old.bench.port).names }
-    ensures enlists { OnOk result (Enlists H.File.holds H.File.faults (recording_if name.now (recording place form)) worker.old worker.new) }
+    ensures enlists { OnOk result (Enlists H.File.holds H.File.faults (recording_if name.now (recording longest place form)) worker.old worker.new) }
     ensures house { MatchResult result (λ _. H.told house.new ≡ H.told house.old) (λ fail. HouseCause fail (H.told house.old) (H.told house.new)) }
     ensures asked { H.asked house.new ≡ H.asked house.old }
 {
@@ -147,7 +147,7 @@ fn open_place<H: House>(
     rule: &PlaceRule,
 ) -> Result<(), OpenFail>
     requires { place < length (shared_rules worker.old.bench.port).names }
-    ensures enlists { OnOk result (Enlists H.File.holds H.File.faults (recordings_at place rule.now) worker.old worker.new) }
+    ensures enlists { OnOk result (Enlists H.File.holds H.File.faults (recordings_at longest place rule.now) worker.old worker.new) }
     ensures house { MatchResult result (λ _. H.told house.new ≡ H.told house.old) (λ fail. HouseCause fail (H.told house.old) (H.told house.new)) }
     ensures asked { H.asked house.new ≡ H.asked house.old }
 {
@@ -169,7 +169,7 @@ fn open_own_place<H: House>(
 ) -> Result<(), OpenFail>
     requires some { 0 < workers }
     requires place { place < length (shared_rules worker.old.bench.port).names }
-    ensures enlists { OnOk result (Enlists H.File.holds H.File.faults (if place % workers == number then recordings_at place rule.now else [])
+    ensures enlists { OnOk result (Enlists H.File.holds H.File.faults (if place % workers == number then recordings_at longest place rule.now else [])
         worker.old worker.new) }
     ensures house { MatchResult result (λ _. H.told house.new ≡ H.told house.old) (λ fail. HouseCause fail (H.told house.old) (H.told house.new)) }
     ensures asked { H.asked house.new ≡ H.asked house.old }

@@ -26,7 +26,7 @@ use Rattle.media_recorder.specs.declared.turn.RecTurn.{RecTurn}
 use Rattle.relay_worker.specs.Filed.{form_of, state_of}
 use Rattle.relay_worker.specs.declared.recorder.Form.{Form}
 use Rattle.relay_worker.specs.Rounds.{ClosesAt, ClosesBy, ClosesIf, GoesIf, HandsBack, IsClosed, IsGone, IsLeft, IsTurned, Recorded, RecordsAt, RecordsIf, Rounds, TurnsAt, TurnsBy, TurnsIf, Walks}
-use Rattle.relay_worker.specs.Running.{GoesAhead, HasRun, KeepsOn, label_of}
+use Rattle.relay_worker.specs.Running.{GoesAhead, HasRun, KeepsOn, Label, label_of}
 use Rattle.relay_worker.specs.Sessions.{IsNewSession}
 use Rattle.relay_worker.specs.declared.bench.Bench.{Bench}
 use Rattle.relay_worker.specs.declared.bench.Seated.{Seated}
@@ -373,9 +373,16 @@ get_at [] i d le = absurd (omega (arith, le))
 get_at (x ∷ xs) zero d le = refl
 get_at (x ∷ xs) (suc i) d le = get_at xs i d (omega (arith, le))
 
-pub label_same : {P K Q : Type 0} (r r' : Recorder P K Q) → (state_of r').seat.who ≡ (state_of r).seat.who → (state_of r').seat.place ≡ (state_of r).seat.place → form_of r' ≡ form_of r → label_of r' ≡ label_of r
-label_same r r' a b c = ap (λ (w : ℕ). record { who = w; place = (state_of r').seat.place; form = form_of r' }) a
-    ∙ (ap (λ (p : ℕ). record { who = (state_of r).seat.who; place = p; form = form_of r' }) b ∙ ap (λ (f : Form). record { who = (state_of r).seat.who; place = (state_of r).seat.place; form = f }) c)
+abbrev label : ℕ → ℕ → Form → ℕ → Label
+label who place form longest = record { who = who; place = place; form = form; longest = longest }
+
+pub label_same : {P K Q : Type 0} (r r' : Recorder P K Q) → (state_of r').seat.who ≡ (state_of r).seat.who
+    → (state_of r').seat.place ≡ (state_of r).seat.place → form_of r' ≡ form_of r → (state_of r').tape.longest ≡ (state_of r).tape.longest → label_of r' ≡ label_of r
+label_same r r' who place form longest =
+    ap (λ (n : ℕ). label n (state_of r').seat.place (form_of r') (state_of r').tape.longest) who
+    ∙ (ap (λ (n : ℕ). label (state_of r).seat.who n (form_of r') (state_of r').tape.longest) place
+    ∙ (ap (λ (f : Form). label (state_of r).seat.who (state_of r).seat.place f (state_of r').tape.longest) form
+    ∙ ap (label (state_of r).seat.who (state_of r).seat.place (form_of r)) longest))
 
 module _ {P D K Q L : Type 0} (files : P → Recorder P K Q → RecTurn → P → Recorder P K Q → Type 0) where
   pub recorded_at : (i : ℕ) (r now : Recorder P K Q) (b b' : Bench P D Q L) (rs : List (Recorder P K Q)) → slice_get rs i ≡ Some r → Recorded files r b now b' → RecordsAt files i (b, rs) (b', slice_set rs i now)

@@ -76,3 +76,4 @@ pub record TakesTurn {P K Q : Type 0} (fits : P → ℕ → Q → Type 0) (rules
   pub who : (state_of r').seat.who ≡ (state_of r).seat.who
   pub place : (state_of r').seat.place ≡ (state_of r).seat.place
   pub form : form_of r' ≡ form_of r
+  pub longest : (state_of r').tape.longest ≡ (state_of r).tape.longest

@@ -10,14 +10,15 @@ use Rattle.relay_worker.specs.Filed.{form_of, state_of}
 use Rattle.relay_worker.specs.declared.recorder.Form.{Form}
 use Rattle.relay_worker.specs.declared.recorder.Recorder.{Recorder}
 
--- whose recorder it is, of which stream, and how it writes
+-- whose recorder it is, of which stream, how it writes, and how many bytes its longest unit has
 pub record Label : Type 0 where
   pub who : ℕ
   pub place : ℕ
   pub form : Form
+  pub longest : ℕ
 
 abbrev pub label_of : {P K Q : Type 0} → Recorder P K Q → Label
-label_of r = record { who = (state_of r).seat.who; place = (state_of r).seat.place; form = form_of r }
+label_of r = record { who = (state_of r).seat.who; place = (state_of r).seat.place; form = form_of r; longest = (state_of r).tape.longest }
 
 -- a port after calls of its own: nothing that was seen is forgotten, and passes that fitted still do
 pub record GoesAhead {P Q : Type 0} (fits : P → ℕ → Q → Type 0) (rules : P → PortRules) (root : P → Histories)

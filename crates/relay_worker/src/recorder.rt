@@ -90,6 +90,7 @@ impl<P: StreamPort, K: Sink> Recorder<P, K> {
         ensures who { (state_of self.new).seat.who ≡ (state_of self.old).seat.who }
         ensures place { (state_of self.new).seat.place ≡ (state_of self.old).seat.place }
         ensures form { form_of self.new ≡ form_of self.old }
+        ensures longest { (state_of self.new).tape.longest ≡ (state_of self.old).tape.longest }
         ensures port { Serves P.rules P.root P.busies P.fits (state_of self.old).seat.place port.old port.new }
         ensures turn { Turns P.rules P.root P.busies P.seen P.mine P.count K.takes (state_of self.old).end port.old port.new
             (sink_of self.old) (sink_of self.new) (state_of self.old) result (state_of self.new) }

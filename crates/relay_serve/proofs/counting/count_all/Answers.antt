@@ -10,19 +10,19 @@ use Rattle.relay_serve.proofs.counting.count_all.Goals as goal
 
 pub returns-in_err-counts-clause-grown : goal.returns-in_err-counts-clause-grown
 returns-in_err-counts-clause-grown g c =
-    later_then (told_at c.args.port.now.roots) (told_at c.loop-place.port.roots) (told_at c.count_unless.new.port.roots) c.loop-place.invariant.grown
-    (later_at (told_at c.loop-place.port.roots) (told_at c.count_unless.new.port.roots) c.loop-place.place c.count_unless.ensures.grown c.count_unless.ensures.others)
+    later_then (told_at c.args.port.now.roots) (told_at c.loop-place.port.roots) (told_at c.count_as_found.new.port.roots) c.loop-place.invariant.grown
+    (later_at (told_at c.loop-place.port.roots) (told_at c.count_as_found.new.port.roots) c.loop-place.place c.count_as_found.ensures.grown c.count_as_found.ensures.others)
 
 pub returns-then-is_err-clause-grown : goal.returns-then-is_err-clause-grown
 returns-then-is_err-clause-grown g c =
-    later_then (told_at c.args.port.now.roots) (told_at c.loop-place.port.roots) (told_at c.count_unless.new.port.roots) c.loop-place.invariant.grown
-    (later_at (told_at c.loop-place.port.roots) (told_at c.count_unless.new.port.roots) c.loop-place.place c.count_unless.ensures.grown c.count_unless.ensures.others)
+    later_then (told_at c.args.port.now.roots) (told_at c.loop-place.port.roots) (told_at c.count_as_found.new.port.roots) c.loop-place.invariant.grown
+    (later_at (told_at c.loop-place.port.roots) (told_at c.count_as_found.new.port.roots) c.loop-place.place c.count_as_found.ensures.grown c.count_as_found.ensures.others)
 
 pub loop-place-preserved : goal.loop-place-preserved
 loop-place-preserved g c =
     let i = c.loop-place.invariant in
     let xs = c.loop-place.list.items in
-    let ks = told_at c.count_unless.new.port.roots in
+    let ks = told_at c.count_as_found.new.port.roots in
     let limits = (shared_rules c.args.port.now).limits in
     let pushed = rw c.if-is_err.ensures.negation at c.push.ensures.items in
     let ends : EndsIf (limits (length xs)) c.in_ok-counts.counts (ks (length xs)) =
@@ -30,12 +30,12 @@ loop-place-preserved g c =
     (subst (λ (q : PortRules). EndsIf (q.limits c.loop-place.place) c.in_ok-counts.counts (ks c.loop-place.place)) i.rules c.in_ok-counts.ensures.last) in
     record {
       each = search rules;
-      rules = c.count_unless.ensures.rules ∙ i.rules;
+      rules = c.count_as_found.ensures.rules ∙ i.rules;
       last = subst (λ (l : List (Option Counts)). AllEnd limits l ks) (sym pushed)
-          (all_more limits xs c.in_ok-counts.counts (told_at c.loop-place.port.roots) ks i.last ends (λ q n. c.count_unless.ensures.others q (λ e. n (e ∙ sym i.each))));
+          (all_more limits xs c.in_ok-counts.counts (told_at c.loop-place.port.roots) ks i.last ends (λ q n. c.count_as_found.ensures.others q (λ e. n (e ∙ sym i.each))));
       worn = λ q l h. subst (λ (m : List (Option Counts)). IsWorn m q) (sym pushed)
           (worn_more (Contains c.args.full.now) xs c.in_ok-counts.counts i.worn
           (λ t. c.in_ok-counts.ensures.worn (subst (Contains c.args.full.now) i.each t)) q (subst (λ (m : List (Option Counts)). q < length m) pushed l) h);
       grown = later_then (told_at c.args.port.now.roots) (told_at c.loop-place.port.roots) ks i.grown
-          (later_at (told_at c.loop-place.port.roots) ks c.loop-place.place c.count_unless.ensures.grown c.count_unless.ensures.others);
+          (later_at (told_at c.loop-place.port.roots) ks c.loop-place.place c.count_as_found.ensures.grown c.count_as_found.ensures.others);
     }

@@ -21,7 +21,7 @@ loop-preserved-in-Moved g c =
       filed = filed_by (shared_rules c.args.port.now) c.turn.new.port c.turn.new.self same
           (omega (arith, i.filed.there, e.place, ap (λ (q : PortRules). length q.names) same)) e.fits;
       tally = e.tallies i.tally;
-      label = label_same c.loop.recorder c.turn.new.self e.who e.place e.form ∙ i.label;
+      label = label_same c.loop.recorder c.turn.new.self e.who e.place e.form e.longest ∙ i.label;
       rules = same;
       grown = later_then (told_at c.args.port.now.roots) (told_at c.loop.port.roots) (told_at c.turn.new.port.roots) i.grown
           (later_at (told_at c.loop.port.roots) (told_at c.turn.new.port.roots) (state_of c.loop.recorder).seat.place e.port.here e.port.others);
@@ -38,7 +38,7 @@ loop-preserved g c =
       filed = filed_by (shared_rules c.args.port.now) c.turn.new.port c.turn.new.self same
           (omega (arith, i.filed.there, e.place, ap (λ (q : PortRules). length q.names) same)) e.fits;
       tally = e.tallies i.tally;
-      label = label_same c.loop.recorder c.turn.new.self e.who e.place e.form ∙ i.label;
+      label = label_same c.loop.recorder c.turn.new.self e.who e.place e.form e.longest ∙ i.label;
       rules = same;
       grown = later_then (told_at c.args.port.now.roots) (told_at c.loop.port.roots) (told_at c.turn.new.port.roots) i.grown
           (later_at (told_at c.loop.port.roots) (told_at c.turn.new.port.roots) (state_of c.loop.recorder).seat.place e.port.here e.port.others);
@@ -56,7 +56,7 @@ returns-in-Idle g c =
       filed = filed_by (shared_rules c.args.port.now) c.turn.new.port c.turn.new.self same
           (omega (arith, i.filed.there, e.place, ap (λ (q : PortRules). length q.names) same)) e.fits;
       tally = e.tallies i.tally;
-      label = label_same c.loop.recorder c.turn.new.self e.who e.place e.form ∙ i.label;
+      label = label_same c.loop.recorder c.turn.new.self e.who e.place e.form e.longest ∙ i.label;
       rules = same;
       grown = later_then (told_at c.args.port.now.roots) (told_at c.loop.port.roots) (told_at c.turn.new.port.roots) i.grown
           (later_at (told_at c.loop.port.roots) (told_at c.turn.new.port.roots) (state_of c.loop.recorder).seat.place e.port.here e.port.others);
@@ -75,7 +75,7 @@ returns-in-Ended g c =
       filed = filed_by (shared_rules c.args.port.now) c.turn.new.port c.turn.new.self same
           (omega (arith, i.filed.there, e.place, ap (λ (q : PortRules). length q.names) same)) e.fits;
       tally = e.tallies i.tally;
-      label = label_same c.loop.recorder c.turn.new.self e.who e.place e.form ∙ i.label;
+      label = label_same c.loop.recorder c.turn.new.self e.who e.place e.form e.longest ∙ i.label;
       rules = same;
       grown = later_then (told_at c.args.port.now.roots) (told_at c.loop.port.roots) (told_at c.turn.new.port.roots) i.grown
           (later_at (told_at c.loop.port.roots) (told_at c.turn.new.port.roots) (state_of c.loop.recorder).seat.place e.port.here e.port.others);

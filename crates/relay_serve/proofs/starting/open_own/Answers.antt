@@ -14,15 +14,16 @@ loop-left-preserved g c =
     let rest : List PlaceRule = take (length left - 1) (drop 1 left) in
     let some = c.in-len1-up.len_at_least in
     let workers = c.args.config.now.workers in
-    let own = own_at workers c.args.number c.loop-left.place c.rule-item.result in
+    let longest = c.args.config.now.limits.max_message in
+    let own = own_at longest workers c.args.number c.loop-left.place c.rule-item.result in
     record {
       at = omega (arith, rest_length left some, i.at);
       bench = e.bench ∙ i.bench;
       terms = e.terms ∙ i.terms;
       labels = labels_more (map label_of c.loop-left.worker.recorders) (map label_of c.open_own_place.new.worker.recorders) own
-          (own_from workers c.args.number (c.loop-left.place + 1) rest) (own_from workers c.args.number c.loop-left.place left)
+          (own_from longest workers c.args.number (c.loop-left.place + 1) rest) (own_from longest workers c.args.number c.loop-left.place left)
           (map label_of c.args.worker.now.recorders ++ recordings_of c.args.config.now c.args.number) e.labels
-          (own_more workers c.args.number c.loop-left.place left c.rule-item.result some c.rule-item.is) i.labels;
+          (own_more longest workers c.args.number c.loop-left.place left c.rule-item.result some c.rule-item.is) i.labels;
       tallies = λ all. e.tallies (i.tallies all);
       house = c.in_ok-open_own_place.ensures.house ∙ i.house;
       asked = c.open_own_place.ensures.asked ∙ i.asked;

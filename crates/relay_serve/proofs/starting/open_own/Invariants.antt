@@ -10,7 +10,7 @@ invariant-loop-left g l = record {
   at : l.place + length l.left ≡ length l.config.places;
   bench : l.worker.bench ≡ l.fn.worker.bench;
   terms : l.worker.terms ≡ l.fn.worker.terms;
-  labels : map label_of l.worker.recorders ++ own_from l.config.workers l.number l.place l.left
+  labels : map label_of l.worker.recorders ++ own_from l.config.limits.max_message l.config.workers l.number l.place l.left
       ≡ map label_of l.fn.worker.recorders ++ recordings_of l.config l.number;
   tallies : All (HasTally g.H.File.Sink.holds g.H.File.Sink.faults) l.fn.worker.recorders → All (HasTally g.H.File.Sink.holds g.H.File.Sink.faults) l.worker.recorders;
   house : g.H.House.told l.house ≡ g.H.House.told l.fn.house;

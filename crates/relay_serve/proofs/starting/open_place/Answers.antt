@@ -5,6 +5,6 @@ use Rattle.relay_serve.proofs.starting.open_place.Goals as goal
 
 pub returns-clause-enlists : goal.returns-clause-enlists
 returns-clause-enlists g c =
-    enlists_then g.H.File.Sink.holds g.H.File.Sink.faults (recording_if c.args.rule.now.flv (recording c.args.place form.Flv))
-    (recording_if c.args.rule.now.ts (recording c.args.place form.Ts)) c.args.worker.now c.open_if.new.worker c.open_if-2.new.worker
+    enlists_then g.H.File.Sink.holds g.H.File.Sink.faults (recording_if c.args.rule.now.flv (recording c.args.longest c.args.place form.Flv))
+    (recording_if c.args.rule.now.ts (recording c.args.longest c.args.place form.Ts)) c.args.worker.now c.open_if.new.worker c.open_if-2.new.worker
     c.in_ok-open_if.ensures.enlists c.in_ok-open_if-2.ensures.enlists

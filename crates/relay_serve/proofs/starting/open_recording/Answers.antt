@@ -4,5 +4,5 @@ use Rattle.relay_serve.proofs.starting.open_recording.Goals as goal
 
 pub returns-clause-enlists : goal.returns-clause-enlists
 returns-clause-enlists g c =
-    enlists_one g.H.File.Sink.holds g.H.File.Sink.faults c.args.worker.now c.enlist.new.self c.in-Ok.recorder (recording c.args.place c.args.form)
+    enlists_one g.H.File.Sink.holds g.H.File.Sink.faults c.args.worker.now c.enlist.new.self c.in-Ok.recorder (recording c.args.longest c.args.place c.args.form)
     c.in-Ok-enlist.ensures.enlisted c.in-Ok.ensures.label c.in-Ok.ensures.tally

@@ -33,7 +33,7 @@ loop-recorder-preserved g c =
       ahead = ahead_trans g.P.StreamPort.fits g.P.StreamPort.rules g.P.StreamPort.root c.args.self.now.port x y i.ahead e.ahead;
       filed = All-set (IsFiled (g.P.StreamPort.fits y) (length (g.P.StreamPort.rules y).names)) rs at c.record.new.recorder e.filed
           (filed_on g.P.StreamPort.fits g.P.StreamPort.rules x y rs (goes_of g.P.StreamPort.fits g.P.StreamPort.rules g.P.StreamPort.root x y e.ahead) i.filed);
-      labels = map-set_same label_of rs at c.record.new.recorder d (label_same (get_or rs at d) c.record.new.recorder t.who t.place t.form) ∙ i.labels;
+      labels = map-set_same label_of rs at c.record.new.recorder d (label_same (get_or rs at d) c.record.new.recorder t.who t.place t.form t.longest) ∙ i.labels;
       tallies = λ was.
           let all = i.tallies was in
           let tally = Tallies g.P.StreamPort.count g.K.Sink.holds g.K.Sink.faults in
