@@ -16,7 +16,6 @@ use Rattle.relay_serve.specs.Settling.{Enlists}
 use Rattle.relay_serve.specs.Starts.{HasTally}
 
 module _ {D K L : Type 0} (holds : K → Option (List ℕ)) (faults : K → ℕ) where
-
   -- these, and then the others
   pub enlists_then : (recordings others : List Label) (w v u : WorkerState Streams D K (PassKnown Site Attempt) L) → Enlists holds faults recordings w v
       → Enlists holds faults others v u → Enlists holds faults (recordings ++ others) w u

@@ -139,7 +139,6 @@ module _ {P S : Type 0} (asks : P → S → ℕ → Entry → Made → P → S �
     fed_stopped v c left e moved a s ae = (Stopping e, (c, (s, record { ended = ae; gone = refl; port = refl; seat = refl })))
 
     module _ {L : Type 0} (hears : L → ℕ → Came → L → Type 0) where
-
       pub input_came : (v w : Life P S) (l m : L) (came : Came) (moved : Bool) (a : Turn) → is_hungry v.parts ≡ true → is_nil v.input ≡ true → hears l 4096 came m → CameAs asks desk came v moved a w → Input asks desk hears v l moved a w m
       input_came v w l m came moved a h n s t =
           subst (λ (b : Bool). InputBy asks desk hears b v l moved a w m) (sym h) (subst (λ (b : Bool). EmptyBy asks desk hears b v l moved a w m) (sym n) (came, (s, t)))
