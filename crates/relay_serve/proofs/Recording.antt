@@ -152,7 +152,7 @@ as_many numbers calls history e =
 module _ {Q : Type 0} (mine : Q → List ℕ) (streams : ℕ → StreamLimits) (joined histories : Histories) (worn : ℕ → Type 0) (form : Form) (r : RecorderState Q)
     (bytes : List ℕ) (left : HasLeft mine (streams r.seat.place) (histories r.seat.place) r) (sent : bytes ≡ r.tape.sent) where
   abbrev Label_is : Label
-  Label_is = record { who = r.seat.who; place = r.seat.place; form = form }
+  Label_is = record { who = r.seat.who; place = r.seat.place; form = form; longest = r.tape.longest }
 
   whole_from : r.tape.sent ++ r.tape.pending ≡ text_in form (taken r.seat.calls) → Rests mine (joined r.seat.place) r
       → IsWhole Label_is bytes (joined r.seat.place) (mine_of mine r.seat.pass ++ left.numbers) (r.seat.calls ++ left.leaves)
