@@ -222,7 +222,7 @@ pub records_from : {Q : Type 0} (mine : Q → List ℕ) (count : Q → ℕ) (str
     (r : RecorderState Q) (end : Option RecEnd) (held : Option (List ℕ)) (faults : ℕ) (bytes : List ℕ) → IsSettled mine (joined r.seat.place) end r → starved end ≡ false
     → (worn_out end ≡ true → worn r.seat.place) → Tallied count held faults r → held ≡ Some bytes → (r.end ≢ Some rec.OutOfMemory → r.tape.sent ++ r.tape.pending ≡ text_in form (taken r.seat.calls))
     → Begins (r.tape.sent ++ r.tape.pending) (text_in form (taken r.seat.calls)) → HasLeft mine (streams r.seat.place) (histories r.seat.place) r
-    → Records streams joined histories worn (record { who = r.seat.who; place = r.seat.place; form = form }) bytes faults
+    → Records streams joined histories worn (record { who = r.seat.who; place = r.seat.place; form = form; longest = r.tape.longest }) bytes faults
 records_from mine count streams joined histories worn form r end held faults bytes s spared out t told text prefix left =
     records_by mine streams joined histories worn form r bytes left (t.told bytes told) end faults s spared t.blamed t.full out text prefix
 
