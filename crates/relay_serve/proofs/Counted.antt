@@ -6,7 +6,9 @@ use Rattle.std.proofs.lemmas.Bool.Decides.{nat_tests}
 use Rattle.std.specs.Prelude.{nat_lt, if◌then◌else◌}
 use Rattle.turn_gate.specs.Histories.{Begins, longer}
 use Rattle.stream_model.specs.declared.calls.StreamLimits.{StreamLimits}
+use Rattle.stream_registry.specs.Pasts.{Attempt}
 use Rattle.stream_registry.specs.Placed.{Placed}
+use Rattle.stream_registry.specs.Refusals.{IsFull}
 use Rattle.stream_registry.specs.Told.{Step, Histories, Keeps}
 use Rattle.stream_registry.specs.Roots.{Later}
 use Rattle.relay_serve.specs.declared.counting.Counts.{Counts}
@@ -25,11 +27,25 @@ counted limits root seen mine c seen' mine' root' p k e =
     let same : root' ≡ seen' = e ∙ choose (nat_lt (length root) (length seen')) root seen' (grind (arith, nat_tests, less)) in
     record { before = p.before; last = same ∙ p.seen_is; keeps = subst (Keeps limits) (sym same) k }
 
-begins_same : (xs : List Step) → Begins xs xs
+longer_by : (b : Bool) (xs ys rest : List Attempt) → nat_lt (length xs) (length ys) ≡ b → xs ++ rest ≡ ys → (if b then ys else xs) ≡ ys
+longer_by true xs ys rest l e = refl
+longer_by false xs ys [] l e = sym (append-nil xs) ∙ e
+longer_by false xs ys (a ∷ rest) l e =
+    let less : length xs < length ys = omega (arith, ap length e, length-append xs (a ∷ rest)) in
+    absurd (let t : nat_lt (length xs) (length ys) ≡ true = grind (arith, nat_tests, less) in let f : false ≡ true = sym l ∙ t in cc)
+
+-- what a pass has seen is what the root then has, where it begins with all that the root had
+longer_than : (xs ys : List Attempt) → Begins xs ys → longer xs ys ≡ ys
+longer_than xs ys b = longer_by (nat_lt (length xs) (length ys)) xs ys b.0 refl b.1
+
+pub full_there : (limits : StreamLimits) (root seen root' : List Attempt) → Begins root seen → IsFull limits seen → root' ≡ longer root seen → IsFull limits root'
+full_there limits root seen root' b f e = subst (IsFull limits) (sym (e ∙ longer_than root seen b)) f
+
+pub begins_same : {E : Type 0} (xs : List E) → Begins xs xs
 begins_same xs = ([], append-nil xs)
 
-begins_all : (xs ys zs : List Step) → Begins xs ys → Begins ys zs → Begins xs zs
-begins_all xs ys zs b c = (b.0 ++ c.0, sym (append_assoc xs b.0 c.0) ∙ ap (λ (l : List Step). l ++ c.0) b.1 ∙ c.1)
+pub begins_all : {E : Type 0} (xs ys zs : List E) → Begins xs ys → Begins ys zs → Begins xs zs
+begins_all {E} xs ys zs b c = (b.0 ++ c.0, sym (append_assoc xs b.0 c.0) ∙ ap (λ (l : List E). l ++ c.0) b.1 ∙ c.1)
 
 shifted : {m n : ℕ} → (m ≡ n) ⊎ (m ≢ n) → (suc m ≡ suc n) ⊎ (suc m ≢ suc n)
 shifted (inl e) = inl (ap suc e)
@@ -63,7 +79,7 @@ pushed_get [] x y (suc n) e = absurd (cc)
 pushed_get (z ∷ xs) x y zero e = inl e
 pushed_get (z ∷ xs) x y (suc n) e = shift xs z x y n (pushed_get xs x y n e)
 
-module _ (limits : ℕ → StreamLimits) (xs : List (Option Counts)) (x : Option Counts) (hs ks : Histories) where
+module _ (limits : ℕ → StreamLimits) (xs : List (Option Counts)) (x : Option Counts) (hs ks : ℕ → List Attempt) where
   all_by : (place : ℕ) (y : Option Counts) → AllEnd limits xs hs → EndsIf (limits (length xs)) x (ks (length xs)) → ((q : ℕ) → q ≢ length xs → ks q ≡ hs q)
       → (slice_get xs place ≡ Some y) ⊎ ((place ≡ length xs) × (x ≡ y)) → EndsIf (limits place) y (ks place)
   all_by place y old new o (inl e) =
@@ -72,7 +88,7 @@ module _ (limits : ℕ → StreamLimits) (xs : List (Option Counts)) (x : Option
   all_by place y old new o (inr e) =
       subst (λ (n : ℕ). EndsIf (limits n) y (ks n)) (sym e.0) (subst (λ (z : Option Counts). EndsIf (limits (length xs)) z (ks (length xs))) e.1 new)
 
-  -- one history more ends with its Count, or is full
+  -- one stream more is counted last, or its history is full
   pub all_more : AllEnd limits xs hs → EndsIf (limits (length xs)) x (ks (length xs)) → ((q : ℕ) → q ≢ length xs → ks q ≡ hs q) → AllEnd limits (xs ++ x ∷ []) ks
   all_more old new o = λ place y at. all_by place y old new o (pushed_get xs x y place at)
 

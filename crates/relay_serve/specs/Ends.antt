@@ -28,6 +28,8 @@ use Rattle.relay_serve.specs.Settling.{AsksFor, IsShut, TellsMore}
 use Rattle.stream_model.specs.declared.calls.StreamLimits.{StreamLimits}
 use Rattle.relay_serve.specs.Places.{limits_in}
 use Rattle.relay_serve.specs.declared.counting.Counts.{Counts}
+use Rattle.stream_registry.specs.Gates.{tells}
+use Rattle.stream_registry.specs.Pasts.{Attempt}
 use Rattle.stream_registry.specs.Roots.{Later}
 use Rattle.stream_registry.specs.Told.{Histories}
 
@@ -75,38 +77,40 @@ abbrev pub WritesOrFails : List ℕ → Option (List ℕ) → ℕ → Option (Li
 WritesOrFails text held faults held' faults' = ((held' ≡ append_known held text) × (faults' ≡ faults))
     ⊎ (WritesPart text held held' × Rose faults faults')
 
--- WHAT IS SEEN WHERE ALL WERE SERVED, by the streams' histories at the end: the report, the doors that were shut and the files that were kept
-pub record Reports (config : Config) (histories : Histories) (old new : Seen) : Type 0 where
+-- WHAT IS SEEN WHERE ALL WERE SERVED, by what each stream was asked to the end, with what memory refused: the report, the doors that were shut
+-- and the files that were kept
+pub record Reports (config : Config) (attempts : ℕ → List Attempt) (old new : Seen) : Type 0 where
   pub counts : List (Option Counts)
   pub each : length counts ≡ length config.places
   pub written : new.held ≡ append_known old.held (lines_from 0 (map counted_if counts))
   pub streams : ℕ → StreamLimits
   pub limited : (place : ℕ) → place < length config.places → streams place ≡ limits_in config
   -- the line of a stream tells what the last call of its history was answered: the server's own Count. Each reply of that
-  -- history is the one that the rules give after the calls before it. Or the line tells that the history is full, and it is
-  pub last : AllEnd streams counts histories
+  -- history is the one that the rules give after the calls before it. Or the line tells that the history is full, and it is: the
+  -- stream was asked as often as it can count
+  pub last : AllEnd streams counts attempts
   -- the histories once no session lived any more
   pub joined : Histories
-  pub later : Later joined histories
+  pub later : Later joined (tells attempts)
   -- each worker's door was asked for with the configured address and number of links
   pub asked : TellsMore (AsksFor config) (range_with_len 0 config.workers) old.asked new.asked
   -- each worker's door was shut, and what its links were sent is what they were owed
   pub shut : TellsMore (IsShut config streams joined) (range_with_len 0 config.workers) old.house.shut new.house.shut
   -- the file of each recording was kept, and holds what its recorder was sent
-  pub kept : TellsMore (IsRecorded streams joined histories (IsWorn counts) config.places) (recordings_upto config config.workers)
+  pub kept : TellsMore (IsRecorded streams joined (tells attempts) (IsWorn counts) config.places) (recordings_upto config config.workers)
       old.house.kept new.house.kept
 
--- HOW A CONFIGURATION THAT IS ACCEPTED IS SERVED, by the streams' histories at the end
-abbrev pub RunsAs : Config → Histories → Seen → Seen → Ending → Type 0
-RunsAs config histories old new end.Served = Reports config histories old new × (new.sink_faults ≡ old.sink_faults)
+-- HOW A CONFIGURATION THAT IS ACCEPTED IS SERVED, by what each stream was asked to the end
+abbrev pub RunsAs : Config → (ℕ → List Attempt) → Seen → Seen → Ending → Type 0
+RunsAs config attempts old new end.Served = Reports config attempts old new × (new.sink_faults ≡ old.sink_faults)
     × (new.house.faults ≡ old.house.faults)
-RunsAs config histories old new end.SinkFault = Rose old.sink_faults new.sink_faults × (new.house.faults ≡ old.house.faults)
-RunsAs config histories old new end.HouseFault = Refuses old.house new.house × (new.held ≡ old.held)
+RunsAs config attempts old new end.SinkFault = Rose old.sink_faults new.sink_faults × (new.house.faults ≡ old.house.faults)
+RunsAs config attempts old new end.HouseFault = Refuses old.house new.house × (new.held ≡ old.held)
     × (new.sink_faults ≡ old.sink_faults)
-RunsAs config histories old new end.OutOfMemory = (new.sink_faults ≡ old.sink_faults) × (new.house.faults ≡ old.house.faults)
-RunsAs config histories old new end.BadWords = ⊥
-RunsAs config histories old new end.SourceFault = ⊥
-RunsAs config histories old new end.Refused = ⊥
+RunsAs config attempts old new end.OutOfMemory = (new.sink_faults ≡ old.sink_faults) × (new.house.faults ≡ old.house.faults)
+RunsAs config attempts old new end.BadWords = ⊥
+RunsAs config attempts old new end.SourceFault = ⊥
+RunsAs config attempts old new end.Refused = ⊥
 
 -- how it ends where nobody can be served
 abbrev pub unopened_as : OpenFail → Ending
@@ -138,8 +142,9 @@ pub record Accepted (old new : Outer) (ending : Ending) : Type 0 where
   pub taken : TakesText old.left new.left bytes
   pub config : Config
   pub accepts : Accepts bytes config
-  pub histories : Histories
-  pub runs : RunsAs config histories old.out new.out ending
+  -- what each stream was asked to the end
+  pub attempts : ℕ → List Attempt
+  pub runs : RunsAs config attempts old.out new.out ending
 
 -- HOW `serve` ENDS, where `asked` says whether the words ask for it
 abbrev pub EndsAs : Bool → Outer → Outer → Ending → Type 0

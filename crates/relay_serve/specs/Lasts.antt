@@ -1,5 +1,5 @@
 -- The last call of each stream
-use Rattle.std.specs.Prelude.{◌≡◌, ◌^◌, ℕ, List, [], ◌∷◌, ◌++◌, length, Option, None, Some, slice_get}
+use Rattle.std.specs.Prelude.{◌≡◌, ◌^◌, ℕ, List, [], ◌∷◌, ◌++◌, Option, None, Some, slice_get}
 use Rattle.stream_model.specs.declared.calls.Call.TheVariants as call
 use Rattle.stream_model.specs.declared.calls.Entry.{Entry}
 use Rattle.stream_model.specs.declared.calls.StreamLimits.{StreamLimits}
@@ -7,8 +7,8 @@ use Rattle.stream_model.specs.declared.replies.Reply.{Reply}
 use Rattle.stream_model.specs.declared.replies.Reply.TheVariants as reply
 use Rattle.stream_registry.specs.Gates.{told}
 use Rattle.stream_registry.specs.Pasts.{Attempt}
-use Rattle.stream_registry.specs.Told.{Step, Histories, Keeps}
-use Rattle.turn_gate.specs.Histories.{Begins}
+use Rattle.stream_registry.specs.Refusals.{IsFull}
+use Rattle.stream_registry.specs.Told.{Step, Keeps}
 use Rattle.relay_serve.specs.declared.counting.Counts.{Counts}
 
 -- the server's own Count
@@ -24,21 +24,15 @@ pub record EndsWith (limits : StreamLimits) (c : Counts) (history : List Step) :
   pub last : history ≡ before ++ (counting, told_by c) ∷ []
   pub keeps : Keeps limits history
 
--- A HISTORY THAT IS FULL: it begins with what 2^62 calls tell, among them those for which there was no memory
-pub record IsFull (history : List Step) : Type 0 where
-  pub attempts : List Attempt
-  pub all : length attempts ≡ 2 ^ 62
-  pub begins : Begins (told attempts) history
-
--- a stream is counted, and its history ends so; or its history is full
-abbrev pub EndsIf : StreamLimits → Option Counts → List Step → Type 0
-EndsIf limits None history = IsFull history
-EndsIf limits (Some c) history = EndsWith limits c history
+-- a stream is counted, and what it was asked ends so; or its history is full
+abbrev pub EndsIf : StreamLimits → Option Counts → List Attempt → Type 0
+EndsIf limits None attempts = IsFull limits attempts
+EndsIf limits (Some c) attempts = EndsWith limits c (told attempts)
 
 -- the report has no counts of the stream at that place, but says that its history is full
 abbrev pub IsWorn : List (Option Counts) → ℕ → Type 0
 IsWorn counts place = slice_get counts place ≡ Some None
 
--- each history at these places ends with its Count, or is full
-abbrev pub AllEnd : (ℕ → StreamLimits) → List (Option Counts) → Histories → Type 0
-AllEnd limits counts histories = (place : ℕ) (o : Option Counts) → slice_get counts place ≡ Some o → EndsIf (limits place) o (histories place)
+-- each stream at these places is counted last, or its history is full
+abbrev pub AllEnd : (ℕ → StreamLimits) → List (Option Counts) → (ℕ → List Attempt) → Type 0
+AllEnd limits counts attempts = (place : ℕ) (o : Option Counts) → slice_get counts place ≡ Some o → EndsIf (limits place) o (attempts place)

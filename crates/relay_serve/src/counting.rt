@@ -3,7 +3,7 @@ ghost use Rattle.std.specs.Prelude.{◌≡◌, ◌≢◌, ◌<◌, ◌≤◌, �
 ghost use Rattle.std.specs.Fmt.{decimal};
 ghost use Rattle.turn_gate.specs.Histories.{Begins};
 ghost use Rattle.stream_registry.specs.Gates.{told_at};
-ghost use Rattle.stream_registry.specs.Roots.{Later};
+ghost use Rattle.stream_registry.specs.Roots.{Later, seen_at};
 ghost use Rattle.stream_registry.specs.SharedState.{shared_rules};
 ghost use Rattle.relay_serve.specs.Texts.{counts_line, told_line, stream_line, lines_from};
 ghost use Rattle.relay_serve.specs.Counts.{counted_if};
@@ -36,9 +36,9 @@ fn count_one<W: Wait>(
 ) -> Result<Option<Counts>, OutOfMemory>
     requires { place < length (shared_rules port.old).names }
     ensures rules { shared_rules port.new ≡ shared_rules port.old }
-    ensures last { IfOk result (λ counts. EndsIf ((shared_rules port.old).limits place) counts (told_at port.new.roots place)) }
+    ensures last { IfOk result (λ counts. EndsIf ((shared_rules port.old).limits place) counts (seen_at port.new.roots place)) }
     ensures grown { Begins (told_at port.old.roots place) (told_at port.new.roots place) }
-    ensures others { (q : ℕ) → q ≢ place → told_at port.new.roots q ≡ told_at port.old.roots q }
+    ensures others { (q : ℕ) → q ≢ place → seen_at port.new.roots q ≡ seen_at port.old.roots q }
 {
     let mut pass = port.attach(place);
     for _ in rt.forever() {
@@ -87,10 +87,10 @@ fn count_as_found<W: Wait>(
 ) -> Result<Option<Counts>, OutOfMemory>
     requires { place < length (shared_rules port.old).names }
     ensures rules { shared_rules port.new ≡ shared_rules port.old }
-    ensures last { IfOk result (λ counts. EndsIf ((shared_rules port.old).limits place) counts (told_at port.new.roots place)) }
+    ensures last { IfOk result (λ counts. EndsIf ((shared_rules port.old).limits place) counts (seen_at port.new.roots place)) }
     ensures worn { Contains full.now place → IfOk result (λ counts. counts ≡ None) }
     ensures grown { Begins (told_at port.old.roots place) (told_at port.new.roots place) }
-    ensures others { (q : ℕ) → q ≢ place → told_at port.new.roots q ≡ told_at port.old.roots q }
+    ensures others { (q : ℕ) → q ≢ place → seen_at port.new.roots q ≡ seen_at port.old.roots q }
 {
     match count_one(rt, port, place)? {
         Some(_) if full.contains(&place) => Err(OutOfMemory),
@@ -109,7 +109,7 @@ pub(crate) fn count_all<W: Wait>(
     requires { places ≤ length (shared_rules port.old).names }
     ensures rules { shared_rules port.new ≡ shared_rules port.old }
     ensures each { IfOk result (λ list. vec_len list ≡ places) }
-    ensures last { IfOk result (λ list. AllEnd (shared_rules port.old).limits list.items (told_at port.new.roots)) }
+    ensures last { IfOk result (λ list. AllEnd (shared_rules port.old).limits list.items (seen_at port.new.roots)) }
     ensures worn { IfOk result (λ list. (place : ℕ) → place < places → Contains full.now place → IsWorn list.items place) }
     ensures grown { Later (told_at port.old.roots) (told_at port.new.roots) }
 {

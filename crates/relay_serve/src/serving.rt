@@ -1,5 +1,5 @@
 //! `relay serve`.
-ghost use Rattle.std.specs.Prelude.{◌≡◌, ◌≤◌, length, map, vec_len, All, IfOk, MatchResult, List, Option};
+ghost use Rattle.std.specs.Prelude.{◌≡◌, ◌≤◌, ℕ, length, map, vec_len, All, IfOk, MatchResult, List, Option};
 ghost use Rattle.relay_config.specs.Accepts.{Lawful};
 ghost use Rattle.relay_serve.specs.Ends.{EndsAs, HouseCause, RefusesAs, RunsAs, Serves, code_of, outer, seen, unopened_as};
 ghost use Rattle.relay_serve.specs.Places.{limits_in};
@@ -9,9 +9,9 @@ ghost use Rattle.relay_serve.specs.Settling.{AsksFor, EachAt, IsServing, TellsMo
 ghost use Rattle.relay_serve.specs.Starts.{HasLimits, HasRules};
 ghost use Rattle.relay_serve.specs.Words.{is_serve};
 ghost use Rattle.relay_worker.specs.Running.{HasRun};
-ghost use Rattle.stream_registry.specs.Gates.{told_at};
+ghost use Rattle.stream_registry.specs.Pasts.{Attempt};
+ghost use Rattle.stream_registry.specs.Roots.{seen_at};
 ghost use Rattle.stream_registry.specs.SharedState.{shared_rules};
-ghost use Rattle.stream_registry.specs.Told.{Histories};
 
 use crate::counting::{count_all, report_of};
 use crate::ending::{end_all, take_all_apart};
@@ -152,7 +152,7 @@ fn conclude<W: Wait, H: House, K: Sink>(
     requires each { vec_len workers ≡ config.now.workers }
     requires serving { EachAt (IsServing config.now H.Door.Link.told H.Door.Link.counts H.Door.told H.File.holds H.File.faults) workers.items }
     ensures { (before : Option (List Asked)) → TellsMore (AsksFor config.now) (range_with_len 0 config.now.workers) before (H.asked house.old)
-        → RunsAs config.now (told_at port.new.roots) (seen (K.holds out.old) (K.faults out.old) (H.told house.old) before)
+        → RunsAs config.now (seen_at port.new.roots) (seen (K.holds out.old) (K.faults out.old) (H.told house.old) before)
         (seen (K.holds out.new) (K.faults out.new) (H.told house.new) (H.asked house.new)) result }
 {
     let Ok(left) = take_all_apart(alloc, config, port, workers) else {
@@ -210,7 +210,7 @@ fn run<T: Threads + Wait + Sync, H: House, K: Sink>(
     out: &mut K,
 ) -> Ending
     requires lawful { Lawful config.now }
-    ensures { (histories : Histories) × RunsAs config.now histories (seen (K.holds out.old) (K.faults out.old) (H.told house.old) (H.asked house.old))
+    ensures { (attempts : ℕ → List Attempt) × RunsAs config.now attempts (seen (K.holds out.old) (K.faults out.old) (H.told house.old) (H.asked house.old))
         (seen (K.holds out.new) (K.faults out.new) (H.told house.new) (H.asked house.new)) result }
 {
     match make_ready(alloc, config, house) {

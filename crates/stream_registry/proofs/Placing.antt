@@ -13,7 +13,7 @@ use Rattle.stream_model.specs.Answer.{reply}
 use Rattle.stream_model.specs.Known.{IsLawful}
 use Rattle.stream_model.specs.Legal.{Legal}
 use Rattle.turn_gate.specs.Histories.{Begins, AreOwn}
-use Rattle.turn_gate.specs.Known.{PassKnown, GateId, RepliedAfter}
+use Rattle.turn_gate.specs.Known.{IsWorn, PassKnown, GateId, RepliedAfter}
 use Rattle.stream_registry.specs.Pasts.{Attempt, past_of, IsLawfulAt}
 use Rattle.stream_registry.specs.Roots.{Root, Later, Remembers, seen_of, seen_at, gates}
 use Rattle.stream_registry.specs.Told.{Keeps}
@@ -24,7 +24,7 @@ use Rattle.stream_registry.specs.Placed.{Placed}
 use Rattle.stream_registry.specs.Sites.{site, AreSites, AreApart, AreNewRoots}
 use Rattle.stream_registry.specs.Gates.{told, told_at, numbers}
 use Rattle.stream_registry.specs.Wants.{IsTake}
-use Rattle.stream_registry.specs.Refusals.{IsRefusedMemory}
+use Rattle.stream_registry.specs.Refusals.{IsFull, IsRefusedMemory}
 use Rattle.stream_registry.proofs.Wanting.{refused_take, refused_sent}
 use Rattle.stream_registry.proofs.Tells.{begins_told, told_more, told_back, past_more, numbers_placed, numbers_begin}
 
@@ -92,6 +92,10 @@ refused_memory entry a x root v w is p =
       refusal = x;
       seen_is = seen;
     }
+
+-- the history is full
+pub worn : (v w : Known) → IsWorn (IsLawfulAt v.gate.about.limits) v w → (w.met ≡ v.met) × IsFull v.gate.about.limits w.seen
+worn v w n = (n.same.met, record { all = n.full; lawful = n.lawful_seen })
 
 pub same_own : (v w : Known) → Remembers v w → w.mine ≡ v.mine → AreOwn v.mine (length v.seen) → numbers w.seen w.mine ≡ numbers v.seen v.mine
 same_own v w s e own = ap (numbers w.seen) e ∙ numbers_begin v.seen w.seen v.mine s.1 (λ n. (own n).1)

@@ -27,3 +27,7 @@ numbers h (n ∷ ns) = number h n ++ numbers h ns
 -- what the roots tell of each place
 abbrev pub told_at : List (Root Site Attempt) → Histories
 told_at roots place = told (seen_at roots place)
+
+-- what histories tell that have the calls refused for memory as well
+abbrev pub tells : (ℕ → List Attempt) → Histories
+tells attempts place = told (attempts place)

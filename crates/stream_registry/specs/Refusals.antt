@@ -3,13 +3,14 @@ use Rattle.std.specs.Prelude.{◌≡◌, ◌<◌, ◌^◌, List, [], ◌∷◌, 
 use Rattle.std.specs.declared.result.Result.TheVariants.{Err}
 use Rattle.av_unit.specs.declared.bytes.OutOfMemory.{OutOfMemory}
 use Rattle.stream_model.specs.declared.calls.Entry.{Entry}
+use Rattle.stream_model.specs.declared.calls.StreamLimits.{StreamLimits}
 use Rattle.stream_model.specs.Answer.{reply, IsSent}
 use Rattle.turn_gate.specs.Histories.{Begins}
 use Rattle.turn_gate.specs.Known.{PassKnown, met_once}
 use Rattle.stream_registry.specs.declared.desk.Site.{Site}
 use Rattle.stream_registry.specs.declared.port.PortFail.{PortFail}
 use Rattle.stream_registry.specs.declared.port.PortFail.TheVariants as fail
-use Rattle.stream_registry.specs.Pasts.{Attempt, past_of}
+use Rattle.stream_registry.specs.Pasts.{Attempt, IsLawfulAt, past_of}
 
 -- the turn was free, there was room in the history, the rules answer the call with an item, and memory was refused for it
 pub record IsRefusedMemory (v : PassKnown Site Attempt) (entry : Entry) (w : PassKnown Site Attempt) : Type 0 where
@@ -21,10 +22,16 @@ pub record IsRefusedMemory (v : PassKnown Site Attempt) (entry : Entry) (w : Pas
   pub refusal : OutOfMemory
   pub seen_is : w.seen ≡ before ++ (entry, Err refusal) ∷ []
 
+-- A HISTORY THAT IS FULL: the stream has had as many calls as it can count, those for which there was no memory among them. The rules
+-- answer the others, and would have answered each of these with an item
+pub record IsFull (limits : StreamLimits) (attempts : List Attempt) : Type 0 where
+  pub all : length attempts ≡ 2 ^ 62
+  pub lawful : IsLawfulAt limits attempts
+
 -- `v` is the pass before the call, and `w` the pass after it
 abbrev pub IsRefused : PassKnown Site Attempt → Entry → PortFail → PassKnown Site Attempt → Type 0
 -- its swap found the turn held by another pass, and nothing else has changed
 IsRefused v entry (fail.Busy e) w = w ≡ met_once v
--- the turn was free
-IsRefused v entry (fail.Worn e) w = (w.met ≡ v.met) × (length w.seen ≡ 2 ^ 62)
+-- the turn was free, and the history is full
+IsRefused v entry (fail.Worn e) w = (w.met ≡ v.met) × IsFull v.gate.about.limits w.seen
 IsRefused v entry (fail.OutOfMemory e) w = IsRefusedMemory v entry w

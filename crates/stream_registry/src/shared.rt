@@ -143,8 +143,8 @@ impl Shared<Desk> {
 impl StreamPort for Shared<Desk> {
     type Pass = Pass<Desk>;
 
-    ghost use Rattle.std.specs.Prelude.{◌≡◌, ◌≢◌, ◌≤◌, ◌^◌, ℕ, Some, length, slice_get, IfOk, IfErr};
-    ghost use Rattle.turn_gate.specs.Histories.{Begins};
+    ghost use Rattle.std.specs.Prelude.{◌≡◌, ◌≢◌, ◌<◌, ◌≤◌, ◌^◌, ℕ, [], Some, length, slice_get, IfOk, IfErr};
+    ghost use Rattle.turn_gate.specs.Histories.{Begins, longer};
     ghost use Rattle.turn_gate.specs.Known.{PassKnown};
     ghost use Rattle.stream_registry.specs.declared.desk.Site.{Site};
     ghost use Rattle.stream_registry.specs.Pasts.{Attempt};
@@ -152,7 +152,7 @@ impl StreamPort for Shared<Desk> {
     ghost use Rattle.stream_registry.specs.Placed.{Placed, Failed};
     ghost use Rattle.stream_registry.specs.Refusals.{IsRefused};
     ghost use Rattle.stream_registry.specs.Gates.{told, told_at, numbers};
-    ghost use Rattle.stream_registry.specs.Roots.{gates};
+    ghost use Rattle.stream_registry.specs.Roots.{gates, seen_at};
     ghost use Rattle.stream_registry.specs.SharedState.{shared_rules, limits_at};
     ghost use Rattle.stream_registry.specs.Wants.{IsTake, IsWanted};
 
@@ -178,12 +178,36 @@ impl StreamPort for Shared<Desk> {
         self.names.find(app, name)
     }
 
-    fn attach(&mut self, place: u32) -> Pass<Desk> {
+    /// As the trait says. The calls that memory refused are among those that the pass has seen.
+    fn attach(&mut self, place: u32) -> Pass<Desk>
+        requires { place < length (shared_rules self.old).names }
+        ensures pass { (slice_get (gates self.new.roots) place ≡ Some result.gate)
+            × (result.gate.about.limits ≡ (shared_rules self.old).limits place) }
+        ensures seen { (told result.seen ≡ told_at self.old.roots place) × (numbers result.seen result.mine ≡ []) }
+        ensures fixed { (shared_rules self.new ≡ shared_rules self.old) × (self.new.busies ≡ self.old.busies) }
+        ensures root { (q : ℕ) → told_at self.new.roots q ≡ told_at self.old.roots q }
+        ensures fits { (q : ℕ) (p : PassKnown Site Attempt) → slice_get (gates self.old.roots) q ≡ Some p.gate
+            → slice_get (gates self.new.roots) q ≡ Some p.gate }
+        ensures roots { self.new.roots ≡ self.old.roots }
+        ensures attempts { result.seen ≡ seen_at self.old.roots place }
+    {
         let _ = &self.names;
         self.ways.attach(place as usize)
     }
 
-    fn detach(&mut self, place: u32, pass: Pass<Desk>) {
+    /// As the trait says. The calls that memory refused are among those that the root has then seen.
+    fn detach(&mut self, place: u32, pass: Pass<Desk>)
+        requires { slice_get (gates self.old.roots) place ≡ Some pass.gate }
+        ensures here { told_at self.new.roots place ≡ longer (told_at self.old.roots place) (told pass.seen) }
+        ensures both { Begins (told_at self.old.roots place) (told_at self.new.roots place)
+            × Begins (told pass.seen) (told_at self.new.roots place) }
+        ensures others { (q : ℕ) → q ≢ place → told_at self.new.roots q ≡ told_at self.old.roots q }
+        ensures fixed { (shared_rules self.new ≡ shared_rules self.old) × (self.new.busies ≡ self.old.busies) }
+        ensures fits { (q : ℕ) (p : PassKnown Site Attempt) → slice_get (gates self.old.roots) q ≡ Some p.gate
+            → slice_get (gates self.new.roots) q ≡ Some p.gate }
+        ensures attempts { seen_at self.new.roots place ≡ longer (seen_at self.old.roots place) pass.seen }
+        ensures apart { (q : ℕ) → q ≢ place → seen_at self.new.roots q ≡ seen_at self.old.roots q }
+    {
         self.ways.detach(place as usize, pass);
     }
 
@@ -209,6 +233,7 @@ impl StreamPort for Shared<Desk> {
         ensures fits { (q : ℕ) (p : PassKnown Site Attempt) → slice_get (gates self.old.roots) q ≡ Some p.gate
             → slice_get (gates self.new.roots) q ≡ Some p.gate }
         ensures roots { self.new.roots ≡ self.old.roots }
+        ensures attempts { Begins pass.old.seen pass.new.seen }
         ensures free { IfOk result (λ _. pass.new.met ≡ pass.old.met) }
         ensures refused { IfErr result (λ e. IsRefused pass.old entry e pass.new) }
     {

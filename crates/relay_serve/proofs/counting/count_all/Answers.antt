@@ -1,7 +1,8 @@
-use Rattle.std.proofs.Common.{rules, ◌∙◌, ◌<◌, ℕ, List, length, sym, subst, Option}
+use Rattle.std.proofs.Common.{rules, ◌∙◌, ◌<◌, ℕ, List, length, sym, ap, subst, Option}
 use Rattle.std.specs.Prelude.{Contains}
-use Rattle.stream_registry.specs.Gates.{told_at}
+use Rattle.stream_registry.specs.Gates.{told, told_at}
 use Rattle.stream_registry.specs.Names.{PortRules}
+use Rattle.stream_registry.specs.Roots.{seen_at}
 use Rattle.stream_registry.specs.SharedState.{shared_rules}
 use Rattle.relay_serve.specs.declared.counting.Counts.{Counts}
 use Rattle.relay_serve.specs.Lasts.{AllEnd, EndsIf, IsWorn}
@@ -11,18 +12,19 @@ use Rattle.relay_serve.proofs.counting.count_all.Goals as goal
 pub returns-in_err-counts-clause-grown : goal.returns-in_err-counts-clause-grown
 returns-in_err-counts-clause-grown g c =
     later_then (told_at c.args.port.now.roots) (told_at c.loop-place.port.roots) (told_at c.count_as_found.new.port.roots) c.loop-place.invariant.grown
-    (later_at (told_at c.loop-place.port.roots) (told_at c.count_as_found.new.port.roots) c.loop-place.place c.count_as_found.ensures.grown c.count_as_found.ensures.others)
+    (later_at (told_at c.loop-place.port.roots) (told_at c.count_as_found.new.port.roots) c.loop-place.place c.count_as_found.ensures.grown (λ q n. ap told (c.count_as_found.ensures.others q n)))
 
 pub returns-then-is_err-clause-grown : goal.returns-then-is_err-clause-grown
 returns-then-is_err-clause-grown g c =
     later_then (told_at c.args.port.now.roots) (told_at c.loop-place.port.roots) (told_at c.count_as_found.new.port.roots) c.loop-place.invariant.grown
-    (later_at (told_at c.loop-place.port.roots) (told_at c.count_as_found.new.port.roots) c.loop-place.place c.count_as_found.ensures.grown c.count_as_found.ensures.others)
+    (later_at (told_at c.loop-place.port.roots) (told_at c.count_as_found.new.port.roots) c.loop-place.place c.count_as_found.ensures.grown (λ q n. ap told (c.count_as_found.ensures.others q n)))
 
 pub loop-place-preserved : goal.loop-place-preserved
 loop-place-preserved g c =
     let i = c.loop-place.invariant in
     let xs = c.loop-place.list.items in
-    let ks = told_at c.count_as_found.new.port.roots in
+    let ks = seen_at c.count_as_found.new.port.roots in
+    let told_now = told_at c.count_as_found.new.port.roots in
     let limits = (shared_rules c.args.port.now).limits in
     let pushed = rw c.if-is_err.ensures.negation at c.push.ensures.items in
     let ends : EndsIf (limits (length xs)) c.in_ok-counts.counts (ks (length xs)) =
@@ -32,10 +34,10 @@ loop-place-preserved g c =
       each = search rules;
       rules = c.count_as_found.ensures.rules ∙ i.rules;
       last = subst (λ (l : List (Option Counts)). AllEnd limits l ks) (sym pushed)
-          (all_more limits xs c.in_ok-counts.counts (told_at c.loop-place.port.roots) ks i.last ends (λ q n. c.count_as_found.ensures.others q (λ e. n (e ∙ sym i.each))));
+          (all_more limits xs c.in_ok-counts.counts (seen_at c.loop-place.port.roots) ks i.last ends (λ q n. c.count_as_found.ensures.others q (λ e. n (e ∙ sym i.each))));
       worn = λ q l h. subst (λ (m : List (Option Counts)). IsWorn m q) (sym pushed)
           (worn_more (Contains c.args.full.now) xs c.in_ok-counts.counts i.worn
           (λ t. c.in_ok-counts.ensures.worn (subst (Contains c.args.full.now) i.each t)) q (subst (λ (m : List (Option Counts)). q < length m) pushed l) h);
-      grown = later_then (told_at c.args.port.now.roots) (told_at c.loop-place.port.roots) ks i.grown
-          (later_at (told_at c.loop-place.port.roots) ks c.loop-place.place c.count_as_found.ensures.grown c.count_as_found.ensures.others);
+      grown = later_then (told_at c.args.port.now.roots) (told_at c.loop-place.port.roots) told_now i.grown
+          (later_at (told_at c.loop-place.port.roots) told_now c.loop-place.place c.count_as_found.ensures.grown (λ q n. ap told (c.count_as_found.ensures.others q n)));
     }

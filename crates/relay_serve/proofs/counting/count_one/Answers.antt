@@ -1,15 +1,30 @@
-use Rattle.std.proofs.Common.{◌≡◌, ◌∙◌, ap, subst, slice_get}
-use Rattle.turn_gate.specs.Histories.{longer}
+use Rattle.std.proofs.Common.{rules, ◌≡◌, ◌∙◌, List, sym, ap, subst, slice_get}
+use Rattle.turn_gate.specs.Histories.{Begins, longer}
 use Rattle.stream_model.specs.declared.calls.StreamLimits.{StreamLimits}
 use Rattle.stream_registry.specs.Gates.{told, told_at, numbers}
 use Rattle.stream_registry.specs.Names.{PortRules}
-use Rattle.stream_registry.specs.Roots.{gates}
+use Rattle.stream_registry.specs.Pasts.{Attempt}
+use Rattle.stream_registry.specs.Refusals.{IsFull}
+use Rattle.stream_registry.specs.Roots.{gates, seen_at}
 use Rattle.stream_registry.specs.SharedState.{limits_at, shared_rules}
 use Rattle.stream_registry.specs.Told.{Keeps}
 use Rattle.relay_serve.specs.declared.counting.Counts.{Counts}
 use Rattle.relay_serve.specs.Lasts.{EndsWith}
-use Rattle.relay_serve.proofs.Counted.{counted}
+use Rattle.relay_serve.proofs.Counted.{begins_all, counted, full_there}
 use Rattle.relay_serve.proofs.counting.count_one.Goals as goal
+
+pub returns-in-Err-Worn-clause-last : goal.returns-in-Err-Worn-clause-last
+returns-in-Err-Worn-clause-last g c =
+    let place = c.args.place in
+    let r = c.in-Err-Worn.ensures in
+    let limits : c.loop.pass.gate.about.limits ≡ (shared_rules c.args.port.now).limits place =
+    limits_at (slice_get (gates c.loop.port.roots) place) c.loop.pass.gate c.loop.invariant.fits ∙ ap (λ (q : PortRules). q.limits place) c.loop.invariant.rules in
+    let same : seen_at c.call.new.self.roots place ≡ seen_at c.loop.port.roots place = ap (λ h. seen_at h place) r.roots in
+    let begins = begins_all (seen_at c.loop.port.roots place) c.loop.pass.seen c.call.new.pass.seen c.loop.invariant.attempts r.attempts in
+    full_there ((shared_rules c.args.port.now).limits place) (seen_at c.call.new.self.roots place) c.call.new.pass.seen (seen_at c.detach.new.self.roots place)
+    (subst (λ (h : List Attempt). Begins h c.call.new.pass.seen) (sym same) begins)
+    (subst (λ (l : StreamLimits). IsFull l c.call.new.pass.seen) limits (rw c.in-Err-Worn.field-0-is at r.refused).1)
+    c.detach.ensures.attempts
 
 pub returns-in-Ok-Counts-clause-last : goal.returns-in-Ok-Counts-clause-last
 returns-in-Ok-Counts-clause-last g c =

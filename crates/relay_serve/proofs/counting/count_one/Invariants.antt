@@ -1,7 +1,7 @@
 use Rattle.std.proofs.Common.{◌≡◌, ◌≢◌, ℕ, Some, slice_get}
 use Rattle.turn_gate.specs.Histories.{Begins}
 use Rattle.stream_registry.specs.Gates.{told_at}
-use Rattle.stream_registry.specs.Roots.{gates}
+use Rattle.stream_registry.specs.Roots.{gates, seen_at}
 use Rattle.stream_registry.specs.SharedState.{shared_rules}
 use Rattle.relay_serve.proofs.counting.count_one.Given as goal
 
@@ -12,5 +12,6 @@ invariant-loop g l = record {
   fits : slice_get (gates l.port.roots) l.place ≡ Some l.pass.gate;
   rules : shared_rules l.port ≡ shared_rules l.fn.port;
   grown : Begins (told_at l.fn.port.roots l.place) (told_at l.port.roots l.place);
-  others : (q : ℕ) → q ≢ l.place → told_at l.port.roots q ≡ told_at l.fn.port.roots q;
+  attempts : Begins (seen_at l.port.roots l.place) l.pass.seen;
+  others : (q : ℕ) → q ≢ l.place → seen_at l.port.roots q ≡ seen_at l.fn.port.roots q;
 }

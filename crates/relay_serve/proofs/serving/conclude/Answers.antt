@@ -4,6 +4,7 @@ use Rattle.std.specs.Prelude.{All, Contains}
 use Rattle.relay_outside.specs.Houses.{Asked}
 use Rattle.stream_registry.specs.Names.{PortRules}
 use Rattle.stream_registry.specs.Gates.{told_at}
+use Rattle.stream_registry.specs.Roots.{seen_at}
 use Rattle.stream_registry.specs.SharedState.{shared_rules}
 use Rattle.relay_serve.specs.Ends.{Reports, seen}
 use Rattle.relay_serve.specs.Lasts.{AllEnd, IsWorn}
@@ -30,6 +31,7 @@ returns-in-Ok-put_all g c = λ before_asked all.
     let streams = (shared_rules c.args.port.now).limits in
     let joined = told_at c.take_all_apart.new.first.roots in
     let h = told_at c.end_all-whole.new.port.roots in
+    let attempts = seen_at c.count_all.new.port.roots in
     let k = told_at c.count_all.new.port.roots in
     let before = g.H.House.told c.args.house.now in
     let now = g.H.House.told c.end_all-whole.new.house in
@@ -45,14 +47,14 @@ returns-in-Ok-put_all g c = λ before_asked all.
     (c.end_all-whole.ensures.kept c.if-whole.true) in
     let each : length c.in-Ok-count_all.counts.items ≡ length config.places = search rules in
     let slice : c.as_slice.result.now ≡ c.end_all-whole.new.full.items = search rules in
-    let reports : Reports config k (seen (g.K.Sink.holds c.args.out.now) (g.K.Sink.faults c.args.out.now) before before_asked)
+    let reports : Reports config attempts (seen (g.K.Sink.holds c.args.out.now) (g.K.Sink.faults c.args.out.now) before before_asked)
     (seen (g.K.Sink.holds c.put_all.new.out) (g.K.Sink.faults c.put_all.new.out) now (g.H.House.asked c.end_all-whole.new.house)) = record {
       counts = c.in-Ok-count_all.counts.items;
       each = each;
       written = search rules;
       streams = streams;
       limited = c.requires.limits;
-      last = subst (λ (q : PortRules). AllEnd q.limits c.in-Ok-count_all.counts.items k) (c.end_all-whole.ensures.rules ∙ same) c.in-Ok-count_all.ensures.last;
+      last = subst (λ (q : PortRules). AllEnd q.limits c.in-Ok-count_all.counts.items attempts) (c.end_all-whole.ensures.rules ∙ same) c.in-Ok-count_all.ensures.last;
       asked = subst (λ (o : Option (List Asked)). TellsMore (AsksFor config) (range_with_len 0 config.workers) before_asked o) (sym c.end_all-whole.ensures.asked) all;
       joined = joined;
       later = later_then joined h k c.end_all-whole.ensures.grown c.count_all.ensures.grown;

@@ -1,7 +1,7 @@
 use Rattle.std.proofs.Common.{rules, ℕ, subst, []}
 use Rattle.std.specs.List.{range_with_len}
 use Rattle.relay_outside.specs.Houses.{HouseTold}
-use Rattle.stream_registry.specs.Gates.{told_at}
+use Rattle.stream_registry.specs.Roots.{seen_at}
 use Rattle.relay_serve.specs.Ends.{RunsAs, seen}
 use Rattle.relay_serve.specs.Settling.{AsksFor, TellsMore}
 use Rattle.relay_serve.proofs.Ends.{runs_unopened}
@@ -9,8 +9,8 @@ use Rattle.relay_serve.proofs.serving.run.Goals as goal
 
 pub returns-in-Ok : goal.returns-in-Ok
 returns-in-Ok g c = (
-  told_at c.conclude.new.port.roots,
-  subst (λ (h : HouseTold). RunsAs c.args.config.now (told_at c.conclude.new.port.roots) (seen (g.K.Sink.holds c.args.out.now) (g.K.Sink.faults c.args.out.now) h (g.H.House.asked c.args.house.now))
+  seen_at c.conclude.new.port.roots,
+  subst (λ (h : HouseTold). RunsAs c.args.config.now (seen_at c.conclude.new.port.roots) (seen (g.K.Sink.holds c.args.out.now) (g.K.Sink.faults c.args.out.now) h (g.H.House.asked c.args.house.now))
       (seen (g.K.Sink.holds c.conclude.new.out) (g.K.Sink.faults c.conclude.new.out) (g.H.House.told c.conclude.new.house) (g.H.House.asked c.conclude.new.house)) c.conclude.result) c.in-Ok.ensures.house
       (c.conclude.ensures (g.H.House.asked c.args.house.now)
       (subst (λ (n : ℕ). TellsMore (AsksFor c.args.config.now) (range_with_len 0 n) (g.H.House.asked c.args.house.now) (g.H.House.asked c.make_ready.new.house))

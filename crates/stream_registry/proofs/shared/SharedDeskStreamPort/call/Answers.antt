@@ -1,6 +1,6 @@
 use Rattle.std.proofs.Common.{rules, ◌≡◌, List, Some, Ok, refl, sym, ap, ◌∙◌, subst}
 use Rattle.stream_model.specs.declared.calls.StreamLimits.{StreamLimits}
-use Rattle.turn_gate.specs.Known.{RepliedAfter}
+use Rattle.turn_gate.specs.Known.{IsWorn, RepliedAfter}
 use Rattle.stream_registry.specs.declared.desk.Site.{Site}
 use Rattle.turn_gate.specs.Known.{GateId}
 use Rattle.stream_registry.specs.Pasts.{Attempt, IsLawfulAt}
@@ -8,7 +8,7 @@ use Rattle.stream_registry.specs.Roots.{Root, gates, seen_at}
 use Rattle.stream_registry.specs.SharedState.{Streams}
 use Rattle.stream_registry.specs.Told.{Keeps}
 use Rattle.stream_registry.specs.Gates.{told}
-use Rattle.stream_registry.proofs.Placing.{placed, keeps, room, unmade, refused, refused_memory, same_own, passes, kept}
+use Rattle.stream_registry.proofs.Placing.{placed, keeps, room, unmade, refused, refused_memory, same_own, passes, kept, worn}
 use Rattle.stream_registry.proofs.Wanting.{take_numbers, take_back}
 use Rattle.std.specs.Option.{IsSome}
 use Rattle.stream_registry.proofs.shared.SharedDeskStreamPort.call.Goals as goal
@@ -81,3 +81,8 @@ pub returns-in-Ok-Err-clause-refused : goal.returns-in-Ok-Err-clause-refused
 returns-in-Ok-Err-clause-refused c =
     let a : RepliedAfter (IsLawfulAt c.args.pass.now.gate.about.limits) (seen_at c.args.self.now.roots c.args.place) c.args.pass.now (c.args.entry, c.in-Ok-Err.field-0) c.call.new.pass = search rules in
     refused_memory _ _ c.in-Ok-Err.field-0-0 _ _ _ c.in-Ok-Err.field-0-is a
+
+pub returns-in-Err-Worn-clause-refused : goal.returns-in-Err-Worn-clause-refused
+returns-in-Err-Worn-clause-refused c =
+    let n : IsWorn (IsLawfulAt c.args.pass.now.gate.about.limits) c.args.pass.now c.call.new.pass = search rules in
+    worn c.args.pass.now c.call.new.pass n
