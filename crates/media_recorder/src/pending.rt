@@ -14,13 +14,13 @@ pub(crate) struct Pending {
 }
 
 impl Model for Pending {
-    ghost use Rattle.std.specs.Prelude.{List, ℕ, ◌≤◌, length, drop};
+    ghost use Rattle.std.specs.Prelude.{◌≡◌, List, ℕ, ◌≤◌, length, drop};
 
     ghost Value = { List ℕ };
 
     ghost view = { λ p. drop p.from p.bytes };
 
-    ghost invariant = { λ p. p.from ≤ length p.bytes };
+    ghost invariant = { λ p. (p.from ≤ length p.bytes) × (p.from ≡ length p.bytes → p.from ≡ 0) };
 }
 
 impl Pending {

@@ -4,9 +4,10 @@ use Rattle.av_unit.specs.declared.item.Item.{Item}
 use Rattle.command_dialog.specs.declared.types.Ask.{Ask}
 use Rattle.command_dialog.specs.declared.types.Grant.{Grant}
 use Rattle.relay_outside.specs.MemLinks.{MemLinkState, MemHears, MemSays}
+use Rattle.stream_model.specs.declared.calls.Entry.{Entry}
 use Rattle.stream_registry.specs.Books.{SoleState, SeenState, FitsSole, journal_at, sole_rules}
 use Rattle.relay_session.specs.Places.{Asked}
-use Rattle.relay_session.specs.SeatState.{GoOn, LeavesFrom, place_of}
+use Rattle.relay_session.specs.SeatState.{GoOn, LeaveFails, LeavesFrom, left_at, place_of}
 use Rattle.relay_session.specs.SessionState.{BeginsOwed, SessionState, StandsFor, end_or_quit, lasting_of, life_at}
 use Rattle.relay_session.specs.Turns.{EndedBy}
 use Rattle.relay_session.specs.declared.end.End.{End}
@@ -77,6 +78,9 @@ HasMemory _ = Unit {0}
 pub record IsClosed (port : SoleState) (s : SessionState SeenState) (port' : SoleState) (s' : SessionState SeenState) : Type 0 where
   pub leaving : Leaving
   pub leaves : LeavesFrom (place_of s.seat.spot) s.parts.who s.parts.fed s.parts.kept s.seat.active s.seat.visits leaving s'.parts.kept s'.seat.active s'.seat.visits
+  -- a call is left out only where the history there has as many as it can have
+  pub cause : LeaveFails (FitsSole port') (λ (p : SeenState). length p.seen) (λ (_ : Entry). Unit {0}) (place_of s.seat.spot) s.parts.who s.parts.fed s.parts.kept 0 0 leaving
+  pub left : place_of s'.seat.spot ≡ left_at leaving (place_of s.seat.spot)
   pub away : place_of s'.seat.spot ≡ None
   pub roots : GoOn (journal_at port.books) (journal_at port'.books)
   pub fixed : sole_rules port'.rules ≡ sole_rules port.rules

@@ -1,12 +1,13 @@
 -- What a line does that acts.
 use Rattle.std.specs.Prelude.{◌≡◌, ℕ, true, false, [], ◌∷◌, ◌++◌, length, slice_get, slice_set, Option, None, Some}
+use Rattle.ack_window.specs.Outbound.{new_out}
 use Rattle.command_dialog.specs.declared.types.Ask.{Ask}
 use Rattle.command_dialog.specs.declared.types.Grant.{Grant}
 use Rattle.relay_base.specs.declared.limits.Limits.{Limits as AllLimits}
 use Rattle.relay_outside.specs.MemLinks.{MemLinkState}
 use Rattle.session_owed.specs.Standing.{new_past}
 use Rattle.relay_session.specs.Keeping.{past_of}
-use Rattle.relay_session.specs.Owing.{pending}
+use Rattle.relay_session.specs.Owing.{nothing}
 use Rattle.relay_session.specs.SessionState.{BeginsOwed, StandsFor}
 use Rattle.relay_script.specs.declared.replay.ReplayLine.{ReplayLine}
 use Rattle.relay_script.specs.declared.replay.ReplayLine.TheVariants.{Session, Piece, Eof, Room, FailRecv, FailSend, FailPut, Turn, Rec, All, Quit}
@@ -32,7 +33,9 @@ pub record IsNewSession (limits : AllLimits) (who : ℕ) (c : ConnState) : Type 
   pub who_is : c.session.parts.who ≡ who
   pub window : c.session.parts.window ≡ limits.window
   pub max : c.session.parts.reader.max ≡ limits.max_message
-  pub nothing : (pending c.session.parts.outgoing ≡ []) × (c.session.input ≡ [])
+  pub outbound : c.session.parts.outbound ≡ new_out limits.window
+  pub outgoing : c.session.parts.outgoing ≡ nothing
+  pub input : c.session.input ≡ []
   pub lives : (c.session.quit ≡ false) × (c.session.ended ≡ None)
   pub nowhere : (c.session.parts.place ≡ None) × (c.session.seat.spot ≡ None) × (c.session.seat.visits ≡ [])
   pub stands : (desk : Ask → Grant) → StandsFor desk c.session

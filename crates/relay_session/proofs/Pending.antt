@@ -45,6 +45,8 @@ none_kept first out offset item hand later w v m (Ok u) i none s ve oe x =
     let n = omega_length first (bytes_of w m) in
     rw (ve, oe) (record {
       within = omega (arith, i.within, n);
+      few = i.few;
+      drained = λ e. i.drained (omega (arith, i.within, n, e));
       marked = omega (arith, i.marked, n);
       idle = i.idle;
       sized = next_sized w m i.sized s;
@@ -80,6 +82,8 @@ pub some_kept : (first : List ℕ) (offset item : ℕ) (hand : Option Hand) (h :
     → OnOk r (v ≡ next w m) → OnErr r ((v ≡ w) × (out ≡ later)) → IsOwing first offset item hand out v
 some_kept first offset item hand h later out w v m (Ok u) i some s ve x = rw ve (record {
   within = i.within;
+  few = i.few;
+  drained = i.drained;
   marked = i.marked;
   idle = λ e. absurd (let f : Some h ≡ None = sym some ∙ e in cc);
   sized = next_sized w m i.sized s;

@@ -1,5 +1,5 @@
 -- What a session is to send: bytes that are encoded, a unit in hand, and what stands after it
-use Rattle.std.specs.Prelude.{◌≡◌, ℕ, ◌+◌, ◌-◌, ◌*◌, ◌≤◌, max, true, List, [], ◌∷◌, ◌++◌, length, drop, Option, Some, None}
+use Rattle.std.specs.Prelude.{◌≡◌, ℕ, ◌+◌, ◌-◌, ◌*◌, ◌<◌, ◌≤◌, max, true, List, [], ◌∷◌, ◌++◌, length, drop, Option, Some, None}
 use Rattle.relay_base.specs.Numbers.{be32_of}
 use Rattle.chunk_wire.specs.declared.message.Message.{Message}
 use Rattle.chunk_writer.specs.InHand.{InHand, left_of}
@@ -111,6 +111,9 @@ IsHandSized (Some h) = IsSized h.sending.size
 -- sent at once, and a chunk
 pub record IsOwing (first : List ℕ) (offset item : ℕ) (hand : Option Hand) (later : List ℕ) (writer : WriterKnown) : Type 0 where
   pub within : offset ≤ length first
+  -- of the bytes that were sent fewer are kept than are sent at once, and none where all were
+  pub few : offset < 16384
+  pub drained : offset ≡ length first → offset ≡ 0
   pub marked : item ≤ length first
   pub idle : hand ≡ None → later ≡ []
   pub sized : IsSized writer.size

@@ -169,36 +169,8 @@ impl Outgoing {
         Ok(())
     }
 
-    // Lets go of the bytes that were sent, where they are as many as are sent at once.
-    fn trim(&mut self, alloc: Global) -> Result<(), OutOfMemory>
-        ensures { self.new ≡ self.old }
-    {
-        if self.offset < AT_ONCE {
-            return Ok(());
-        }
-        let mut rest = Bytes::new(alloc);
-        rest.append(&self.first.as_slice()[self.offset..])?;
-        self.item = self.item.saturating_sub(self.offset);
-        self.first = rest;
-        self.offset = 0;
-        Ok(())
-    }
-
     /// Encodes more, so that as many bytes as are sent at once are encoded, or all. What is pending stays the same.
     pub fn fill(&mut self, alloc: Global) -> Result<(), OutOfMemory>
-        ensures bytes { OnOk result (pending self.new ≡ pending self.old) }
-        ensures writer { OnOk result (self.new.writer ≡ self.old.writer) }
-        ensures others { OnOk result (self.new.others ≡ self.old.others) }
-        ensures filled { OnOk result ((16384 ≤ length self.new.ready) ⊎ (self.new.rest ≡ [])) }
-        ensures light { self.new.others ≤ self.old.others }
-        ensures unit { unit_bytes self.new.hand ≤ unit_bytes self.old.hand }
-    {
-        self.trim(alloc)?;
-        self.encode(alloc)
-    }
-
-    // The same, without letting go of anything.
-    fn encode(&mut self, alloc: Global) -> Result<(), OutOfMemory>
         ensures bytes { OnOk result (pending self.new ≡ pending self.old) }
         ensures writer { OnOk result (self.new.writer ≡ self.old.writer) }
         ensures others { OnOk result (self.new.others ≡ self.old.others) }
@@ -266,7 +238,7 @@ impl Outgoing {
         ready + unit + later
     }
 
-    /// The first bytes that are encoded were sent.
+    /// The first bytes that are encoded were sent. Of those that were, fewer are kept than are sent at once, and none where all were.
     pub fn sent(&mut self, alloc: Global, count: usize)
         requires { count ≤ length self.old.ready }
         ensures ready { self.new.ready ≡ drop count self.old.ready }
@@ -275,12 +247,20 @@ impl Outgoing {
         ensures others { self.new.others ≡ min self.old.others (length (pending self.new)) }
         ensures unit { unit_bytes self.new.hand ≤ unit_bytes self.old.hand }
     {
-        if count < self.first.len() - self.offset {
-            self.offset += count;
-        } else {
+        if count >= self.first.len() - self.offset {
             self.first = Bytes::new(alloc);
             self.offset = 0;
             self.item = 0;
+            return;
+        }
+        let offset = self.offset + count;
+        if offset < AT_ONCE {
+            self.offset = offset;
+        } else {
+            let first = std::mem::replace(&mut self.first, Bytes::new(alloc));
+            self.first = first.without_front(offset);
+            self.offset = 0;
+            self.item = self.item.saturating_sub(offset);
         }
     }
 }

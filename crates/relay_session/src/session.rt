@@ -1,11 +1,12 @@
 ghost use Rattle.std.specs.Prelude.{◌≡◌, ◌≤◌, ℕ, [], length, true, false, Some, None};
+ghost use Rattle.ack_window.specs.Outbound.{new_out};
 ghost use Rattle.command_dialog.specs.declared.types.Ask.{Ask};
 ghost use Rattle.command_dialog.specs.declared.types.Grant.{Grant};
 ghost use Rattle.session_owed.specs.Standing.{new_past};
 ghost use Rattle.relay_session.specs.Causes.{Did, MayBe};
 ghost use Rattle.relay_session.specs.Holding.{IsHolding, most_held};
 ghost use Rattle.relay_session.specs.Keeping.{past_of};
-ghost use Rattle.relay_session.specs.Owing.{pending};
+ghost use Rattle.relay_session.specs.Owing.{nothing};
 ghost use Rattle.relay_session.specs.Onward.{GoesOn};
 ghost use Rattle.relay_session.specs.Places.{Asked, IsAt, IsOffered};
 ghost use Rattle.relay_session.specs.SeatState.{GoOn, HasFit, IsElsewhere, LeaveFails, LeavesFrom, StandsAt, left_at, place_of};
@@ -71,7 +72,9 @@ impl<P: StreamPort> Session<P> {
         ensures stands { (desk : Ask → Grant) → StandsFor desk result }
         ensures past { past_of result.parts ≡ new_past }
         ensures fixed { (result.parts.who ≡ who) × (result.parts.window ≡ limits.window) × (result.parts.reader.max ≡ limits.max_message) }
-        ensures nothing { (pending result.parts.outgoing ≡ []) × (result.input ≡ []) }
+        ensures outbound { result.parts.outbound ≡ new_out limits.window }
+        ensures outgoing { result.parts.outgoing ≡ nothing }
+        ensures input { result.input ≡ [] }
         ensures lives { (result.quit ≡ false) × (result.ended ≡ None) }
         ensures at { (result.parts.place ≡ None) × (result.seat.spot ≡ None) × (result.seat.visits ≡ []) }
     {

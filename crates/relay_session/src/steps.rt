@@ -1,5 +1,6 @@
 ghost use Rattle.std.specs.Prelude.{◌≡◌, ◌≤◌, ◌<◌, ◌+◌, ◌-◌, ◌*◌, ◌^◌, [], length, take, drop, true, false, Some, None, IfOk, IfErr, OnOk, OnErr};
 ghost use Rattle.ack_window.specs.Inbound.{ack_of, in_took, room_of};
+ghost use Rattle.ack_window.specs.Outbound.{new_out};
 ghost use Rattle.session_owed.specs.Acks.{ack_messages};
 ghost use Rattle.session_owed.specs.Talk.{hand_bytes, is_take};
 ghost use Rattle.session_owed.specs.Standing.{new_past};
@@ -10,7 +11,7 @@ ghost use Rattle.relay_session.specs.Bounds.{HasRoom, IsLight, weight};
 ghost use Rattle.relay_session.specs.Feeding.{Hears, IsCalled, IsFed, IsOthers, IsSent, IsStopped, heard_of, read_end};
 ghost use Rattle.relay_session.specs.Holding.{HandFits, unit_bytes};
 ghost use Rattle.relay_session.specs.Keeping.{IsOver, IsSound, StandsBefore, past_of, waiting};
-ghost use Rattle.relay_session.specs.Owing.{Says, pending};
+ghost use Rattle.relay_session.specs.Owing.{Says, nothing, pending};
 
 use crate::answers::{Asked, answer, hear, take_in};
 use crate::{Core, Desk, End, Outgoing};
@@ -42,7 +43,8 @@ pub fn new_core(alloc: Global, who: u64, window: u32, max_message: u32) -> Core
     ensures stands { (desk : Ask → Grant) → StandsBefore desk result }
     ensures past { past_of result ≡ new_past }
     ensures fixed { (result.who ≡ who) × (result.window ≡ window) × (result.reader.max ≡ max_message) }
-    ensures nothing { pending result.outgoing ≡ [] }
+    ensures outbound { result.outbound ≡ new_out window }
+    ensures outgoing { result.outgoing ≡ nothing }
     ensures light { IsLight result.outgoing.others result.kept }
     ensures fits { HandFits result }
     ensures place { result.place ≡ None }

@@ -1,5 +1,5 @@
 use Rattle.relay_session.proofs.Pending.{fill_same}
-use Rattle.relay_session.proofs.outgoing.Outgoing.encode.Goals as goal
+use Rattle.relay_session.proofs.outgoing.Outgoing.fill.Goals as goal
 
 pub returns-else-len-self-lt-AT_ONCE-clause-bytes : goal.returns-else-len-self-lt-AT_ONCE-clause-bytes
 returns-else-len-self-lt-AT_ONCE-clause-bytes c =
