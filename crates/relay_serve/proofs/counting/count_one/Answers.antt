@@ -21,10 +21,10 @@ returns-in-Err-Worn-clause-last g c =
     limits_at (slice_get (gates c.loop.port.roots) place) c.loop.pass.gate c.loop.invariant.fits ∙ ap (λ (q : PortRules). q.limits place) c.loop.invariant.rules in
     let same : seen_at c.call.new.self.roots place ≡ seen_at c.loop.port.roots place = ap (λ h. seen_at h place) r.roots in
     let begins = begins_all (seen_at c.loop.port.roots place) c.loop.pass.seen c.call.new.pass.seen c.loop.invariant.attempts r.attempts in
-    full_there ((shared_rules c.args.port.now).limits place) (seen_at c.call.new.self.roots place) c.call.new.pass.seen (seen_at c.detach.new.self.roots place)
+    full_there ((shared_rules c.args.port.now).limits place) (seen_at c.call.new.self.roots place) c.call.new.pass.seen (seen_at c.detach-in-Err-Worn.new.self.roots place)
     (subst (λ (h : List Attempt). Begins h c.call.new.pass.seen) (sym same) begins)
     (subst (λ (l : StreamLimits). IsFull l c.call.new.pass.seen) limits (rw c.in-Err-Worn.field-0-is at r.refused).1)
-    c.detach.ensures.attempts
+    c.detach-in-Err-Worn.ensures.attempts
 
 pub returns-in-Ok-Counts-clause-last : goal.returns-in-Ok-Counts-clause-last
 returns-in-Ok-Counts-clause-last g c =
