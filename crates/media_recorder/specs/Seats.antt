@@ -9,7 +9,7 @@ use Rattle.stream_model.specs.declared.replies.Reply.{Reply}
 use Rattle.turn_gate.specs.Histories.{Begins}
 use Rattle.stream_registry.specs.declared.port.PortFail.{PortFail}
 use Rattle.stream_registry.specs.Told.{Step}
-use Rattle.stream_registry.specs.Placed.{Placed, Failed}
+use Rattle.stream_registry.specs.Placed.{Placed, Failed, TriedOnce}
 use Rattle.media_recorder.specs.Calls.{Stand}
 use Rattle.media_recorder.specs.Ports.{seen_of, mine_of}
 
@@ -43,6 +43,7 @@ pub record Asked {Q : Type 0} (seen : Q → List Step) (mine : Q → List ℕ) (
   pub later : Begins (seen_of seen root before) (seen after)
   pub made : IfOk answer (λ r. Placed limits root (seen_of seen root before) (mine_of mine before) (entry, r) (seen after) (mine after))
   pub failed : IfErr answer (λ e. Failed entry busies busies' (count after) e)
+  pub once : TriedOnce busies busies' answer
   pub unmade : IfErr answer (λ _. mine after ≡ mine_of mine before)
 
 module _ {Q : Type 0} (seen : Q → List Step) (mine : Q → List ℕ) (count : Q → ℕ) where

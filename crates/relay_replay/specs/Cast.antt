@@ -77,9 +77,11 @@ HasMemory _ = Unit {0}
 -- it was closed: its last calls were made, and it has left
 pub record IsClosed (port : SoleState) (s : SessionState SeenState) (port' : SoleState) (s' : SessionState SeenState) : Type 0 where
   pub leaving : Leaving
-  pub leaves : LeavesFrom (place_of s.seat.spot) s.parts.who s.parts.fed s.parts.kept s.seat.active s.seat.visits leaving s'.parts.kept s'.seat.active s'.seat.visits
+  pub leaves : LeavesFrom (place_of s.seat.spot) s.parts.who s.parts.fed s.parts.kept s.seat.active s.seat.visits
+      leaving s'.parts.kept s'.seat.active s'.seat.visits
   -- a call is left out only where the history there has as many as it can have
-  pub cause : LeaveFails (FitsSole port') (λ (p : SeenState). length p.seen) (λ (_ : Entry). Unit {0}) (place_of s.seat.spot) s.parts.who s.parts.fed s.parts.kept 0 0 leaving
+  pub cause : LeaveFails (FitsSole port') (λ (p : SeenState). length p.seen) (λ (_ : Entry). Unit {0})
+      (place_of s.seat.spot) s.parts.who s.parts.fed s.parts.kept 0 0 leaving
   pub left : place_of s'.seat.spot ≡ left_at leaving (place_of s.seat.spot)
   pub away : place_of s'.seat.spot ≡ None
   pub roots : GoOn (journal_at port.books) (journal_at port'.books)
@@ -112,7 +114,8 @@ SessionTurn (Some e) desk port c port' d = (d ≡ c) × (port' ≡ port)
 SessionTurn None desk port c port' d = Turned desk port c port' d
 
 -- what a turn was answered; one that has ended is asked nothing
-abbrev pub answer_in : (e : Option End) (desk : Ask → Grant) (port : SoleState) (c : ConnState) (port' : SoleState) (d : ConnState) → SessionTurn e desk port c port' d → Option Turn
+abbrev pub answer_in : (e : Option End) (desk : Ask → Grant) (port : SoleState) (c : ConnState) (port' : SoleState) (d : ConnState)
+    → SessionTurn e desk port c port' d → Option Turn
 answer_in None desk port c port' d t = Some t.answer
 answer_in (Some e) desk port c port' d t = None
 

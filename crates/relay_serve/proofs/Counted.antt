@@ -2,21 +2,18 @@
 use Rattle.std.proofs.Common.{◌≡◌, ◌≢◌, ◌⊎◌, ◌<◌, ℕ, zero, suc, Bool, true, false, List, [], ◌∷◌, ◌++◌, length, length-append, append_assoc, Option, None, Some, slice_get, inl, inr, refl, sym, ap, subst, ◌∙◌, arith}
 use Rattle.std.proofs.lemmas.List.{append-nil}
 use Rattle.std.proofs.lemmas.Option.{slice_get_within}
-use Rattle.std.proofs.lemmas.Bool.Decides.{nat_tests}
-use Rattle.std.specs.Prelude.{nat_lt, if◌then◌else◌}
 use Rattle.turn_gate.specs.Histories.{Begins, longer}
 use Rattle.stream_model.specs.declared.calls.StreamLimits.{StreamLimits}
+use Rattle.stream_registry.specs.declared.desk.Site.{Site}
+use Rattle.stream_registry.specs.Gates.{told, told_at}
 use Rattle.stream_registry.specs.Pasts.{Attempt}
 use Rattle.stream_registry.specs.Placed.{Placed}
 use Rattle.stream_registry.specs.Refusals.{IsFull}
 use Rattle.stream_registry.specs.Told.{Step, Histories, Keeps}
-use Rattle.stream_registry.specs.Roots.{Later}
+use Rattle.stream_registry.specs.Roots.{Later, Root, seen_at}
+use Rattle.stream_registry.proofs.Tells.{longer_of, longer_second}
 use Rattle.relay_serve.specs.declared.counting.Counts.{Counts}
 use Rattle.relay_serve.specs.Lasts.{AllEnd, EndsIf, EndsWith, IsWorn, counting, told_by}
-
-choose : (b : Bool) (xs ys : List Step) → b ≡ true → (if b then ys else xs) ≡ ys
-choose true xs ys e = refl
-choose false xs ys e = absurd (let f : false ≡ true = e in cc)
 
 -- what a pass has seen last is the longer, where the root knows nothing more
 pub counted : (limits : StreamLimits) (root seen : List Step) (mine : List ℕ) (c : Counts) (seen' : List Step) (mine' : List ℕ) (root' : List Step)
@@ -24,22 +21,13 @@ pub counted : (limits : StreamLimits) (root seen : List Step) (mine : List ℕ) 
 counted limits root seen mine c seen' mine' root' p k e =
     let r = p.root_first in
     let less : length root < length seen' = omega (arith, ap length p.seen_is, length-append p.before ((counting, told_by c) ∷ []), ap length r.1, length-append root r.0) in
-    let same : root' ≡ seen' = e ∙ choose (nat_lt (length root) (length seen')) root seen' (grind (arith, nat_tests, less)) in
+    let same : root' ≡ seen' = e ∙ longer_second root seen' less in
     record { before = p.before; last = same ∙ p.seen_is; keeps = subst (Keeps limits) (sym same) k }
 
-longer_by : (b : Bool) (xs ys rest : List Attempt) → nat_lt (length xs) (length ys) ≡ b → xs ++ rest ≡ ys → (if b then ys else xs) ≡ ys
-longer_by true xs ys rest l e = refl
-longer_by false xs ys [] l e = sym (append-nil xs) ∙ e
-longer_by false xs ys (a ∷ rest) l e =
-    let less : length xs < length ys = omega (arith, ap length e, length-append xs (a ∷ rest)) in
-    absurd (let t : nat_lt (length xs) (length ys) ≡ true = grind (arith, nat_tests, less) in let f : false ≡ true = sym l ∙ t in cc)
-
--- what a pass has seen is what the root then has, where it begins with all that the root had
-longer_than : (xs ys : List Attempt) → Begins xs ys → longer xs ys ≡ ys
-longer_than xs ys b = longer_by (nat_lt (length xs) (length ys)) xs ys b.0 refl b.1
-
-pub full_there : (limits : StreamLimits) (root seen root' : List Attempt) → Begins root seen → IsFull limits seen → root' ≡ longer root seen → IsFull limits root'
-full_there limits root seen root' b f e = subst (IsFull limits) (sym (e ∙ longer_than root seen b)) f
+-- a pass that has seen a full history leaves it with the root that it began with
+pub full_there : (limits : StreamLimits) (root seen root' : List Attempt) → Begins root seen → IsFull limits seen → root' ≡ longer root seen
+    → IsFull limits root'
+full_there limits root seen root' b f e = subst (IsFull limits) (sym (e ∙ longer_of root seen b)) f
 
 pub begins_same : {E : Type 0} (xs : List E) → Begins xs xs
 begins_same xs = ([], append-nil xs)
@@ -67,6 +55,13 @@ later_at hs ks place b o = record { at = λ q. later_by hs ks place q b o (same_
 
 pub later_then : (hs ks ls : Histories) → Later hs ks → Later ks ls → Later hs ls
 later_then hs ks ls a b = record { at = λ q. begins_all (hs q) (ks q) (ls q) (a.at q) (b.at q) }
+
+-- what roots tell that saw more at one place alone
+pub told_then : (first roots roots' : List (Root Site Attempt)) (place : ℕ) → Later (told_at first) (told_at roots)
+    → Begins (told_at roots place) (told_at roots' place) → ((q : ℕ) → q ≢ place → seen_at roots' q ≡ seen_at roots q)
+    → Later (told_at first) (told_at roots')
+told_then first roots roots' place l b o = later_then (told_at first) (told_at roots) (told_at roots') l
+    (later_at (told_at roots) (told_at roots') place b (λ q n. ap told (o q n)))
 
 shift : {X : Type 0} (xs : List X) (z x y : X) (n : ℕ) → (slice_get xs n ≡ Some y) ⊎ ((n ≡ length xs) × (x ≡ y))
     → (slice_get (z ∷ xs) (suc n) ≡ Some y) ⊎ ((suc n ≡ length (z ∷ xs)) × (x ≡ y))

@@ -6,7 +6,7 @@ use Rattle.command_dialog.specs.declared.types.Grant.TheVariants as grant
 use Rattle.stream_model.specs.declared.calls.Entry.{Entry}
 use Rattle.stream_registry.specs.Names.{PortRules}
 use Rattle.stream_registry.specs.Told.{Step, Histories}
-use Rattle.relay_session.specs.SeatState.{SeatState, Calls, Fails, GoOn, HasFit, IsElsewhere, IsNoted, Makes, StandsAt, active_at, active_then, known, place_of, stays}
+use Rattle.relay_session.specs.SeatState.{SeatState, Calls, Fails, GoOn, HasFit, IsElsewhere, IsNoted, Makes, StandsAt, Tries, active_at, active_then, known, place_of, stays}
 use Rattle.relay_session.specs.SeatVisits.{calls_of}
 use Rattle.relay_session.specs.declared.core_fields.Core.{Core}
 use Rattle.relay_session.specs.declared.seat_answers.Made.{Made}
@@ -42,6 +42,7 @@ pub record Asked {P Q : Type 0} (fits : P → ℕ → Q → Type 0) (rules : P �
   pub calls : Calls e r (calls_of seat.visits) (calls_of seat'.visits)
   pub noted : IsNoted ((rules port).limits place) (root port place) (known root seen port seat place) e r (known root seen port' seat' place)
   pub fails : Fails count (wants e) (busies port) (busies port') r seat'.spot
+  pub tries : Tries (busies port) (busies port') r
   pub knows : GoOn (known root seen port seat) (known root seen port' seat')
   pub stands : StandsAt rules root seen port seat → StandsAt rules root seen port' seat'
   pub roots : GoOn (root port) (root port')

@@ -9,7 +9,7 @@ use Rattle.stream_model.specs.declared.replies.Reply.TheVariants as reply
 use Rattle.stream_model.specs.Answer as answer
 use Rattle.turn_gate.specs.Histories.{Begins}
 use Rattle.stream_registry.specs.Names.{PortRules}
-use Rattle.stream_registry.specs.Told.{Step, Histories, Keeps, Rose}
+use Rattle.stream_registry.specs.Told.{Step, Histories, Keeps, Rose, risen}
 use Rattle.relay_session.specs.SeatVisits.{Visit, calls_at, AllStand}
 use Rattle.relay_session.specs.declared.seat_answers.Active.{Active}
 use Rattle.relay_session.specs.declared.seat_answers.Active.TheVariants as active
@@ -189,6 +189,13 @@ Fails count wants busies busies' (made.Busy e) spot' = Rose busies busies'
 Fails count wants busies busies' (made.Worn e) spot' = HasCount count spot' (2 ^ 62)
 Fails count wants busies busies' (made.OutOfMemory e) spot' = wants
 
+-- the stream was tried once: the port's count of busy calls is one more by such an answer, and by any other it stays
+abbrev pub Tries : ℕ → ℕ → Made → Type 0
+Tries busies busies' (made.Answer r) = busies' ≡ busies
+Tries busies busies' (made.Busy e) = busies' ≡ risen busies
+Tries busies busies' (made.Worn e) = busies' ≡ busies
+Tries busies busies' (made.OutOfMemory e) = busies' ≡ busies
+
 -- its pass has made this call, and no other: one number has come, or none
 abbrev pub Once : Made → List ℕ → List ℕ → Type 0
 Once (made.Answer r) numbers numbers' = (n : ℕ) × (numbers' ≡ numbers ++ n ∷ [])
@@ -300,3 +307,10 @@ LeaveFails fits count wants place who fed kept busies busies' leaving.Done = Uni
 LeaveFails fits count wants place who fed kept busies busies' leaving.Worn = IsWornAt fits count place
 LeaveFails fits count wants place who fed kept busies busies' leaving.Busy = Rose busies busies'
 LeaveFails fits count wants place who fed kept busies busies' leaving.OutOfMemory = KeptWants wants kept ⊎ LastWants wants who fed
+
+-- nothing was tried after a busy answer: the count is one more by such an answer, and by any other it stays
+abbrev pub LeaveTries : ℕ → ℕ → Leaving → Type 0
+LeaveTries busies busies' leaving.Done = busies' ≡ busies
+LeaveTries busies busies' leaving.Worn = busies' ≡ busies
+LeaveTries busies busies' leaving.Busy = busies' ≡ risen busies
+LeaveTries busies busies' leaving.OutOfMemory = busies' ≡ busies

@@ -2,7 +2,7 @@ ghost use Rattle.std.specs.Prelude.{◌≡◌, ◌≢◌, ◌<◌, ◌≤◌, �
 ghost use Rattle.relay_session.specs.declared.seat_answers.Active.TheVariants.{Nothing};
 ghost use Rattle.relay_session.specs.SeatVisits.{calls_of};
 ghost use Rattle.relay_session.specs.SeatState.{CanCome, GoOn, HasFit, IsElsewhere, SeatState, StandsAt, active_at, known, left_at, place_of, stays};
-ghost use Rattle.relay_session.specs.SeatState.{Calls, Fails, FinishFails, Finishes, IsNoted, LeaveFails, LeavesFrom, Makes, Once, OnceIf, numbers_at};
+ghost use Rattle.relay_session.specs.SeatState.{Calls, Fails, FinishFails, Finishes, IsNoted, LeaveFails, LeaveTries, LeavesFrom, Makes, Once, OnceIf, Tries, numbers_at};
 ghost use Rattle.relay_session.specs.SeatState.{active_after, active_then, is_over, last_of};
 
 use crate::{Active, Leaving, Made};
@@ -169,6 +169,7 @@ impl<P: StreamPort> Seat<P> {
         ensures noted { IsNoted ((P.rules port.old).limits place) (P.root port.old place) (known P.root P.seen port.old self.old place)
             entry result (known P.root P.seen port.new self.new place) }
         ensures fails { Fails P.count (P.wants entry) (P.busies port.old) (P.busies port.new) result self.new.spot }
+        ensures tries { Tries (P.busies port.old) (P.busies port.new) result }
         ensures knows { GoOn (known P.root P.seen port.old self.old) (known P.root P.seen port.new self.new) }
         ensures stands { StandsAt P.rules P.root P.seen port.old self.old → StandsAt P.rules P.root P.seen port.new self.new }
         ensures roots { GoOn (P.root port.old) (P.root port.new) }
@@ -208,6 +209,7 @@ impl<P: StreamPort> Seat<P> {
         ensures noted { IsNoted ((P.rules port.old).limits place) (P.root port.old place) (known P.root P.seen port.old self.old place)
             entry result (known P.root P.seen port.new self.new place) }
         ensures fails { Fails P.count (P.wants entry) (P.busies port.old) (P.busies port.new) result self.new.spot }
+        ensures tries { Tries (P.busies port.old) (P.busies port.new) result }
         ensures knows { GoOn (known P.root P.seen port.old self.old) (known P.root P.seen port.new self.new) }
         ensures stands { StandsAt P.rules P.root P.seen port.old self.old → StandsAt P.rules P.root P.seen port.new self.new }
         ensures roots { GoOn (P.root port.old) (P.root port.new) }
@@ -244,6 +246,7 @@ impl<P: StreamPort> Seat<P> {
         ensures noted { IsNoted ((P.rules port.old).limits place) (P.root port.old place) (known P.root P.seen port.old self.old place)
             entry result (known P.root P.seen port.new self.new place) }
         ensures fails { Fails P.count (P.wants entry) (P.busies port.old) (P.busies port.new) result self.new.spot }
+        ensures tries { Tries (P.busies port.old) (P.busies port.new) result }
         ensures knows { GoOn (known P.root P.seen port.old self.old) (known P.root P.seen port.new self.new) }
         ensures stands { StandsAt P.rules P.root P.seen port.old self.old → StandsAt P.rules P.root P.seen port.new self.new }
         ensures roots { GoOn (P.root port.old) (P.root port.new) }
@@ -264,6 +267,7 @@ impl<P: StreamPort> Seat<P> {
         ensures spot { place_of self.new.spot ≡ left_at result (place_of self.old.spot) }
         ensures leaves { Finishes place who fed (last_of self.old.active) self.old.active self.old.visits result self.new.active self.new.visits }
         ensures fails { FinishFails (P.fits port.new) P.count P.wants place who fed (P.busies port.old) (P.busies port.new) result }
+        ensures tries { LeaveTries (P.busies port.old) (P.busies port.new) result }
         ensures knows { GoOn (known P.root P.seen port.old self.old) (known P.root P.seen port.new self.new) }
         ensures stands { StandsAt P.rules P.root P.seen port.old self.old → StandsAt P.rules P.root P.seen port.new self.new }
         ensures roots { GoOn (P.root port.old) (P.root port.new) }
@@ -299,6 +303,7 @@ impl<P: StreamPort> Seat<P> {
         ensures spot { place_of self.new.spot ≡ left_at result (place_of self.old.spot) }
         ensures leaves { LeavesFrom (place_of self.old.spot) who fed kept.old self.old.active self.old.visits result kept.new self.new.active self.new.visits }
         ensures fails { LeaveFails (P.fits port.new) P.count P.wants (place_of self.old.spot) who fed kept.old (P.busies port.old) (P.busies port.new) result }
+        ensures tries { LeaveTries (P.busies port.old) (P.busies port.new) result }
         ensures knows { GoOn (known P.root P.seen port.old self.old) (known P.root P.seen port.new self.new) }
         ensures stands { StandsAt P.rules P.root P.seen port.old self.old → StandsAt P.rules P.root P.seen port.new self.new }
         ensures roots { GoOn (P.root port.old) (P.root port.new) }

@@ -9,7 +9,7 @@ ghost use Rattle.relay_session.specs.Keeping.{past_of};
 ghost use Rattle.relay_session.specs.Owing.{nothing};
 ghost use Rattle.relay_session.specs.Onward.{GoesOn};
 ghost use Rattle.relay_session.specs.Places.{Asked, IsAt, IsOffered};
-ghost use Rattle.relay_session.specs.SeatState.{GoOn, HasFit, IsElsewhere, LeaveFails, LeavesFrom, StandsAt, left_at, place_of};
+ghost use Rattle.relay_session.specs.SeatState.{GoOn, HasFit, IsElsewhere, LeaveFails, LeaveTries, LeavesFrom, StandsAt, left_at, place_of};
 ghost use Rattle.relay_session.specs.SessionState.{BeginsOwed, IsUnsent, Publishes, StandsFor, end_or_quit, ended_by, lasting_of, life_at, pending_by};
 ghost use Rattle.relay_session.specs.Turns.{EndedBy};
 
@@ -139,6 +139,7 @@ impl<P: StreamPort> Session<P> {
             self.old.seat.active self.old.seat.visits result self.new.parts.kept self.new.seat.active self.new.seat.visits }
         ensures fails { LeaveFails (P.fits port.new) P.count P.wants (place_of self.old.seat.spot) self.old.parts.who self.old.parts.fed
             self.old.parts.kept (P.busies port.old) (P.busies port.new) result }
+        ensures tries { LeaveTries (P.busies port.old) (P.busies port.new) result }
         ensures stands { StandsAt P.rules P.root P.seen port.old self.old.seat → StandsAt P.rules P.root P.seen port.new self.new.seat }
         ensures roots { GoOn (P.root port.old) (P.root port.new) }
         ensures fixed { P.rules port.new ≡ P.rules port.old }

@@ -2,6 +2,7 @@
 use Rattle.std.specs.Prelude.{◌≡◌, ◌≤◌, ℕ, Bool, true, false, [], List, Some, None}
 use Rattle.relay_outside.specs.Heard.{Came}
 use Rattle.relay_outside.specs.declared.link.Said.{Said}
+use Rattle.ack_window.specs.Outbound.{new_out}
 use Rattle.command_dialog.specs.declared.types.Ask.{Ask}
 use Rattle.command_dialog.specs.declared.types.Grant.{Grant}
 use Rattle.stream_model.specs.declared.calls.Entry.{Entry}
@@ -9,7 +10,8 @@ use Rattle.stream_registry.specs.Names.{PortRules}
 use Rattle.stream_registry.specs.Told.{Step, Histories}
 use Rattle.session_owed.specs.Standing.{new_past}
 use Rattle.relay_session.specs.Keeping.{past_of}
-use Rattle.relay_session.specs.SeatState.{GoOn, HasFit, LeaveFails, LeavesFrom, SeatState, StandsAt, left_at, place_of}
+use Rattle.relay_session.specs.Owing.{nothing}
+use Rattle.relay_session.specs.SeatState.{GoOn, HasFit, LeaveFails, LeaveTries, LeavesFrom, SeatState, StandsAt, left_at, place_of}
 use Rattle.relay_session.specs.SeatVisits.{calls_of}
 use Rattle.relay_session.specs.SessionState.{SessionState, StandsFor, end_or_quit, ended_by, life_at}
 use Rattle.relay_session.specs.Turns.{EndedBy}
@@ -54,6 +56,8 @@ pub record IsNewSession {Q : Type 0} (t : Terms) (had : ℕ) (s : SessionState Q
   pub window : s.parts.window ≡ t.limits.window
   pub max : s.parts.reader.max ≡ t.limits.max_message
   pub past : past_of s.parts ≡ new_past
+  pub outbound : s.parts.outbound ≡ new_out t.limits.window
+  pub outgoing : s.parts.outgoing ≡ nothing
   pub input : s.input ≡ []
   pub quit : s.quit ≡ false
   pub lives : s.ended ≡ None
@@ -82,6 +86,7 @@ pub record Closes {P Q : Type 0} (fits : P → ℕ → Q → Type 0) (rules : P 
   pub leaves : LeavesFrom (place_of s.seat.spot) s.parts.who s.parts.fed s.parts.kept s.seat.active s.seat.visits
       answer s'.parts.kept s'.seat.active s'.seat.visits
   pub fails : LeaveFails (fits port') count wants (place_of s.seat.spot) s.parts.who s.parts.fed s.parts.kept (busies port) (busies port') answer
+  pub tries : LeaveTries (busies port) (busies port') answer
   pub stands : StandsAt rules root seen port s.seat → StandsAt rules root seen port' s'.seat
   pub roots : GoOn (root port) (root port')
   pub fixed : rules port' ≡ rules port

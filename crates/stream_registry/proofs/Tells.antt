@@ -104,7 +104,7 @@ numbers_placed seen before e ns b l =
 begins_length : {E : Type 0} (xs ys : List E) → Begins xs ys → length xs ≤ length ys
 begins_length xs ys b = omega (arith, ap length b.1, length-append xs b.0)
 
-longer_second : {E : Type 0} (xs ys : List E) → length xs < length ys → longer xs ys ≡ ys
+pub longer_second : {E : Type 0} (xs ys : List E) → length xs < length ys → longer xs ys ≡ ys
 longer_second xs ys l = let t : nat_lt (length xs) (length ys) ≡ true = grind (arith, nat_tests) in rw t refl
 
 longer_first : {E : Type 0} (xs ys : List E) → length ys ≤ length xs → longer xs ys ≡ xs
@@ -117,11 +117,15 @@ begins_all xs (x ∷ rest) l = absurd (omega (arith, l))
 begins_equal : {E : Type 0} (xs ys : List E) → Begins xs ys → length ys ≤ length xs → xs ≡ ys
 begins_equal xs ys b l = sym (begins_all xs b.0 (omega (arith, ap length b.1, length-append xs b.0))) ∙ b.1
 
-told_short : (a b : List Attempt) → Begins a b → told b ≡ longer (told a) (told b)
-told_short a b t = elim (cases_lt (length (told a)) (length (told b))) [
-  | inl l ↦ sym (longer_second (told a) (told b) l)
-  | inr l ↦ sym (begins_equal (told a) (told b) (begins_told a b t) l) ∙ sym (longer_first (told a) (told b) l)
+-- of two of which one begins the other, the longer is the other
+pub longer_of : {E : Type 0} (xs ys : List E) → Begins xs ys → longer xs ys ≡ ys
+longer_of xs ys b = elim (cases_lt (length xs) (length ys)) [
+  | inl l ↦ longer_second xs ys l
+  | inr l ↦ longer_first xs ys l ∙ begins_equal xs ys b l
 ]
+
+told_short : (a b : List Attempt) → Begins a b → told b ≡ longer (told a) (told b)
+told_short a b t = sym (longer_of (told a) (told b) (begins_told a b t))
 
 pub told_longer : (a b : List Attempt) → Begins a (longer a b) → Begins b (longer a b) → told (longer a b) ≡ longer (told a) (told b)
 told_longer a b x y = elim (cases_lt (length a) (length b)) [

@@ -19,6 +19,10 @@ pub record Keeps (limits : StreamLimits) (seen : List Step) : Type 0 where
   pub rules : IsLawful limits (reverse seen)
   pub viewers : (player : ℕ) → Legal limits (reverse seen) player
 
+-- one more than a count, or its type's end
+abbrev pub risen : ℕ → ℕ
+risen before = min (before + 1) (2 ^ 64 - 1)
+
 -- a count has risen, or stands at its type's end
 abbrev pub Rose : ℕ → ℕ → Type 0
-Rose before now = min (before + 1) (2 ^ 64 - 1) ≤ now
+Rose before now = risen before ≤ now

@@ -4,7 +4,7 @@ ghost use Rattle.stream_model.specs.Answer.{reply};
 ghost use Rattle.stream_model.specs.Held.{held};
 ghost use Rattle.stream_model.specs.History.{items_of};
 ghost use Rattle.stream_registry.specs.Told.{Keeps};
-ghost use Rattle.stream_registry.specs.Placed.{Failed};
+ghost use Rattle.stream_registry.specs.Placed.{Failed, TriedOnce};
 
 use crate::again::entry_again;
 use crate::port::PortFail;
@@ -71,6 +71,7 @@ impl Book {
         ensures reply { IfOk result (λ r. r ≡ reply self.old.limits (reverse self.old.journal) entry) }
         ensures noted { IfOk result (λ r. self.new ≡ record { limits = self.old.limits; journal = self.old.journal ++ (entry, r) ∷ [] }) }
         ensures fails { IfErr result (λ e. Failed entry 0 0 (length self.old.journal) e) }
+        ensures once { TriedOnce 0 0 result }
         ensures same { IfErr result (λ _. self.new ≡ self.old) }
     {
         if self.journal.len() == FULL {

@@ -4,7 +4,7 @@ ghost use Rattle.stream_model.specs.declared.calls.StreamLimits.{StreamLimits};
 ghost use Rattle.turn_gate.specs.Histories.{Begins, longer};
 ghost use Rattle.stream_registry.specs.Names.{PortRules, IsPlaceOf};
 ghost use Rattle.stream_registry.specs.Told.{Step, Histories, Keeps};
-ghost use Rattle.stream_registry.specs.Placed.{Placed, Failed};
+ghost use Rattle.stream_registry.specs.Placed.{Placed, Failed, TriedOnce};
 ghost use Rattle.stream_registry.specs.Wants.{IsWanted};
 ghost use Rattle.stream_model.specs.declared.calls.Entry.{Entry};
 
@@ -74,7 +74,7 @@ pub trait StreamPort: Drop {
         ensures fixed { (rules self.new ≡ rules self.old) × (busies self.new ≡ busies self.old) }
         ensures fits { (q : ℕ) (p : Self.Pass) → fits self.old q p → fits self.new q p };
 
-    /// One call, answered after all that came before it. It never waits.
+    /// One call, answered after all that came before it. It tries the stream once, and never waits.
     fn call(&mut self, place: u32, pass: &mut Self::Pass, entry: Entry) -> Result<Reply, PortFail>
         requires { fits self.old place pass.old }
         ensures pass { fits self.new place pass.new × (limits pass.new ≡ limits pass.old) × Begins (seen pass.old) (seen pass.new) }
@@ -85,6 +85,7 @@ pub trait StreamPort: Drop {
         ensures fails { IfErr result (λ e. Failed entry (busies self.old) (busies self.new) (count pass.new) e) }
         ensures memory { IfErr result (IsWanted (wants entry)) }
         ensures unmade { IfErr result (λ _. (mine pass.new ≡ mine pass.old) × ((q : ℕ) → root self.new q ≡ root self.old q)) }
+        ensures once { TriedOnce (busies self.old) (busies self.new) result }
         ensures busies { busies self.old ≤ busies self.new }
         ensures here { Begins (root self.old place) (root self.new place) }
         ensures others { (q : ℕ) → q ≢ place → root self.new q ≡ root self.old q }

@@ -149,7 +149,7 @@ impl StreamPort for Shared<Desk> {
     ghost use Rattle.stream_registry.specs.declared.desk.Site.{Site};
     ghost use Rattle.stream_registry.specs.Pasts.{Attempt};
     ghost use Rattle.stream_registry.specs.Told.{Keeps};
-    ghost use Rattle.stream_registry.specs.Placed.{Placed, Failed};
+    ghost use Rattle.stream_registry.specs.Placed.{Placed, Failed, TriedOnce};
     ghost use Rattle.stream_registry.specs.Refusals.{IsRefused};
     ghost use Rattle.stream_registry.specs.Gates.{told, told_at, numbers};
     ghost use Rattle.stream_registry.specs.Roots.{gates, seen_at};
@@ -226,6 +226,7 @@ impl StreamPort for Shared<Desk> {
         ensures memory { IfErr result (IsWanted (IsTake entry.call)) }
         ensures unmade { IfErr result (λ _. (numbers pass.new.seen pass.new.mine ≡ numbers pass.old.seen pass.old.mine)
             × ((q : ℕ) → told_at self.new.roots q ≡ told_at self.old.roots q)) }
+        ensures once { TriedOnce self.old.busies self.new.busies result }
         ensures busies { self.old.busies ≤ self.new.busies }
         ensures here { Begins (told_at self.old.roots place) (told_at self.new.roots place) }
         ensures others { (q : ℕ) → q ≢ place → told_at self.new.roots q ≡ told_at self.old.roots q }

@@ -4,7 +4,7 @@ ghost use Rattle.stream_model.specs.Held.{held};
 ghost use Rattle.stream_model.specs.History.{items_of};
 ghost use Rattle.turn_gate.specs.Histories.{Begins};
 ghost use Rattle.stream_registry.specs.Told.{Keeps};
-ghost use Rattle.stream_registry.specs.Placed.{Placed, Failed};
+ghost use Rattle.stream_registry.specs.Placed.{Placed, Failed, TriedOnce};
 ghost use Rattle.stream_registry.specs.Books.{journal_at};
 
 use crate::book::Book;
@@ -155,6 +155,7 @@ fn ask(book: &mut Book, pass: &mut SolePass, entry: Entry) -> Result<Reply, Port
     ensures reply { IfOk result (λ r. Placed pass.old.limits book.old.journal pass.old.seen pass.old.mine (entry, r) pass.new.seen pass.new.mine) }
     ensures laws { Keeps pass.new.limits pass.new.seen × (length pass.new.seen ≤ 2 ^ 62) }
     ensures fails { IfErr result (λ e. Failed entry 0 0 (length pass.new.seen) e) }
+    ensures once { TriedOnce 0 0 result }
     ensures unmade { IfErr result (λ _. (pass.new.mine ≡ pass.old.mine) × (book.new ≡ book.old)) }
 {
     let number = book.journal().len() as u64;

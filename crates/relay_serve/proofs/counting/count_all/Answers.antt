@@ -1,30 +1,28 @@
-use Rattle.std.proofs.Common.{rules, ◌∙◌, ◌<◌, ℕ, List, length, sym, ap, subst, Option}
+use Rattle.std.proofs.Common.{rules, ◌∙◌, ◌<◌, ℕ, List, length, sym, subst, Option}
 use Rattle.std.specs.Prelude.{Contains}
-use Rattle.stream_registry.specs.Gates.{told, told_at}
 use Rattle.stream_registry.specs.Names.{PortRules}
 use Rattle.stream_registry.specs.Roots.{seen_at}
 use Rattle.stream_registry.specs.SharedState.{shared_rules}
 use Rattle.relay_serve.specs.declared.counting.Counts.{Counts}
 use Rattle.relay_serve.specs.Lasts.{AllEnd, EndsIf, IsWorn}
-use Rattle.relay_serve.proofs.Counted.{all_more, later_at, later_then, worn_more}
+use Rattle.relay_serve.proofs.Counted.{all_more, told_then, worn_more}
 use Rattle.relay_serve.proofs.counting.count_all.Goals as goal
 
 pub returns-in_err-counts-clause-grown : goal.returns-in_err-counts-clause-grown
 returns-in_err-counts-clause-grown g c =
-    later_then (told_at c.args.port.now.roots) (told_at c.loop-place.port.roots) (told_at c.count_as_found.new.port.roots) c.loop-place.invariant.grown
-    (later_at (told_at c.loop-place.port.roots) (told_at c.count_as_found.new.port.roots) c.loop-place.place c.count_as_found.ensures.grown (λ q n. ap told (c.count_as_found.ensures.others q n)))
+    told_then c.args.port.now.roots c.loop-place.port.roots c.count_as_found.new.port.roots c.loop-place.place
+    c.loop-place.invariant.grown c.count_as_found.ensures.grown c.count_as_found.ensures.others
 
 pub returns-then-is_err-clause-grown : goal.returns-then-is_err-clause-grown
 returns-then-is_err-clause-grown g c =
-    later_then (told_at c.args.port.now.roots) (told_at c.loop-place.port.roots) (told_at c.count_as_found.new.port.roots) c.loop-place.invariant.grown
-    (later_at (told_at c.loop-place.port.roots) (told_at c.count_as_found.new.port.roots) c.loop-place.place c.count_as_found.ensures.grown (λ q n. ap told (c.count_as_found.ensures.others q n)))
+    told_then c.args.port.now.roots c.loop-place.port.roots c.count_as_found.new.port.roots c.loop-place.place
+    c.loop-place.invariant.grown c.count_as_found.ensures.grown c.count_as_found.ensures.others
 
 pub loop-place-preserved : goal.loop-place-preserved
 loop-place-preserved g c =
     let i = c.loop-place.invariant in
     let xs = c.loop-place.list.items in
     let ks = seen_at c.count_as_found.new.port.roots in
-    let told_now = told_at c.count_as_found.new.port.roots in
     let limits = (shared_rules c.args.port.now).limits in
     let pushed = rw c.if-is_err.ensures.negation at c.push.ensures.items in
     let ends : EndsIf (limits (length xs)) c.in_ok-counts.counts (ks (length xs)) =
@@ -38,6 +36,6 @@ loop-place-preserved g c =
       worn = λ q l h. subst (λ (m : List (Option Counts)). IsWorn m q) (sym pushed)
           (worn_more (Contains c.args.full.now) xs c.in_ok-counts.counts i.worn
           (λ t. c.in_ok-counts.ensures.worn (subst (Contains c.args.full.now) i.each t)) q (subst (λ (m : List (Option Counts)). q < length m) pushed l) h);
-      grown = later_then (told_at c.args.port.now.roots) (told_at c.loop-place.port.roots) told_now i.grown
-          (later_at (told_at c.loop-place.port.roots) told_now c.loop-place.place c.count_as_found.ensures.grown (λ q n. ap told (c.count_as_found.ensures.others q n)));
+      grown = told_then c.args.port.now.roots c.loop-place.port.roots c.count_as_found.new.port.roots c.loop-place.place
+          i.grown c.count_as_found.ensures.grown c.count_as_found.ensures.others;
     }

@@ -18,7 +18,7 @@ returns-in-Busy-clause-tried g c =
     let k = c.keep in
     tried_busy (Asked P.fits P.rules P.root P.seen P.count P.wants P.busies) (life (waiting b.core c.args.entry) b.input c.args.port.now b.seat) (life k.new.core b.input c.make.new.port c.make.new.self) c.args.entry (made.Busy f) f (Ok false)
     c.in-Some.place refl c.in-Some.is
-    (record { spot = e.spot; active = e.active; makes = e.makes; calls = e.calls; noted = e.noted; fails = e.fails; knows = e.knows; stands = e.stands; roots = e.roots; others = e.others; fixed = e.fixed; later = e.busies; passes = e.passes })
+    (record { spot = e.spot; active = e.active; makes = e.makes; calls = e.calls; noted = e.noted; fails = e.fails; tries = e.tries; knows = e.knows; stands = e.stands; roots = e.roots; others = e.others; fixed = e.fixed; later = e.busies; passes = e.passes })
     (k.ensures ∙ ap (waiting b.core) e.makes.0) refl refl
 
 pub returns-in-Worn-clause-tried : goal.returns-in-Worn-clause-tried
@@ -30,7 +30,7 @@ returns-in-Worn-clause-tried g c =
     let k = c.keep-in-Worn in
     tried_worn (Asked P.fits P.rules P.root P.seen P.count P.wants P.busies) (life (waiting b.core c.args.entry) b.input c.args.port.now b.seat) (life k.new.core b.input c.make.new.port c.make.new.self) c.args.entry (made.Worn f) f (Err end.Worn)
     c.in-Some.place refl c.in-Some.is
-    (record { spot = e.spot; active = e.active; makes = e.makes; calls = e.calls; noted = e.noted; fails = e.fails; knows = e.knows; stands = e.stands; roots = e.roots; others = e.others; fixed = e.fixed; later = e.busies; passes = e.passes })
+    (record { spot = e.spot; active = e.active; makes = e.makes; calls = e.calls; noted = e.noted; fails = e.fails; tries = e.tries; knows = e.knows; stands = e.stands; roots = e.roots; others = e.others; fixed = e.fixed; later = e.busies; passes = e.passes })
     (k.ensures ∙ ap (waiting b.core) e.makes.0) refl refl
 
 pub returns-clause-tried : goal.returns-clause-tried
@@ -42,7 +42,7 @@ returns-clause-tried g c =
     let k = c.keep-in-OutOfMemory in
     tried_memory (Asked P.fits P.rules P.root P.seen P.count P.wants P.busies) (life (waiting b.core c.args.entry) b.input c.args.port.now b.seat) (life k.new.core b.input c.make.new.port c.make.new.self) c.args.entry (made.OutOfMemory f) f (Err end.OutOfMemory)
     c.in-Some.place refl c.in-Some.is
-    (record { spot = e.spot; active = e.active; makes = e.makes; calls = e.calls; noted = e.noted; fails = e.fails; knows = e.knows; stands = e.stands; roots = e.roots; others = e.others; fixed = e.fixed; later = e.busies; passes = e.passes })
+    (record { spot = e.spot; active = e.active; makes = e.makes; calls = e.calls; noted = e.noted; fails = e.fails; tries = e.tries; knows = e.knows; stands = e.stands; roots = e.roots; others = e.others; fixed = e.fixed; later = e.busies; passes = e.passes })
     (k.ensures ∙ ap (waiting b.core) e.makes.0) refl refl
 
 pub returns-in-Worn-clause-stands : goal.returns-in-Worn-clause-stands
