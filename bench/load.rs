@@ -26,6 +26,8 @@ come while it runs. When each has its first unit, and a second later, the measur
   --slow PERCENT   one player more, which reads at that share of the broadcast's rate (none; 1 to 99)
   --seconds S      measured time (10; 1 to 3600)
   --mbit M         the broadcast's rate in Mbit/s (4; 0.2 to 20)
+  --ahead N        once all players have a unit, not in real time but as fast as the slowest of them takes it, at most N units
+                   ahead of it, for at most 5 s (in real time; 1 to 1000)
   --chunk N        the publisher's chunk size (4096; 128 to 65536)
   --threads N      threads of the players (2; 1 to 16)
   --compare        compare every byte of the bodies
@@ -56,6 +58,7 @@ struct Words {
     slow: Option<u64>,
     seconds: u64,
     mbit: f64,
+    ahead: Option<u64>,
     chunk: usize,
     threads: usize,
     compare: bool,
@@ -87,6 +90,7 @@ impl Words {
             slow: None,
             seconds: 10,
             mbit: 4.0,
+            ahead: None,
             chunk: 4096,
             threads: 2,
             compare: false,
@@ -117,6 +121,7 @@ impl Words {
                 "--slow" => words.slow = Some(number(&word, &text, 1, 99)),
                 "--seconds" => words.seconds = number(&word, &text, 1, 3600),
                 "--mbit" => words.mbit = number(&word, &text, 0.2, 20.0),
+                "--ahead" => words.ahead = Some(number(&word, &text, 1, 1000)),
                 "--chunk" => words.chunk = number(&word, &text, 128, 65_536),
                 "--threads" => words.threads = number(&word, &text, 1, 16),
                 "--workers" => words.workers = number(&word, &text, 1, 16),
@@ -133,7 +138,18 @@ impl Words {
         if words.links() == 1 {
             wrong("--players 0 needs --slow")
         }
+        if words.ahead.is_some() && (words.players == 0 || words.seconds > 5) {
+            wrong("--ahead needs players, and takes at most 5 s")
+        }
         words
+    }
+
+    /// How many seconds of the broadcast are planned. With --ahead it runs faster than it plays.
+    fn planned(&self) -> u64 {
+        match self.ahead {
+            Some(_) => 60 + 2000 * (self.seconds + 2),
+            None => 60 + self.seconds,
+        }
     }
 
     /// All connections: the publisher's and the players'.
@@ -499,6 +515,8 @@ struct Run {
     until: AtomicU64,
     published: AtomicU64,
     playing: AtomicUsize,
+    /// The number of the unit that each player that keeps up should get next.
+    nexts: Vec<AtomicU64>,
     delivered: AtomicU64,
     publisher_ends: AtomicBool,
     players_end: AtomicBool,
@@ -512,6 +530,14 @@ impl Run {
 
     fn is_measured(&self, clock: u64) -> bool {
         self.from.load(Relaxed) <= clock && clock < self.until.load(Relaxed)
+    }
+
+    /// Waits until the unit is at most so far ahead of what the slowest player has, or all is over.
+    fn let_come(&self, number: u64, ahead: u64) {
+        let has = || self.nexts.iter().map(|next| next.load(Relaxed)).min().unwrap_or(number);
+        while number >= has() + ahead && !self.publisher_ends.load(Relaxed) {
+            thread::sleep(Duration::from_micros(20));
+        }
     }
 
     fn fails(&self, what: String) {
@@ -743,7 +769,10 @@ fn publish(run: &Run) -> Result<Published, String> {
     for (number, unit) in run.units.iter().enumerate() {
         let due = begun + Duration::from_millis(unit.time.into());
         while peer.read(run, &mut room, &mut nothing)? > 0 {}
-        thread::sleep(due.saturating_duration_since(Instant::now()));
+        match run.words.ahead {
+            Some(ahead) if run.playing.load(Relaxed) + 1 == run.words.links() => run.let_come(number as u64, ahead),
+            _ => thread::sleep(due.saturating_duration_since(Instant::now())),
+        }
         if run.publisher_ends.load(Relaxed) {
             break;
         }
@@ -847,8 +876,11 @@ impl Sight {
     }
 }
 
-/// Players that keep up: they come one after the other, `apart`, and read what there is.
-fn play(run: &Run, count: usize, delay: Duration, apart: Duration) -> Result<Vec<Sight>, String> {
+/// Players that keep up: the one with the number `first` and each `threads` further, `count` in all. They come one after the other,
+/// and read what there is.
+fn play(run: &Run, first: usize, threads: usize, count: usize) -> Result<Vec<Sight>, String> {
+    let between = Duration::from_millis(1000) / run.words.players.max(1) as u32;
+    let (delay, apart) = (between * first as u32, between * threads as u32);
     let begun = Instant::now();
     let mut peers: Vec<Peer> = Vec::new();
     let mut sights: Vec<Sight> = Vec::new();
@@ -863,6 +895,9 @@ fn play(run: &Run, count: usize, delay: Duration, apart: Duration) -> Result<Vec
         for (i, _) in watches.iter().enumerate().filter(|(_, watch)| watch.found != 0) {
             let came = peers[i].read(run, &mut room, &mut sights[i])?;
             run.delivered.fetch_add(came as u64, Relaxed);
+            if let Some(next) = sights[i].next {
+                run.nexts[first + i * threads].store(next, Relaxed);
+            }
         }
     }
     Ok(sights)
@@ -1087,11 +1122,10 @@ fn run_load(run: &Arc<Run>, pids: &[u32]) -> Result<Seen, String> {
     let publisher = start(run, publish);
     until(run, 10, "nothing was published", || run.published.load(Relaxed) > 0)?;
     let threads = words.threads.min(words.players).max(1);
-    let apart = Duration::from_millis(1000) / words.players.max(1) as u32;
     let players: Vec<_> = (0..threads)
         .map(|i| {
             let count = words.players / threads + usize::from(i < words.players % threads);
-            start(run, move |run| play(run, count, apart * i as u32, apart * threads as u32))
+            start(run, move |run| play(run, i, threads, count))
         })
         .collect();
     let slow = words.slow.map(|percent| start(run, move |run| play_slowly(run, percent)));
@@ -1194,7 +1228,8 @@ fn main() {
         (_, to) => to.as_ref().unwrap().parse().unwrap_or_else(|_| wrong("--to wants an IP address and a port")),
     };
     let run = Arc::new(Run {
-        units: plan(words.seconds + 60, words.bytes_a_second()),
+        units: plan(words.planned(), words.bytes_a_second()),
+        nexts: (0..words.players).map(|_| AtomicU64::new(0)).collect(),
         words,
         address,
         filler: Filler::new(),

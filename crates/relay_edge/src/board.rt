@@ -16,6 +16,8 @@ struct Peer {
     waker: OnceLock<Waker>,
     // It takes links.
     open: AtomicBool,
+    // It has looked at its door since a connection was left to it.
+    looked: AtomicBool,
     links: AtomicU64,
     // It waits, or is about to.
     asleep: AtomicBool,
@@ -28,6 +30,7 @@ impl Peer {
         Peer {
             waker: OnceLock::new(),
             open: AtomicBool::new(false),
+            looked: AtomicBool::new(false),
             links: AtomicU64::new(0),
             asleep: AtomicBool::new(false),
             due: AtomicBool::new(false),
@@ -45,6 +48,13 @@ impl Peer {
     }
 }
 
+// Stores a value that isn't there.
+fn set(flag: &AtomicBool, value: bool) {
+    if flag.load(Ordering::SeqCst) != value {
+        flag.store(value, Ordering::SeqCst);
+    }
+}
+
 /// The workers of a server, by their numbers.
 #[derive(Drop)]
 pub struct Board {
@@ -52,6 +62,10 @@ pub struct Board {
     // Links that were given, or are about to be.
     claimed: AtomicU64,
     given: AtomicU64,
+    // Workers that don't wait.
+    awake: AtomicU64,
+    // How often one has ceased to wait.
+    starts: AtomicU64,
 }
 
 impl Board {
@@ -66,6 +80,8 @@ impl Board {
             peers,
             claimed: AtomicU64::new(0),
             given: AtomicU64::new(0),
+            awake: AtomicU64::new(0),
+            starts: AtomicU64::new(0),
         })
     }
 
@@ -73,6 +89,7 @@ impl Board {
     pub fn join(&self, worker: usize, waker: Waker) {
         if let Some(peer) = self.peers.get(worker) {
             let _ = peer.waker.try_set(waker);
+            self.awake.fetch_add(1, Ordering::SeqCst);
         }
     }
 
@@ -89,6 +106,7 @@ impl Board {
 
     /// The worker is about to wait. Whether it is to look at once, since something came.
     pub fn begin_wait(&self, worker: usize) -> bool {
+        self.awake.fetch_sub(1, Ordering::SeqCst);
         match self.peers.get(worker) {
             Some(peer) => {
                 peer.asleep.store(true, Ordering::SeqCst);
@@ -98,29 +116,50 @@ impl Board {
         }
     }
 
-    /// The worker waits no more, and looks at all that came.
-    pub fn end_wait(&self, worker: usize) {
-        if let Some(peer) = self.peers.get(worker) {
-            peer.asleep.store(false, Ordering::SeqCst);
-            peer.due.store(false, Ordering::SeqCst);
+    /// The worker waits no more, and looks at all that came. Whether another woke it.
+    pub fn end_wait(&self, worker: usize) -> bool {
+        self.awake.fetch_add(1, Ordering::SeqCst);
+        self.starts.fetch_add(1, Ordering::SeqCst);
+        match self.peers.get(worker) {
+            Some(peer) => {
+                peer.asleep.store(false, Ordering::SeqCst);
+                peer.due.swap(false, Ordering::SeqCst)
+            }
+            None => false,
         }
     }
 
-    /// Whether the worker takes links.
-    pub fn set_open(&self, worker: usize, open: bool) {
+    /// For a worker that doesn't wait: a number that stays the same as long as all others wait, where they do. Between
+    /// two such numbers that are the same no call of another worker was made.
+    pub fn stillness(&self) -> Option<u64> {
+        let starts = self.starts.load(Ordering::SeqCst);
+        if self.awake.load(Ordering::SeqCst) > 1 {
+            return None;
+        }
+        Some(starts)
+    }
+
+    /// The worker takes links, and looks at its door.
+    pub fn look(&self, worker: usize) {
         if let Some(peer) = self.peers.get(worker) {
-            if peer.open.load(Ordering::SeqCst) != open {
-                peer.open.store(open, Ordering::SeqCst);
-            }
+            set(&peer.open, true);
+            set(&peer.looked, true);
+        }
+    }
+
+    /// The worker takes no more links.
+    pub fn close(&self, worker: usize) {
+        if let Some(peer) = self.peers.get(worker) {
+            set(&peer.open, false);
         }
     }
 
     /// The worker has one link more.
     pub fn add_link(&self, worker: usize) {
-        self.given.fetch_add(1, Ordering::SeqCst);
         if let Some(peer) = self.peers.get(worker) {
             peer.links.fetch_add(1, Ordering::SeqCst);
         }
+        self.given.fetch_add(1, Ordering::SeqCst);
     }
 
     /// The worker has one link less.
@@ -130,36 +169,51 @@ impl Board {
         }
     }
 
-    // A worker that takes links and has clearly fewer than this one.
-    fn lighter(&self, worker: usize) -> Option<&Peer> {
-        let mine = match self.peers.get(worker) {
-            Some(peer) => peer.links.load(Ordering::SeqCst),
-            None => return None,
-        };
-        for peer in self.peers.as_slice() {
-            let links = peer.links.load(Ordering::SeqCst).saturating_add(SLACK);
-            if links < mine && peer.open.load(Ordering::SeqCst) {
-                return Some(peer);
+    /// Whether the other worker takes links and has clearly fewer than this one.
+    pub fn is_lighter(&self, worker: usize, other: usize) -> bool {
+        match (self.peers.get(worker), self.peers.get(other)) {
+            (Some(mine), Some(peer)) => {
+                let links = peer.links.load(Ordering::SeqCst).saturating_add(SLACK);
+                links < mine.links.load(Ordering::SeqCst) && peer.open.load(Ordering::SeqCst)
+            }
+            _ => false,
+        }
+    }
+
+    /// Whether the worker has looked at its door since a connection was left to it.
+    pub fn has_looked(&self, worker: usize) -> bool {
+        match self.peers.get(worker) {
+            Some(peer) => peer.looked.load(Ordering::SeqCst),
+            None => false,
+        }
+    }
+
+    /// Leaves a connection to a worker that has clearly fewer links, and wakes it. One that hasn't looked since the last that
+    /// was left to it isn't asked.
+    pub fn leave(&self, worker: usize) -> Option<usize> {
+        for other in 0..self.peers.len() {
+            if self.is_lighter(worker, other) && self.has_looked(other) {
+                if let Some(peer) = self.peers.get(other) {
+                    peer.looked.store(false, Ordering::SeqCst);
+                    peer.wake();
+                }
+                return Some(other);
             }
         }
         None
     }
 
-    /// Whether the worker is to leave a new link to another.
-    pub fn has_lighter(&self, worker: usize) -> bool {
-        self.lighter(worker).is_some()
-    }
-
-    /// Wakes a worker to which this one leaves a new link.
-    pub fn wake_lighter(&self, worker: usize) {
-        if let Some(peer) = self.lighter(worker) {
-            peer.wake();
+    /// Whether so many links were given, and all of them are gone; 0 stands for any number.
+    pub fn is_over(&self, most: u32) -> bool {
+        if most == 0 || self.given.load(Ordering::SeqCst) < most as u64 {
+            return false;
         }
-    }
-
-    /// Whether so many links were given; 0 stands for any number.
-    pub fn has_given(&self, most: u32) -> bool {
-        most > 0 && self.given.load(Ordering::SeqCst) >= most as u64
+        for peer in self.peers.as_slice() {
+            if peer.links.load(Ordering::SeqCst) > 0 {
+                return false;
+            }
+        }
+        true
     }
 
     /// Whether one more may be given. It is then claimed.

@@ -29,7 +29,14 @@ const MOST_LINKS: usize = 64;
 #[derive(Drop)]
 pub struct Cells {
     list: Vec<AtomicU64>,
-    received: AtomicBool,
+    // Links that received bytes and weren't asked for more since. What these bring may be done in each turn until then.
+    fed: AtomicU64,
+    // One was asked for more.
+    asked: AtomicBool,
+    // Links received bytes, and more are at hand.
+    begun: AtomicBool,
+    // Links that keep bytes that can be sent.
+    holding: AtomicU64,
 }
 
 impl Cells {
@@ -42,7 +49,10 @@ impl Cells {
         }
         Ok(Cells {
             list,
-            received: AtomicBool::new(false),
+            fed: AtomicU64::new(0),
+            asked: AtomicBool::new(false),
+            begun: AtomicBool::new(false),
+            holding: AtomicU64::new(0),
         })
     }
 
@@ -87,17 +97,53 @@ impl Cells {
         None
     }
 
-    /// Links of this worker received bytes.
-    pub fn receive(&self) {
-        self.received.store(true, Ordering::SeqCst);
+    /// A link received bytes, and no more are at hand.
+    pub fn feed(&self) {
+        self.fed.fetch_add(1, Ordering::SeqCst);
     }
 
-    /// Whether they did since this was asked last.
-    pub fn take_received(&self) -> bool {
-        let received = self.received.load(Ordering::SeqCst);
-        if received {
-            self.received.store(false, Ordering::SeqCst);
+    /// It is asked for more, or gone: what those bytes brought was done, the last of it in this turn.
+    pub fn ask(&self) {
+        self.fed.fetch_sub(1, Ordering::SeqCst);
+        self.asked.store(true, Ordering::SeqCst);
+    }
+
+    /// A link received bytes, and more are at hand. What they are part of mostly isn't whole.
+    pub fn begin(&self) {
+        self.begun.store(true, Ordering::SeqCst);
+    }
+
+    /// Whether a turn that moved something may have done what received bytes brought, since this was asked last. What was
+    /// done with more bytes at hand counts where it is told at once.
+    pub fn take_done(&self, at_once: bool) -> bool {
+        let done = self.fed.load(Ordering::SeqCst) > 0
+            || self.asked.load(Ordering::SeqCst)
+            || at_once && self.begun.load(Ordering::SeqCst);
+        if done {
+            self.asked.store(false, Ordering::SeqCst);
+            self.begun.store(false, Ordering::SeqCst);
         }
-        received
+        done
+    }
+
+    /// The same after a turn that moved nothing.
+    pub fn take_begun(&self) -> bool {
+        self.asked.store(false, Ordering::SeqCst);
+        self.begun.swap(false, Ordering::SeqCst)
+    }
+
+    /// One link more keeps bytes that can be sent.
+    pub fn hold(&self) {
+        self.holding.fetch_add(1, Ordering::SeqCst);
+    }
+
+    /// One fewer does.
+    pub fn release(&self) {
+        self.holding.fetch_sub(1, Ordering::SeqCst);
+    }
+
+    /// Whether any does.
+    pub fn is_holding(&self) -> bool {
+        self.holding.load(Ordering::SeqCst) > 0
     }
 }

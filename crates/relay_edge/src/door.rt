@@ -1,7 +1,7 @@
 //! Doors over a listening socket.
 ghost use Rattle.std.specs.Prelude.{◌≡◌, None, false};
 
-use crate::cells::{DOOR, LEFT, READABLE};
+use crate::cells::{DOOR, READABLE};
 use crate::link::RealLink;
 use crate::post::Post;
 use mio::net::{TcpListener, TcpStream};
@@ -25,7 +25,8 @@ fn is_shortage(error: &io::Error) -> bool {
 }
 
 /// A worker's door. The doors of all workers share one listening socket; a worker that has clearly more links than
-/// another leaves new ones to that one. All doors together give so many links and are then closed.
+/// another leaves new ones to that one, as long as it looks at its door. All doors together give so many links, and are closed
+/// when all of these are gone.
 #[derive(Drop)]
 pub struct RealDoor {
     listener: TcpListener,
@@ -67,22 +68,10 @@ impl RealDoor {
         }
     }
 
-    // Leaves what came to a worker with fewer links, which is woken once for it.
-    fn leaves(&self) -> bool {
-        if !self.post.has_lighter() {
-            return false;
-        }
-        if !self.post.cells.has(DOOR, LEFT) {
-            self.post.cells.add(DOOR, LEFT);
-            self.post.wake_lighter();
-        }
-        true
-    }
-
     // Whether there may be a connection for this worker.
     fn is_asked(&self) -> bool {
-        self.post.open();
-        self.post.cells.has(DOOR, READABLE) && !self.leaves()
+        self.post.look();
+        self.post.cells.has(DOOR, READABLE) && !self.post.leaves()
     }
 
     // The next connection, if there is one, registered under the token.

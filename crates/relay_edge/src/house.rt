@@ -5,8 +5,10 @@ use crate::board::Board;
 use crate::cells::{DOOR, READABLE};
 use crate::door::RealDoor;
 use crate::file::RealFile;
+use crate::names::{Names, Refusal, text};
 use crate::post::Post;
 use crate::rest::{RealRest, WAKER};
+use crate::shown::say;
 use mio::net::TcpListener;
 use mio::{Events, Interest, Poll, Registry, Token, Waker};
 use relay_outside::House;
@@ -16,24 +18,16 @@ use std::io::Eprint;
 use std::marker::Model;
 use std::net::{Net, SocketAddr};
 use std::sync::Arc;
-use std::{io, net, str};
+use std::{io, net};
 
 /// How many events a poll takes at once.
 const EVENTS: usize = 128;
 
-// The text that the bytes are.
-fn text(bytes: &[u8]) -> io::Result<&str> {
-    match str::from_utf8(bytes) {
-        Ok(text) => Ok(text),
-        Err(_) => Err(io::Error::from(io::ErrorKind::InvalidInput)),
-    }
-}
-
-// The address that the bytes name: an IP address and a port.
-fn address(listen: &[u8]) -> io::Result<SocketAddr> {
+// The address that the bytes name.
+fn address(listen: &[u8]) -> Result<SocketAddr, Refusal> {
     match text(listen)?.parse::<SocketAddr>() {
         Ok(address) => Ok(address),
-        Err(_) => Err(io::Error::from(io::ErrorKind::InvalidInput)),
+        Err(_) => Err(Refusal::NoAddress),
     }
 }
 
@@ -98,19 +92,18 @@ struct Sockets {
 }
 
 impl Sockets {
-    // A handle of the socket that listens at that address.
-    fn listener<R: Net<Listener = net::TcpListener, Stream = net::TcpStream> + Eprint>(
+    // A handle of the socket that listens at that address, with the longest backlog that the system allows.
+    fn listener<R: Net + Eprint>(
         &mut self,
         rt: &R,
         listen: &[u8],
-    ) -> io::Result<net::TcpListener> {
+    ) -> Result<net::TcpListener, Refusal> {
         if let Some((asked, socket)) = &self.listening {
             if asked.as_slice() == listen {
-                return socket.try_clone();
+                return Ok(socket.try_clone()?);
             }
         }
-        let socket = net::TcpListener::bind(rt, address(listen)?)?;
-        socket.set_nonblocking(true)?;
+        let socket = net::TcpListener::from(TcpListener::bind(rt, address(listen)?)?);
         let at = socket.local_addr()?;
         let _ = eprintln!(rt; "relay: listens on {at}");
         let other = socket.try_clone()?;
@@ -138,17 +131,17 @@ impl Sockets {
         }
     }
 
-    fn door<R: Net<Listener = net::TcpListener, Stream = net::TcpStream> + Eprint>(
+    fn door<R: Net + Eprint>(
         &mut self,
         rt: &R,
         worker: u32,
         listen: &[u8],
         accept: u32,
-    ) -> io::Result<RealDoor>
+    ) -> Result<RealDoor, Refusal>
         ensures { IfOk result (λ d. d ≡ record { given = 0; faults = 0; closed = false; back = None }) }
     {
         let socket = self.listener(rt, listen)?;
-        self.hand(rt, worker)?.door(socket, accept)
+        Ok(self.hand(rt, worker)?.door(socket, accept)?)
     }
 
     fn rest<R: Net>(&mut self, rt: &R, worker: u32) -> io::Result<RealRest> {
@@ -157,29 +150,9 @@ impl Sockets {
     }
 }
 
-// The files of a house, by the names that it gave.
-#[derive(Drop)]
-struct Names {
-    alloc: Global,
-    given: Vec<Vec<u8>>,
-}
-
-impl Names {
-    // Makes a file that is empty. A name is given once.
-    fn file<R: Files<File = File>>(&mut self, rt: &R, name: &[u8]) -> io::Result<File> {
-        for given in self.given.as_slice() {
-            if given.as_slice() == name {
-                return Err(io::Error::from(io::ErrorKind::AlreadyExists));
-            }
-        }
-        let file = File::create(rt, text(name)?)?;
-        self.given.push(name.to_vec(self.alloc)?)?;
-        Ok(file)
-    }
-}
-
 /// A house over sockets and files: doors that share one listening socket, rests that wake each other, and files. It says on
-/// standard error where it listens, and why a door, a rest or a file couldn't be had.
+/// standard error where it listens, and why a door, a rest or a file couldn't be had. When one couldn't, all files are again as
+/// they were before it gave any.
 #[derive(Drop)]
 pub struct RealHouse<'a, R> {
     rt: &'a R,
@@ -212,47 +185,41 @@ impl<'a, R: Eprint> RealHouse<'a, R> {
                 listening: None,
                 hands: Vec::new(alloc),
             },
-            names: Names {
-                alloc,
-                given: Vec::new(alloc),
-            },
+            names: Names::new(alloc),
             failed: 0,
             spoilt: 0,
         })
     }
+}
 
-    // Says what failed and why.
-    fn say(&self, what: &[u8], error: &io::Error) {
-        match str::from_utf8(what) {
-            Ok(what) => {
-                let _ = eprintln!(self.rt; "relay: {what}: {error}");
-            }
-            Err(_) => {
-                let _ = eprintln!(self.rt; "relay: a name that isn't UTF-8: {error}");
-            }
-        }
+impl<'a, R: Files<File = File>> RealHouse<'a, R> {
+    /// It gives no file that is the one of this name, where that is there.
+    pub fn spare(&mut self, name: &str)
+        ensures { self.new ≡ self.old }
+    {
+        self.names.spare(self.rt, name);
     }
 }
 
-impl<R> House for RealHouse<'_, R>
-where
-    R: Net<Listener = net::TcpListener, Stream = net::TcpStream> + Files<File = File> + Eprint,
-{
+impl<'a, R: Net + Files<File = File> + Eprint + Sync> House for RealHouse<'a, R> {
     type Door = RealDoor;
 
     type Rest = RealRest;
 
-    type File = RealFile;
+    type File = RealFile<'a, R>;
 
     ghost told = { λ h. h };
 
     ghost asked = { λ _. None };
 
+    ghost named = { λ _. None };
+
     fn door(&mut self, worker: u32, listen: &[u8], accept: u32) -> Option<RealDoor> {
         match self.sockets.door(self.rt, worker, listen, accept) {
             Ok(door) => Some(door),
-            Err(error) => {
-                self.say(listen, &error);
+            Err(refusal) => {
+                say(self.rt, listen, &refusal);
+                self.names.undo(self.rt);
                 self.failed = self.failed.saturating_add(1);
                 None
             }
@@ -263,27 +230,28 @@ where
         match self.sockets.rest(self.rt, worker) {
             Ok(rest) => Some(rest),
             Err(error) => {
-                self.say(b"a worker's poll", &error);
+                say(self.rt, b"a worker's poll", &error);
+                self.names.undo(self.rt);
                 self.failed = self.failed.saturating_add(1);
                 None
             }
         }
     }
 
-    fn file(&mut self, name: &[u8]) -> Option<RealFile> {
-        match self.names.file(self.rt, name) {
-            Ok(file) => Some(RealFile::new(file)),
-            Err(error) => {
-                self.say(name, &error);
+    fn file(&mut self, name: &[u8]) -> Option<RealFile<'a, R>> {
+        match self.names.give(self.rt, name) {
+            Ok(file) => Some(file),
+            Err(refusal) => {
+                say(self.rt, name, &refusal);
+                self.names.undo(self.rt);
                 self.failed = self.failed.saturating_add(1);
                 None
             }
         }
     }
 
-    fn keep(&mut self, name: &[u8], file: RealFile) -> Result<(), AllocError> {
-        if let Some(error) = file.error() {
-            self.say(name, &error);
+    fn keep(&mut self, _name: &[u8], file: RealFile<'a, R>) -> Result<(), AllocError> {
+        if file.error().is_some() {
             self.spoilt = self.spoilt.saturating_add(1);
         }
         Ok(())

@@ -2,7 +2,7 @@
 //!
 //! A [`RealHouse`] gives each worker a door and a rest. All doors share one listening socket, and balance; a link asks the
 //! system only where the worker's poll has reported that there is something to do; a rest waits until a socket of its
-//! worker is ready, or another worker received bytes.
+//! worker is ready, or another worker did what received bytes brought.
 #![tactic(auto)]
 
 mod board;
@@ -10,12 +10,19 @@ mod cells;
 mod door;
 mod file;
 mod house;
+mod inbox;
 mod link;
+mod names;
+mod outbox;
 mod post;
 mod rest;
+mod segments;
+mod shown;
 
 pub use door::RealDoor;
 pub use file::RealFile;
 pub use house::RealHouse;
 pub use link::RealLink;
 pub use rest::RealRest;
+pub use segments::SegmentHouse;
+pub use shown::Shown;

@@ -1,13 +1,17 @@
 //! Links over sockets.
 ghost use Rattle.std.specs.Prelude.{◌≡◌, None};
+ghost use Rattle.std.specs.Io.{ReadsAtMost};
 ghost use Rattle.relay_outside.specs.Heard.{HearStep};
 ghost use Rattle.relay_outside.specs.Said.{SayStep};
 
 use crate::cells::{CLOSING, READABLE, TAKEN, WRITABLE};
+use crate::inbox::Inbox;
+use crate::outbox::Outbox;
 use crate::post::Post;
 use mio::net::TcpStream;
 use relay_outside::{Heard, Link, Said};
 use std::alloc::Global;
+use std::io;
 use std::io::{ErrorKind, Read, Write};
 use std::marker::Model;
 use std::sync::Arc;
@@ -16,11 +20,26 @@ use std::sync::Arc;
 struct Cell {
     post: Arc<Post, Global>,
     token: usize,
+    // The worker is to go on for what its link keeps.
+    keeps: bool,
+    // Its link received bytes, and wasn't asked for more since.
+    fed: bool,
 }
 
 impl Drop for Cell {
     fn drop(self) {
-        let Cell { post, token } = self;
+        let Cell {
+            post,
+            token,
+            keeps,
+            fed,
+        } = self;
+        if keeps {
+            post.cells.release();
+        }
+        if fed {
+            post.cells.ask();
+        }
         post.cells.set(token, 0);
         post.remove_link();
     }
@@ -35,21 +54,208 @@ impl Cell {
         self.post.cells.remove(self.token, bit);
     }
 
-    // It received so many bytes, for which there was so much room. A socket that gave less has no more.
-    fn receive(&self, count: usize, room: usize) {
-        if count < room && !self.has(CLOSING) {
-            self.remove(READABLE);
+    // Its link received bytes. Whether more are at hand.
+    fn receive(&mut self, more: bool) {
+        if more {
+            self.post.cells.begin();
+            return;
         }
-        self.post.cells.receive();
+        if !self.fed {
+            self.post.cells.feed();
+        }
+        self.fed = true;
+    }
+
+    // Its link is asked for bytes.
+    fn ask(&mut self) {
+        if self.fed {
+            self.post.cells.ask();
+        }
+        self.fed = false;
+    }
+
+    // Whether the worker is to go on for what its link keeps.
+    fn keep(&mut self, keeps: bool) {
+        if keeps && !self.keeps {
+            self.post.cells.hold();
+        }
+        if !keeps && self.keeps {
+            self.post.cells.release();
+        }
+        self.keeps = keeps;
     }
 }
 
-/// A link over a socket. It asks the system only where the poll has reported that there is something to do. It tells no
-/// bytes.
-#[derive(Drop)]
-pub struct RealLink {
+// What became of the bytes that were kept.
+#[derive(Clone, Copy, PartialEq, Eq)]
+enum Flushed {
+    All,
+    // Not all yet.
+    Some,
+    Failed,
+}
+
+/// A socket with its cell, the bytes that it is to be sent and those that were received from it. What is kept when it is
+/// dropped is handed to the system once more.
+struct Wire {
     stream: TcpStream,
     cell: Cell,
+    outbox: Outbox,
+    inbox: Inbox,
+    // The last recv filled the room that there was.
+    filled: bool,
+    // It took a piece since the last recv.
+    fresh: bool,
+    // Bytes that were taken couldn't be sent.
+    broken: bool,
+}
+
+impl Drop for Wire {
+    fn drop(self) {
+        let Wire {
+            mut stream,
+            cell,
+            outbox,
+            inbox,
+            filled: _,
+            fresh: _,
+            broken: _,
+        } = self;
+        if !outbox.is_empty() {
+            let _ = stream.write(outbox.left());
+        }
+        drop(inbox);
+        drop(outbox);
+        drop(stream);
+        drop(cell);
+    }
+}
+
+impl Wire {
+    // Hands what is kept to the system, by one call.
+    fn flush(&mut self) -> Flushed {
+        if self.outbox.is_empty() {
+            return Flushed::All;
+        }
+        let error = match self.stream.write(self.outbox.left()) {
+            Ok(count) if count > 0 => {
+                self.outbox.take(count);
+                if self.outbox.is_empty() {
+                    return Flushed::All;
+                }
+                self.cell.remove(WRITABLE);
+                return Flushed::Some;
+            }
+            Ok(_) => ErrorKind::WriteZero,
+            Err(error) => error.kind(),
+        };
+        match error {
+            ErrorKind::WouldBlock => {
+                self.cell.remove(WRITABLE);
+                Flushed::Some
+            }
+            ErrorKind::Interrupted => Flushed::Some,
+            _ => {
+                self.broken = true;
+                self.outbox.forget();
+                Flushed::Failed
+            }
+        }
+    }
+
+    // Tells the cell whether the worker is to go on for what is kept.
+    fn tell_kept(&mut self) {
+        let keeps = !self.outbox.is_empty() && self.cell.has(WRITABLE);
+        self.cell.keep(keeps);
+    }
+
+    // Takes the whole piece or nothing of it.
+    fn take(&mut self, piece: &[u8]) -> Flushed {
+        if !self.outbox.keep(piece) {
+            match self.flush() {
+                Flushed::All => {}
+                other => return other,
+            }
+            if !self.outbox.keep(piece) {
+                return Flushed::Some;
+            }
+        }
+        self.fresh = true;
+        if self.outbox.is_full() {
+            match self.flush() {
+                Flushed::Failed => return Flushed::Failed,
+                _ => {}
+            }
+        }
+        Flushed::All
+    }
+
+    // Hands on what is kept, where the turn before this one had no more to send.
+    fn settle(&mut self) -> Flushed {
+        if self.fresh || !self.cell.has(WRITABLE) {
+            self.fresh = false;
+            return Flushed::Some;
+        }
+        self.flush()
+    }
+
+    // Receives bytes from the socket.
+    fn receive(&mut self, into: &mut [u8]) -> io::Result<usize>
+        ensures { ReadsAtMost result into.new }
+    {
+        if !self.filled && !self.inbox.is_open() {
+            let count = self.stream.read(into)?;
+            self.filled = count >= into.len();
+            self.note(self.filled);
+            return Ok(count);
+        }
+        if !self.inbox.is_open() {
+            self.inbox.open();
+        }
+        if !self.inbox.is_open() {
+            let count = self.stream.read(into)?;
+            self.note(count >= into.len());
+            return Ok(count);
+        }
+        let count = self.stream.read(self.inbox.room())?;
+        self.filled = self.inbox.receive(count, into.len());
+        self.note(self.filled);
+        Ok(self.inbox.give(into))
+    }
+
+    // Bytes came. A socket that filled no room has no more.
+    fn note(&self, filled: bool) {
+        if !filled && !self.cell.has(CLOSING) {
+            self.cell.remove(READABLE);
+        }
+    }
+
+    // Gives bytes that were received before, or receives some.
+    fn give(&mut self, into: &mut [u8]) -> io::Result<usize>
+        ensures { ReadsAtMost result into.new }
+    {
+        let count = if self.inbox.has_more() {
+            self.inbox.give(into)
+        } else if self.cell.has(READABLE) {
+            self.receive(into)?
+        } else {
+            return Err(io::Error::from(ErrorKind::WouldBlock));
+        };
+        let more = self.inbox.has_more() || (self.filled && !self.inbox.is_open());
+        self.cell.receive(more);
+        Ok(count)
+    }
+}
+
+/// A link over a socket. It asks the system only where the poll has reported that there is something to do, and tells no
+/// bytes.
+///
+/// Pieces that follow each other in turn after turn are sent by one call of the system: a piece that was taken is kept, and
+/// sent in the first turn that brings none after it, when as many are kept as may be, or when the link is dropped. A worker
+/// doesn't wait while a link keeps bytes that can be sent. Where they can't be sent for a fault, the link fails from then on.
+#[derive(Drop)]
+pub struct RealLink {
+    wire: Wire,
     failed: u64,
     waited: u64,
     ended: u64,
@@ -70,9 +276,22 @@ impl RealLink {
     {
         post.cells.set(token, TAKEN | READABLE | WRITABLE);
         post.add_link();
+        let alloc = post.alloc;
         RealLink {
-            stream,
-            cell: Cell { post, token },
+            wire: Wire {
+                stream,
+                cell: Cell {
+                    post,
+                    token,
+                    keeps: false,
+                    fed: false,
+                },
+                outbox: Outbox::new(alloc),
+                inbox: Inbox::new(alloc),
+                filled: false,
+                fresh: false,
+                broken: false,
+            },
             failed: 0,
             waited: 0,
             ended: 0,
@@ -90,22 +309,21 @@ impl Link for RealLink {
     ghost says = { λ l piece answer m. SayStep piece None None l m answer };
 
     fn recv(&mut self, into: &mut [u8]) -> Heard {
-        if !self.cell.has(READABLE) {
-            self.waited = self.waited.saturating_add(1);
-            return Heard::NotYet;
+        self.wire.cell.ask();
+        if self.wire.settle() == Flushed::Failed || self.wire.broken {
+            self.failed = self.failed.saturating_add(1);
+            return Heard::Failed;
         }
-        match self.stream.read(into) {
+        self.wire.tell_kept();
+        match self.wire.give(into) {
             Ok(0) => {
                 self.ended = self.ended.saturating_add(1);
                 Heard::End
             }
-            Ok(count) => {
-                self.cell.receive(count, into.len());
-                Heard::Bytes(count)
-            }
+            Ok(count) => Heard::Bytes(count),
             Err(error) => match error.kind() {
                 ErrorKind::WouldBlock => {
-                    self.cell.remove(READABLE);
+                    self.wire.cell.remove(READABLE);
                     self.waited = self.waited.saturating_add(1);
                     Heard::NotYet
                 }
@@ -122,31 +340,26 @@ impl Link for RealLink {
     }
 
     fn send(&mut self, piece: &[u8]) -> Said {
-        if !self.cell.has(WRITABLE) {
+        if self.wire.broken {
+            self.failed = self.failed.saturating_add(1);
+            return Said::Failed;
+        }
+        if !self.wire.cell.has(WRITABLE) {
             self.waited = self.waited.saturating_add(1);
             return Said::NotYet;
         }
-        match self.stream.write(piece) {
-            Ok(0) => {
+        let taken = self.wire.take(piece);
+        self.wire.tell_kept();
+        match taken {
+            Flushed::All => Said::Took(piece.len()),
+            Flushed::Some => {
+                self.waited = self.waited.saturating_add(1);
+                Said::NotYet
+            }
+            Flushed::Failed => {
                 self.failed = self.failed.saturating_add(1);
                 Said::Failed
             }
-            Ok(count) => Said::Took(count),
-            Err(error) => match error.kind() {
-                ErrorKind::WouldBlock => {
-                    self.cell.remove(WRITABLE);
-                    self.waited = self.waited.saturating_add(1);
-                    Said::NotYet
-                }
-                ErrorKind::Interrupted => {
-                    self.waited = self.waited.saturating_add(1);
-                    Said::NotYet
-                }
-                _ => {
-                    self.failed = self.failed.saturating_add(1);
-                    Said::Failed
-                }
-            },
         }
     }
 

@@ -1,16 +1,24 @@
 //! What the door, the links and the rest of a worker share.
 
 use crate::board::Board;
-use crate::cells::{Cells, DOOR, READABLE};
+use crate::cells::{Cells, DOOR, LEFT, READABLE};
 use std::alloc::{AllocError, Global};
 use std::sync::Arc;
+use std::sync::atomic::{AtomicU64, Ordering};
+
+/// So many pauses, or 32 turns that moved something in place of each, a worker gives another to look at its door.
+const GRACE: u64 = 8;
 
 /// The post of a worker: the cells of its sockets, and its place on the board of all workers.
 #[derive(Drop)]
 pub struct Post {
+    pub alloc: Global,
     pub cells: Cells,
     board: Arc<Board, Global>,
     worker: usize,
+    // The worker to which the door left a connection last, and what is left of its grace.
+    heir: AtomicU64,
+    grace: AtomicU64,
 }
 
 impl Post {
@@ -21,9 +29,12 @@ impl Post {
     ) -> Result<Arc<Post, Global>, AllocError> {
         let cells = Cells::new(alloc)?;
         let post = Post {
+            alloc,
             cells,
             board,
             worker,
+            heir: AtomicU64::new(0),
+            grace: AtomicU64::new(0),
         };
         Ok(Arc::new(alloc, post)?)
     }
@@ -33,23 +44,32 @@ impl Post {
         self.board.add_link(self.worker);
     }
 
-    /// A link is gone. Its descriptor is free again, so that the door is to be asked.
+    /// A link is gone. Its descriptor is free again, so that the door is to be asked, and what its session left may be of
+    /// interest to others.
     pub fn remove_link(&self) {
         self.board.remove_link(self.worker);
+        self.board.wake_others(self.worker);
         self.cells.add(DOOR, READABLE);
     }
 
-    /// The worker takes links.
-    pub fn open(&self) {
-        self.board.set_open(self.worker, true);
+    /// The worker takes links, and looks at its door.
+    pub fn look(&self) {
+        self.board.look(self.worker);
     }
 
-    /// The worker takes no more links, since so many were given. The others hear of it.
+    /// The door is to be asked, and to leave anew what it leaves.
+    pub fn ask_door(&self) {
+        self.cells.add(DOOR, READABLE);
+        self.cells.remove(DOOR, LEFT);
+    }
+
+    /// The worker takes no more links, since so many were given and all are gone. Until then its recorders may have something
+    /// to write. The others hear of it.
     pub fn is_done(&self, accept: u32) -> bool {
-        if !self.board.has_given(accept) {
+        if !self.board.is_over(accept) {
             return false;
         }
-        self.board.set_open(self.worker, false);
+        self.board.close(self.worker);
         self.board.wake_others(self.worker);
         true
     }
@@ -64,19 +84,65 @@ impl Post {
         self.board.unclaim();
     }
 
-    /// Whether another worker has clearly fewer links.
-    pub fn has_lighter(&self) -> bool {
-        self.board.has_lighter(self.worker)
+    fn heir(&self) -> usize {
+        self.heir.load(Ordering::SeqCst) as usize
     }
 
-    /// Wakes that worker.
-    pub fn wake_lighter(&self) {
-        self.board.wake_lighter(self.worker);
+    // Whether the door has left something to a worker that has time to look, and hasn't yet.
+    fn is_awaited(&self) -> bool {
+        self.grace.load(Ordering::SeqCst) > 0 && !self.board.has_looked(self.heir())
     }
 
-    /// Wakes the other workers, where links of this one received bytes since they were told last.
-    pub fn tell(&self) {
-        if self.cells.take_received() {
+    // Whether the worker to which the door left something is to have what came: it looked, and nothing came since, or it is
+    // about to look.
+    fn is_left(&self) -> bool {
+        let looked = self.cells.has(DOOR, LEFT) && self.board.has_looked(self.heir());
+        (looked || self.is_awaited()) && self.board.is_lighter(self.worker, self.heir())
+    }
+
+    /// Whether what came to the door is left to a worker that has clearly fewer links. That one is woken once for it.
+    pub fn leaves(&self) -> bool {
+        if self.is_left() {
+            self.cells.add(DOOR, LEFT);
+            return true;
+        }
+        match self.board.leave(self.worker) {
+            Some(heir) => {
+                self.heir.store(heir as u64, Ordering::SeqCst);
+                self.grace.store(GRACE, Ordering::SeqCst);
+                self.cells.add(DOOR, LEFT);
+                true
+            }
+            None => {
+                self.cells.remove(DOOR, LEFT);
+                false
+            }
+        }
+    }
+
+    /// Whether what came to the door waits for a worker that is about to look.
+    pub fn is_leaving(&self) -> bool {
+        self.cells.has(DOOR, LEFT) && self.is_awaited()
+    }
+
+    /// The worker made a pause, or moved as much as in one.
+    pub fn age(&self) {
+        let grace = self.grace.load(Ordering::SeqCst);
+        if grace > 0 {
+            self.grace.store(grace.saturating_sub(1), Ordering::SeqCst);
+        }
+    }
+
+    /// After a turn that moved something: wakes the other workers, where that may be what received bytes brought.
+    pub fn tell(&self, at_once: bool) {
+        if self.cells.take_done(at_once) {
+            self.board.wake_others(self.worker);
+        }
+    }
+
+    /// Before a pause: wakes them for what was left to be told when more bytes came.
+    pub fn tell_begun(&self) {
+        if self.cells.take_begun() {
             self.board.wake_others(self.worker);
         }
     }
@@ -86,8 +152,13 @@ impl Post {
         self.board.begin_wait(self.worker)
     }
 
-    /// The worker waits no more.
-    pub fn end_wait(&self) {
-        self.board.end_wait(self.worker);
+    /// The worker waits no more. Whether another woke it.
+    pub fn end_wait(&self) -> bool {
+        self.board.end_wait(self.worker)
+    }
+
+    /// A number that stays the same as long as all other workers wait, where they do.
+    pub fn stillness(&self) -> Option<u64> {
+        self.board.stillness()
     }
 }

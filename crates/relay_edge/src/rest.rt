@@ -15,8 +15,17 @@ pub const WAKER: usize = usize::MAX;
 /// The longest wait, in milliseconds.
 const LONGEST: u64 = 1000;
 
-/// The waits after something moved, in milliseconds, for calls that found a stream busy. The next wait is the longest.
-const FIRST: [u64; 3] = [0, 1, 4];
+/// The first waits, in milliseconds, where another worker was awake, so that a call may have found a stream busy.
+const FIRST: [u64; 4] = [0, 1, 4, 16];
+
+/// Those after them, as long as that may be.
+const NEXT: u64 = 32;
+
+/// The longest wait where the door has left a connection to a worker that hasn't looked yet.
+const LEAVING: u64 = 4;
+
+/// After so many pauses in which links kept bytes that could be sent the worker waits all the same, but not for long.
+const HURRIES: usize = 64;
 
 /// After so many turns that moved something the poll is asked without waiting.
 const LOOK: u32 = 32;
@@ -32,8 +41,10 @@ pub struct RealRest {
     post: Arc<Post, Global>,
     // Turns that moved something.
     moves: u32,
-    // Pauses since the last of them.
+    // Pauses since the last of them, or since the last that ended before its time.
     pauses: usize,
+    // The board's stillness when the worker last went on.
+    stillness: Option<u64>,
 }
 
 // Marks what an event reports.
@@ -64,50 +75,85 @@ impl RealRest {
             post,
             moves: 0,
             pauses: 0,
+            stillness: None,
         }
     }
 
-    // Waits at most so long, and marks what is ready.
-    fn wait(&mut self, milliseconds: u64) {
+    // Waits at most so long, and marks what is ready. Whether anything is.
+    fn wait(&mut self, milliseconds: u64) -> bool {
         let most = Some(Duration::from_millis(milliseconds));
         let _ = self.poll.poll(&mut self.events, most);
+        let mut ready = false;
         for event in self.events.iter() {
             mark(&self.post.cells, event);
+            ready = true;
+        }
+        ready
+    }
+
+    // Whether no other worker made a call since the worker last went on.
+    fn is_still(&self) -> bool {
+        match self.post.stillness() {
+            None => false,
+            Some(now) => self.stillness == Some(now),
         }
     }
 
     // How long the next wait may be, in milliseconds.
     fn patience(&self) -> u64 {
+        let holding = self.post.cells.is_holding();
+        if holding && self.pauses < HURRIES {
+            return 0;
+        }
+        if !holding && self.is_still() {
+            return LONGEST;
+        }
         match FIRST.get(self.pauses) {
             Some(wait) => *wait,
-            None => LONGEST,
+            None => NEXT,
+        }
+    }
+
+    // The same where the door may have left a connection to a worker that hasn't looked yet.
+    fn next_wait(&self) -> u64 {
+        let most = self.patience();
+        if self.post.is_leaving() {
+            most.min(LEAVING)
+        } else {
+            most
         }
     }
 }
 
 impl Rest for RealRest {
     fn pause(&mut self) {
-        self.post.tell();
-        let mut most = self.patience();
-        if most == LONGEST {
-            self.post.cells.add(DOOR, READABLE);
+        self.post.tell_begun();
+        let most = self.next_wait();
+        let due = self.post.begin_wait();
+        let ready = self.wait(if due { 0 } else { most });
+        let woken = self.post.end_wait();
+        if due || ready || woken {
+            self.pauses = 0;
+        } else {
+            self.pauses = self.pauses.saturating_add(1);
+            if most == LONGEST {
+                self.post.ask_door();
+            }
         }
-        if self.post.begin_wait() {
-            most = 0;
-        }
-        self.wait(most);
-        self.post.end_wait();
-        self.pauses = self.pauses.saturating_add(1);
+        self.post.age();
+        self.stillness = self.post.stillness();
     }
 
     fn moved(&mut self) {
-        self.post.tell();
+        self.post.tell((self.moves % LOOK) == 0);
         self.pauses = 0;
+        self.stillness = self.post.stillness();
         self.moves = self.moves.wrapping_add(1);
         if self.moves % LOOK_AT_DOOR == 0 {
-            self.post.cells.add(DOOR, READABLE);
+            self.post.ask_door();
         }
         if self.moves % LOOK == 0 {
+            self.post.age();
             self.wait(0);
         }
     }

@@ -1,0 +1,87 @@
+//! What a link took and the system didn't yet.
+
+use std::alloc::Global;
+
+/// As many bytes as are kept at most.
+const MOST: usize = 65_536;
+
+/// From so many on they are handed on at once, so that another piece has room after them.
+const FULL: usize = 49_152;
+
+/// After so many times in a row with few bytes their memory is given back.
+const FEW_TIMES: u32 = 64;
+
+/// So many bytes are few. Where there was never more memory than for these, it is given back each time.
+const FEW: usize = 8_192;
+
+/// The bytes of pieces that a link took, in order, that the system didn't take yet.
+#[derive(Drop)]
+pub(crate) struct Outbox {
+    alloc: Global,
+    bytes: Vec<u8>,
+    // So many of the first the system took.
+    gone: usize,
+    // So many times in a row there were few.
+    few: u32,
+}
+
+impl Outbox {
+    /// Nothing is kept.
+    pub(crate) fn new(alloc: Global) -> Outbox {
+        Outbox {
+            alloc,
+            bytes: Vec::new(alloc),
+            gone: 0,
+            few: 0,
+        }
+    }
+
+    pub(crate) fn is_empty(&self) -> bool {
+        self.bytes.is_empty()
+    }
+
+    /// Whether what is kept is to be handed on before more comes.
+    pub(crate) fn is_full(&self) -> bool {
+        self.bytes.len() >= FULL
+    }
+
+    /// Keeps the whole piece, or nothing of it where there is no room or no memory.
+    pub(crate) fn keep(&mut self, piece: &[u8]) -> bool {
+        if self.bytes.len().saturating_add(piece.len()) > MOST {
+            return false;
+        }
+        self.bytes.extend_from_slice(piece).is_ok()
+    }
+
+    /// The bytes that the system didn't take.
+    pub(crate) fn left(&self) -> &[u8] {
+        match self.bytes.get(self.gone..) {
+            Some(left) => left,
+            None => &[],
+        }
+    }
+
+    /// The system took so many of them.
+    pub(crate) fn take(&mut self, count: usize) {
+        self.gone = self.gone.saturating_add(count);
+        if self.gone >= self.bytes.len() {
+            self.forget();
+        }
+    }
+
+    /// Keeps nothing more.
+    pub(crate) fn forget(&mut self) {
+        self.few = if self.bytes.len() <= FEW {
+            self.few.saturating_add(1)
+        } else {
+            0
+        };
+        self.gone = 0;
+        if self.few >= FEW_TIMES || self.bytes.capacity() <= FEW {
+            self.bytes = Vec::new(self.alloc);
+            self.few = 0;
+        } else {
+            self.bytes.clear();
+        }
+    }
+}
