@@ -1,5 +1,6 @@
 pub mod Counting
 pub mod Walking
+pub mod Rising
 pub mod Windows
 pub mod Growing
 pub mod Together

@@ -6,7 +6,7 @@ use Rattle.stream_model.specs.declared.calls.Call.{Call}
 use Rattle.stream_model.specs.declared.calls.Call.TheVariants as call
 use Rattle.stream_model.specs.declared.calls.Entry.{Entry}
 use Rattle.session_owed.specs.Dialogue.{Dialogue}
-use Rattle.session_owed.specs.Talk.{Own, is_take, makes, talk}
+use Rattle.session_owed.specs.Talk.{Own, is_take, makes}
 use Rattle.session_owed.specs.Talks.{Talks, entries_of}
 use Rattle.session_owed.specs.Published.{published, pushed, pushed_by, pushed_in, unit_of}
 

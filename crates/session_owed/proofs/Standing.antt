@@ -189,9 +189,9 @@ module _ {S : Type 0} (d : Dialogue S) where
       }
 
   -- A TAKE IS ANSWERED
-  pub stands_take : (p : Past) (k : Keeps S) (e : Entry) (r : Reply) → hand_bytes ≤ length p.x → p.kept ≡ None → e.at ≡ length p.x → is_take e.call ≡ true → Stands d p k
+  pub stands_take : (p : Past) (k : Keeps S) (e : Entry) (r : Reply) → hand_bytes ≤ length p.x → p.kept ≡ None → e.at ≡ length p.x → is_take e.call ≡ true → d.plays k.state ≡ true → Stands d p k
       → Stands d (with_call p e r) (says_more k (item_of d k.state (e, r)))
-  stands_take p k e r h kn a tk s =
+  stands_take p k e r h kn a tk pl s =
       let n = count_of d p.x in
       let t : Talks d n p.ms p.calls None = subst (λ v. Talks d n p.ms p.calls v) kn s.talks in
       let D = p.calls ++ (e, r) ∷ [] in
@@ -202,7 +202,7 @@ module _ {S : Type 0} (d : Dialogue S) where
       let o : owed d n p.ms D ≡ owed d n p.ms p.calls ++ more = owed_item d n p.ms p.calls c t at ∙ ap (λ v. owed d n p.ms p.calls ++ item_of d v c) (sym s.state) in
       record {
         early = λ l. absurd (omega arith);
-        talks = talks_take d n p.ms p.calls c t at tk;
+        talks = talks_take d n p.ms p.calls c t at tk (ap d.plays (sym s.state) ∙ pl);
         owes = sym (append_assoc p.sent k.pending (written k.writer more)) ∙ ap (λ l. l ++ written k.writer more) s.owes ∙ ap (λ w. out d p.x p.ms p.calls ++ written w more) s.writer
             ∙ sym (out_more d p.x p.x p.ms p.ms p.calls D more refl o);
         writer = ap (λ w. after_all w more) s.writer ∙ sym (writer_more d p.x p.x p.ms p.ms p.calls D more o);

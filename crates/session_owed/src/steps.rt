@@ -52,9 +52,9 @@ pub fn reply_step<S>()
         → Stands d (with_call p e r) (answered_so k (d.told k.state r)) }
 {}
 
-/// A Take is answered.
+/// A Take is answered, where a play is granted.
 pub fn item_step<S>()
     ensures { (d : Dialogue S) (p : Past) (k : Keeps S) (e : Entry) (r : Reply)
-        → hand_bytes ≤ length p.x → p.kept ≡ None → e.at ≡ length p.x → is_take e.call ≡ true → Stands d p k
+        → hand_bytes ≤ length p.x → p.kept ≡ None → e.at ≡ length p.x → is_take e.call ≡ true → d.plays k.state ≡ true → Stands d p k
         → Stands d (with_call p e r) (says_more k (item_of d k.state (e, r))) }
 {}

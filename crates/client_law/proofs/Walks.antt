@@ -1,0 +1,307 @@
+-- The dialogue of a session over the messages of a client that publishes
+use Rattle.std.proofs.Common.{◌≡◌, ◌≢◌, ℕ, ◌+◌, ◌<◌, ◌≤◌, ◌^◌, ◌⊎◌, inl, inr, Bool, true, false, if◌then◌else◌, List, [], ◌∷◌, ◌++◌, length, Option, Some, None, refl, sym, ap, ◌∙◌, subst, arith, append-nil, append_assoc}
+use Rattle.std.proofs.lemmas.Bool.{cases_eq}
+use Rattle.av_unit.specs.Classes.{unit_from}
+use Rattle.av_unit.specs.Media.{Media}
+use Rattle.amf0_value.specs.Pattern.{pattern}
+use Rattle.chunk_wire.specs.declared.message.Message.{Message}
+use Rattle.rtmp_command.specs.declared.answer.Why.{Why}
+use Rattle.rtmp_command.specs.declared.answer.Why.TheVariants as why
+use Rattle.rtmp_command.specs.declared.answer.Answer.TheVariants as answer
+use Rattle.command_dialog.specs.declared.types.Ask.{Ask}
+use Rattle.command_dialog.specs.declared.types.Grant.{Grant}
+use Rattle.command_dialog.specs.declared.types.Grant.TheVariants as grant
+use Rattle.command_dialog.specs.declared.types.Act.TheVariants as act
+use Rattle.command_dialog.specs.declared.types.Role.TheVariants as role
+use Rattle.command_dialog.specs.declared.types.Phase.TheVariants as phase
+use Rattle.command_dialog.specs.State.{State, fresh, with_phase}
+use Rattle.command_dialog.specs.Words.{app_in}
+use Rattle.command_dialog.specs.Dialog as dialog
+use Rattle.stream_model.specs.declared.calls.Call.TheVariants as call
+use Rattle.stream_model.specs.declared.calls.Entry.{Entry}
+use Rattle.stream_model.specs.declared.replies.Reply.{Reply}
+use Rattle.stream_model.specs.declared.replies.Reply.TheVariants as reply
+use Rattle.session_owed.specs.Dialogue.{Dialogue, Step, Told}
+use Rattle.session_owed.specs.Published.{pushed, unit_of}
+use Rattle.session_owed.specs.Talk.{Own, Talk, calling, does_at, entry_of, goes, one, reply_at, resumed, started, told_of, walk}
+use Rattle.session_owed.specs.Talk as talking
+use Rattle.relay_session.specs.Session.{does, session, told}
+use Rattle.client_owed.specs.declared.types.Wish.{Wish}
+use Rattle.client_owed.specs.declared.types.Asked.{Asked}
+use Rattle.client_owed.specs.declared.types.Gave.{Gave}
+use Rattle.client_owed.specs.declared.types.Given.{Given}
+use Rattle.client_owed.specs.declared.types.Given.TheVariants.{Finish, Send}
+use Rattle.client_owed.specs.Client.{ask, connect, create_stream, delete_stream}
+use Rattle.client_owed.specs.Owed.{EndsAt, Follow, MayGive, sent_on}
+use Rattle.client_law.specs.Loud.{Every, EverySaid, bare, listed, sents, unit_in, units}
+use Rattle.client_law.proofs.Alike.{said_join}
+use Rattle.client_law.proofs.Steps.{Silent, asking, ask_of, ask_does, ask_passed, connect_does, create_does, idle, idle_delete, idle_media, live, live_delete, live_media, pushes}
+
+pushed_more : (es : List Entry) (e : Entry) → pushed (es ++ e ∷ []) ≡ pushed es ++ unit_of e.call
+unfolding pushed
+pushed_more [] e = append-nil (unit_of e.call)
+pushed_more (x ∷ es) e = ap (λ l. unit_of x.call ++ l) (pushed_more es e) ∙ sym (append_assoc (unit_of x.call) (pushed es) (unit_of e.call))
+
+head_bare : (m : Message) (ms : List Message) (r : ℕ × Message) (R : List (ℕ × Message)) → bare (r ∷ R) ≡ m ∷ ms → (r.1 ≡ m) × (bare R ≡ ms)
+unfolding bare
+head_bare m ms r R e = (cc, cc)
+
+none_bare : (m : Message) (ms : List Message) → bare [] ≡ m ∷ ms → ⊥
+unfolding bare
+none_bare m ms e = cc
+
+bare_some : (r : ℕ × Message) (R : List (ℕ × Message)) → bare (r ∷ R) ≡ [] → ⊥
+unfolding bare
+bare_some r R b = cc
+
+no_more : (R : List (ℕ × Message)) → bare R ≡ sents 1 [] → R ≡ []
+unfolding bare sents
+no_more [] b = refl
+no_more (x ∷ R) b = absurd cc
+
+none_left : (id : ℕ) (R : List (ℕ × Message)) → bare R ≡ sents id [] → R ≡ []
+unfolding bare sents
+none_left id [] b = refl
+none_left id (x ∷ R) b = absurd cc
+
+module _ (Q : Message → Type 0) (desk : Ask → Grant) (who window : ℕ) where
+  abbrev d : Dialogue State
+  d = session who window desk
+
+  -- ---- where a call waits
+
+  pub stuck_walk : (C : List Own) (t : Talk State) (ms : List (ℕ × Message)) → t.stuck ≡ true → walk d C t ms ≡ t
+  unfolding walk one
+  stuck_walk C t [] e = refl
+  stuck_walk C t (m ∷ ms) e =
+      let w : one d C t m ≡ t = ap (λ b. if b then t else does_at d C m.0 t (d.does t.state m.1)) e in
+      ap (λ u. walk d C u ms) w ∙ stuck_walk C t ms e
+
+  not_both : (b : Bool) → b ≡ true → b ≡ false → ⊥
+  not_both b e f = cc
+
+  by_bool : (b : Bool) → (b ≡ true) ⊎ (b ≡ false)
+  by_bool true = inl refl
+  by_bool false = inr refl
+
+  pub unstuck : (C : List Own) (t : Talk State) (ms : List (ℕ × Message)) → (walk d C t ms).stuck ≡ false → t.stuck ≡ false
+  unstuck C t ms e = by_stuck (by_bool t.stuck)
+    where
+      by_stuck : (t.stuck ≡ true) ⊎ (t.stuck ≡ false) → t.stuck ≡ false
+      by_stuck (inl q) = absurd (not_both t.stuck q (ap (λ (u : Talk State). u.stuck) (sym (stuck_walk C t ms q)) ∙ e))
+      by_stuck (inr q) = q
+
+  -- one message, where none waits
+  pub one_open : (C : List Own) (t : Talk State) (m : ℕ × Message) (x : Message) (s : State) (v : Step State) → t.stuck ≡ false → t.state ≡ s → m.1 ≡ x → does desk s x ≡ v → one d C t m ≡ goes d C m.0 (started d m.0 t v) v.makes
+  unfolding one
+  one_open C t m x s v f st mx e =
+      let w : d.does t.state m.1 ≡ v = ap (λ q. d.does q m.1) st ∙ ap (d.does s) mx ∙ e in
+      ap (λ b. if b then t else does_at d C m.0 t (d.does t.state m.1)) f ∙ ap (λ q. goes d C m.0 (started d m.0 t q) q.makes) w
+
+  walk_none : (C : List Own) (t : Talk State) → pushed (walk d C t []).made ≡ pushed t.made
+  unfolding walk
+  walk_none C t = refl
+
+  walk_first : (C : List Own) (t : Talk State) (r : ℕ × Message) (R : List (ℕ × Message)) → walk d C t (r ∷ R) ≡ walk d C (one d C t r) R
+  unfolding walk
+  walk_first C t r R = refl
+
+  -- ---- it publishes
+
+  told_live : (app : List ℕ) (r : Reply) → (told (live window app) r).state ≡ live window app
+  unfolding told dialog.told
+  told_live app r = refl
+
+  -- after a tag: it publishes on, with its unit
+  record Pushed (app : List ℕ) (l : List Media) (t u : Talk State) : Type 0 where
+    state : u.state ≡ live window app
+    made : pushed u.made ≡ pushed t.made ++ l
+
+  tag_made : (C : List Own) (o : ℕ) (app : List ℕ) (t : Talk State) (m : Option Media) (rest : List (ℕ × Message))
+      → (walk d C (goes d C o (started d o t (record { state = live window app; says = []; makes = Rattle.std.proofs.Common.option_map dialog.call_of (Rattle.std.proofs.Common.option_map act.Push m) })) (Rattle.std.proofs.Common.option_map dialog.call_of (Rattle.std.proofs.Common.option_map act.Push m))) rest).stuck ≡ false
+      → Pushed app (listed m) t (goes d C o (started d o t (record { state = live window app; says = []; makes = Rattle.std.proofs.Common.option_map dialog.call_of (Rattle.std.proofs.Common.option_map act.Push m) })) (Rattle.std.proofs.Common.option_map dialog.call_of (Rattle.std.proofs.Common.option_map act.Push m)))
+  tag_made C o app t None rest e = record { state = refl; made = sym (append-nil (pushed t.made)) }
+  tag_made C o app t (Some u) rest e = by_reply (reply_at o C) e
+    where
+      t' : Talk State
+      t' = calling d o (started d o t (record { state = live window app; says = []; makes = Some (call.Push u) })) (call.Push u)
+
+      by_reply : (r : Option Reply) → (walk d C (resumed d o t' r) rest).stuck ≡ false → Pushed app (u ∷ []) t (resumed d o t' r)
+      by_reply None f = absurd (not_both true refl (unstuck C t' rest f))
+      by_reply (Some r) f = record { state = told_live app r; made = pushed_more t.made (entry_of d o (call.Push u)) }
+
+  finish_made : (C : List Own) (o : ℕ) (t : Talk State) (s : Step State) → s.makes ≡ Some call.End → pushed (goes d C o (started d o t s) s.makes).made ≡ pushed t.made
+  finish_made C o t s e = ap (λ c. pushed (goes d C o (started d o t s) c).made) e ∙ by_reply (reply_at o C)
+    where
+      by_reply : (r : Option Reply) → pushed (resumed d o (calling d o (started d o t s) call.End) r).made ≡ pushed t.made
+      by_reply None = pushed_more t.made (entry_of d o call.End) ∙ append-nil (pushed t.made)
+      by_reply (Some r) = pushed_more t.made (entry_of d o call.End) ∙ append-nil (pushed t.made)
+
+  -- EACH TAG IS THE MESSAGE WHOSE UNIT IS PUBLISHED
+  pub tags_walk : (w : Wish) (max from to : ℕ) (C : List Own) (app : List ℕ) (T : List Gave) (R : List (ℕ × Message)) (t : Talk State) → t.state ≡ live window app → bare R ≡ sents 1 T → Follow w max from to T
+      → (walk d C t R).stuck ≡ false → pushed (walk d C t R).made ≡ pushed t.made ++ units T
+  unfolding sents units
+  tags_walk w max from to C app [] [] t st b f e = walk_none C t ∙ sym (append-nil (pushed t.made))
+  tags_walk w max from to C app [] (r ∷ R) t st b f e = absurd (bare_some r R b)
+  tags_walk w max from to C app (g ∷ T) [] t st b f e = absurd (none_bare (sent_on 1 g.given) (sents 1 T) b)
+  tags_walk w max from to C app (g ∷ T) (r ∷ R) t st b f e =
+      by_given g.given (head_bare (sent_on 1 g.given) (sents 1 T) r R b).0 f.1 f.2 (head_bare (sent_on 1 g.given) (sents 1 T) r R b).1 (λ u su eu. tags_walk w max g.at to C app T R u su (head_bare (sent_on 1 g.given) (sents 1 T) r R b).1 f.3 eu) e
+    where
+      by_given : (x : Given) → r.1 ≡ sent_on 1 x → MayGive w max x → EndsAt x T → bare R ≡ sents 1 T
+          → ((u : Talk State) → u.state ≡ live window app → (walk d C u R).stuck ≡ false → pushed (walk d C u R).made ≡ pushed u.made ++ units T)
+          → (walk d C t (r ∷ R)).stuck ≡ false → pushed (walk d C t (r ∷ R)).made ≡ pushed t.made ++ (unit_in x ++ units T)
+      by_given (Send tag) rx may ends br ih e =
+          let v : Step State = record { state = live window app; says = []; makes = pushes desk tag.kind tag.time tag.body } in
+          let u = goes d C r.0 (started d r.0 t v) v.makes in
+          let o : one d C t r ≡ u = one_open C t r (sent_on 1 (Send tag)) (live window app) v (unstuck C t (r ∷ R) e) st rx (live_media desk window tag.time tag.kind app tag.body may.1) in
+          let whole : walk d C t (r ∷ R) ≡ walk d C u R = walk_first C t r R ∙ ap (λ q. walk d C q R) o in
+          let goes_on : (walk d C u R).stuck ≡ false = ap (λ (q : Talk State). q.stuck) (sym whole) ∙ e in
+          let p = tag_made C r.0 app t (unit_from tag.kind tag.time tag.body) R goes_on in
+          ap (λ (q : Talk State). pushed q.made) whole ∙ ih u p.state goes_on ∙ ap (λ l. l ++ units T) p.made ∙ append_assoc (pushed t.made) (listed (unit_from tag.kind tag.time tag.body)) (units T)
+      by_given Finish rx may ends br ih e =
+          let v : Step State = record { state = idle window app []; says = []; makes = Some call.End } in
+          let u = goes d C r.0 (started d r.0 t v) v.makes in
+          let o : one d C t r ≡ u = one_open C t r (delete_stream 1) (live window app) v (unstuck C t (r ∷ R) e) st rx (live_delete desk window app) in
+          let none : R ≡ [] = no_more R (br ∙ ap (sents 1) ends) in
+          ap (λ (q : Talk State). pushed q.made) (walk_first C t r R ∙ ap (λ q. walk d C q R) o ∙ ap (walk d C u) none) ∙ walk_none C u ∙ finish_made C r.0 t v refl
+          ∙ sym (append-nil (pushed t.made)) ∙ ap (λ l. pushed t.made ++ units l) (sym ends)
+
+  -- ---- it publishes nothing
+
+  silent_made : (C : List Own) (o : ℕ) (t : Talk State) (v : Step State) → Silent desk v → EverySaid Q t.said → EverySaid Q (goes d C o (started d o t v) v.makes).said
+  silent_made C o t v s h =
+      subst (λ c. EverySaid Q (goes d C o (started d o t v) c).said) (sym s.makes) (said_join Q t.said (o, v.says) h (subst (Every Q) (sym s.says) tt))
+
+  -- WHERE NOTHING IS PUBLISHED nothing more is said
+  pub idle_walk : (w : Wish) (max from to id : ℕ) (C : List Own) (app : List ℕ) (T : List Gave) (R : List (ℕ × Message)) (t : Talk State) → t.state ≡ idle window app (1 ∷ []) → pattern id < 2 ^ 64 → bare R ≡ sents id T
+      → Follow w max from to T → EverySaid Q t.said → EverySaid Q (walk d C t R).said
+  unfolding sents walk
+  idle_walk w max from to id C app T [] t st p b f h = h
+  idle_walk w max from to id C app [] (r ∷ R) t st p b f h = absurd (bare_some r R b)
+  idle_walk w max from to id C app (g ∷ T) (r ∷ R) t st p b f h =
+      let hb = head_bare (sent_on id g.given) (sents id T) r R b in
+      by_stuck g.given hb.0 f.1 f.2 hb.1 (λ u su hu. idle_walk w max g.at to id C app T R u su p hb.1 f.3 hu) (by_bool t.stuck)
+    where
+      by_stuck : (x : Given) → r.1 ≡ sent_on id x → MayGive w max x → EndsAt x T → bare R ≡ sents id T → ((u : Talk State) → u.state ≡ idle window app (1 ∷ []) → EverySaid Q u.said → EverySaid Q (walk d C u R).said)
+          → (t.stuck ≡ true) ⊎ (t.stuck ≡ false) → EverySaid Q (walk d C t (r ∷ R)).said
+      by_stuck x rx may ends br ih (inl q) = subst (λ (u : Talk State). EverySaid Q u.said) (sym (stuck_walk C t (r ∷ R) q)) h
+      by_stuck (Send tag) rx may ends br ih (inr q) =
+          let v : Step State = record { state = idle window app (1 ∷ []); says = []; makes = None } in
+          let u = started d r.0 t v in
+          let o : one d C t r ≡ u = one_open C t r (sent_on id (Send tag)) (idle window app (1 ∷ [])) v q st rx (idle_media desk window id tag.time tag.kind app (1 ∷ []) tag.body may.1) in
+          subst (λ (y : Talk State). EverySaid Q (walk d C y R).said) (sym o) (ih u refl (said_join Q t.said (r.0, []) h tt))
+      by_stuck Finish rx may ends br ih (inr q) =
+          let v : Step State = does desk (idle window app (1 ∷ [])) (delete_stream id) in
+          let u = goes d C r.0 (started d r.0 t v) v.makes in
+          let o : one d C t r ≡ u = one_open C t r (delete_stream id) (idle window app (1 ∷ [])) v q st rx refl in
+          let none : R ≡ [] = none_left id R (br ∙ ap (sents id) ends) in
+          subst (λ (y : Talk State). EverySaid Q (walk d C y R).said) (sym o) (subst (λ (l : List (ℕ × Message)). EverySaid Q (walk d C u l).said) (sym none) (silent_made C r.0 t v (idle_delete desk window id app p) h))
+
+  -- ---- the three commands
+
+  -- what comes of them: all that is said has this property, or the units of the tags are published, if no call waits
+  abbrev pub Outcome : ℕ → List Gave → Talk State → Type 0
+  Outcome id T t = EverySaid Q t.said ⊎ ((id ≡ 1) × (t.stuck ≡ false → pushed t.made ≡ units T))
+
+  abbrev asked_state : List ℕ → State
+  asked_state app = with_phase (idle window app (1 ∷ [])) (phase.Asked role.Publish 1)
+
+  abbrev denied : List ℕ → Told State
+  denied app = record { state = idle window app (1 ∷ []); says = dialog.answers 1 (answer.PublishRefused why.InUse) ∷ [] }
+
+  abbrev begun : List ℕ → Told State
+  begun app = record { state = live window app; says = dialog.answers 1 answer.PublishStart ∷ [] }
+
+  answered_so : (app : List ℕ) (r : Reply) → (told (asked_state app) r ≡ begun app) ⊎ (told (asked_state app) r ≡ denied app)
+  unfolding told dialog.told
+  answered_so app (reply.Began n) = inl refl
+  answered_so app (reply.InUse by) = inr refl
+  answered_so app (reply.Pushed n) = inr refl
+  answered_so app (reply.NotPublisher n) = inr refl
+  answered_so app (reply.Ended n) = inr refl
+  answered_so app (reply.Joined player from) = inr refl
+  answered_so app reply.Full = inr refl
+  answered_so app reply.NotPlayer = inr refl
+  answered_so app (reply.Sent from n item) = inr refl
+  answered_so app (reply.Skip from to) = inr refl
+  answered_so app (reply.NotYet end) = inr refl
+  answered_so app (reply.Left player) = inr refl
+  answered_so app (reply.Counts a b c e f) = inr refl
+
+  module _ (refused : (w : Why) → Q (dialog.answers 1 (answer.PublishRefused w))) (w : Wish) (max from to : ℕ) (C : List Own) (app name : List ℕ) (T : List Gave) (f : Follow w max from to T) where
+    abbrev publish : ℕ → Message
+    publish id = record { kind = 20; stream = id; time = 0; body = Rattle.amf0_value.specs.Encoding.items_spelling (Rattle.client_owed.specs.Client.asks Rattle.client_owed.specs.declared.types.Wish.TheVariants.Push name) }
+
+    -- nothing is published
+    idle_outcome : (id : ℕ) (R : List (ℕ × Message)) (u : Talk State) → u.state ≡ idle window app (1 ∷ []) → pattern id < 2 ^ 64 → bare R ≡ sents id T → EverySaid Q u.said → Outcome id T (walk d C u R)
+    idle_outcome id R u st p b h = inl (idle_walk w max from to id C app T R u st p b f h)
+
+    told_outcome : (R : List (ℕ × Message)) (o : ℕ) (t : Talk State) (r : Told State) → pattern 1 < 2 ^ 64 → bare R ≡ sents 1 T → EverySaid Q t.said → pushed t.made ≡ [] → (r ≡ begun app) ⊎ (r ≡ denied app)
+        → Outcome 1 T (walk d C (told_of d o t r) R)
+    told_outcome R o t r p b h m (inl e) =
+        subst (λ (y : Told State). Outcome 1 T (walk d C (told_of d o t y) R)) (sym e)
+        (inr (refl, λ q. tags_walk w max from to C app T R (told_of d o t (begun app)) refl b f q ∙ ap (λ l. l ++ units T) m))
+    told_outcome R o t r p b h m (inr e) =
+        subst (λ (y : Told State). Outcome 1 T (walk d C (told_of d o t y) R)) (sym e)
+        (idle_outcome 1 R (told_of d o t (denied app)) refl p b (said_join Q t.said (o, (denied app).says) h (refused why.InUse, tt)))
+
+    grant_outcome : (R : List (ℕ × Message)) (o : ℕ) (t : Talk State) (g : Grant) → pattern 1 < 2 ^ 64 → bare R ≡ sents 1 T → EverySaid Q t.said → pushed t.made ≡ []
+        → Outcome 1 T (walk d C (goes d C o (started d o t (asking desk window app g)) (asking desk window app g).makes) R)
+    grant_outcome R o t grant.NoName p b h m = idle_outcome 1 R (started d o t (asking desk window app grant.NoName)) refl p b (said_join Q t.said (o, (asking desk window app grant.NoName).says) h (refused why.NoName, tt))
+    grant_outcome R o t grant.Refused p b h m = idle_outcome 1 R (started d o t (asking desk window app grant.Refused)) refl p b (said_join Q t.said (o, (asking desk window app grant.Refused).says) h (refused why.Refused, tt))
+    grant_outcome R o t (grant.Place place) p b h m = by_reply (reply_at o C)
+      where
+        t' : Talk State
+        t' = calling d o (started d o t (asking desk window app (grant.Place place))) call.Begin
+
+        made : pushed t'.made ≡ []
+        made = pushed_more t.made (entry_of d o call.Begin) ∙ append-nil (pushed t.made) ∙ m
+
+        by_reply : (r : Option Reply) → Outcome 1 T (walk d C (resumed d o t' r) R)
+        by_reply None = inl (subst (λ (u : Talk State). EverySaid Q u.said) (sym (stuck_walk C t' R refl)) (said_join Q t.said (o, []) h tt))
+        by_reply (Some r) = told_outcome R o t' (told (asked_state app) r) p b (said_join Q t.said (o, []) h tt) made (answered_so app r)
+
+    ask_outcome : (id : ℕ) (r : ℕ × Message) (R : List (ℕ × Message)) (t : Talk State) → length name < 2 ^ 16 → pattern id < 2 ^ 64 → t.state ≡ idle window app (1 ∷ []) → t.stuck ≡ false → r.1 ≡ publish id → bare R ≡ sents id T
+        → EverySaid Q t.said → pushed t.made ≡ [] → Outcome id T (walk d C t (r ∷ R))
+    ask_outcome id r R t l p st q rx b h m = by_id (cases_eq 1 id)
+      where
+        by_id : ((1 ≡ id) ⊎ (1 ≡ id → ⊥)) → Outcome id T (walk d C t (r ∷ R))
+        by_id (inr ne) =
+            let v : Step State = record { state = idle window app (1 ∷ []); says = []; makes = None } in
+            let u = started d r.0 t v in
+            let o : one d C t r ≡ u = one_open C t r (publish id) (idle window app (1 ∷ [])) v q st rx (ask_passed desk window id app name l ne) in
+            subst (λ (y : Talk State). Outcome id T y) (sym (walk_first C t r R ∙ ap (λ y. walk d C y R) o)) (idle_outcome id R u refl p b (said_join Q t.said (r.0, []) h tt))
+        by_id (inl e) =
+            let v = asking desk window app (desk (ask_of desk app name)) in
+            let u = goes d C r.0 (started d r.0 t v) v.makes in
+            let rx1 : r.1 ≡ publish 1 = rx ∙ ap publish (sym e) in
+            let b1 : bare R ≡ sents 1 T = b ∙ ap (λ (i : ℕ). sents i T) (sym e) in
+            let p1 : pattern 1 < 2 ^ 64 = subst (λ (i : ℕ). pattern i < 2 ^ 64) (sym e) p in
+            let o : one d C t r ≡ u = one_open C t r (publish 1) (idle window app (1 ∷ [])) v q st rx1 (ask_does desk window app name l) in
+            subst (λ (i : ℕ). Outcome i T (walk d C t (r ∷ R))) e (subst (λ (y : Talk State). Outcome 1 T y) (sym (walk_first C t r R ∙ ap (λ y. walk d C y R) o)) (grant_outcome R r.0 t (desk (ask_of desk app name)) p1 b1 h m))
+
+  -- THE WHOLE DIALOGUE over the messages of a client that has started
+  pub push_walk : Every Q (dialog.connected window (pattern 1)) → Q (dialog.answers 0 (answer.Created (pattern 2) 1)) → ((w : Why) → Q (dialog.answers 1 (answer.PublishRefused w)))
+      → (k : Asked) (max from to id : ℕ) (C : List Own) (T : List Gave) (L : List (ℕ × Message)) → length k.app < 2 ^ 16 → length k.name < 2 ^ 16 → pattern id < 2 ^ 64 → k.wish ≡ Rattle.client_owed.specs.declared.types.Wish.TheVariants.Push
+      → Follow k.wish max from to T → bare L ≡ connect k ∷ create_stream ∷ ask k id ∷ sents id T → Outcome id T (walk d C (talking.fresh d) L)
+  unfolding pushed
+  push_walk yes1 yes2 refused k max from to id C T [] a n p w f b = absurd (none_bare (connect k) (create_stream ∷ ask k id ∷ sents id T) b)
+  push_walk yes1 yes2 refused k max from to id C T (l1 ∷ []) a n p w f b = absurd (none_bare create_stream (ask k id ∷ sents id T) (head_bare (connect k) (create_stream ∷ ask k id ∷ sents id T) l1 [] b).1)
+  push_walk yes1 yes2 refused k max from to id C T (l1 ∷ l2 ∷ []) a n p w f b =
+      absurd (none_bare (ask k id) (sents id T) (head_bare create_stream (ask k id ∷ sents id T) l2 [] (head_bare (connect k) (create_stream ∷ ask k id ∷ sents id T) l1 (l2 ∷ []) b).1).1)
+  push_walk yes1 yes2 refused k max from to id C T (l1 ∷ l2 ∷ l3 ∷ R) a n p w f b =
+      let app = app_in k.app in
+      let b1 = head_bare (connect k) (create_stream ∷ ask k id ∷ sents id T) l1 (l2 ∷ l3 ∷ R) b in
+      let b2 = head_bare create_stream (ask k id ∷ sents id T) l2 (l3 ∷ R) b1.1 in
+      let b3 = head_bare (ask k id) (sents id T) l3 R b2.1 in
+      let v1 : Step State = record { state = idle window app []; says = dialog.connected window (pattern 1); makes = None } in
+      let t1 = started d l1.0 (talking.fresh d) v1 in
+      let o1 : one d C (talking.fresh d) l1 ≡ t1 = one_open C (talking.fresh d) l1 (connect k) (fresh window) v1 refl refl b1.0 (connect_does desk window k a) in
+      let v2 : Step State = record { state = idle window app (1 ∷ []); says = dialog.answers 0 (answer.Created (pattern 2) 1) ∷ []; makes = None } in
+      let t2 = started d l2.0 t1 v2 in
+      let o2 : one d C t1 l2 ≡ t2 = one_open C t1 l2 create_stream (idle window app []) v2 refl refl b2.0 (create_does desk window app) in
+      let x3 : l3.1 ≡ record { kind = 20; stream = id; time = 0; body = Rattle.amf0_value.specs.Encoding.items_spelling (Rattle.client_owed.specs.Client.asks Rattle.client_owed.specs.declared.types.Wish.TheVariants.Push k.name) } =
+      b3.0 ∙ ap (λ (q : Wish). Rattle.client_owed.specs.Client.command id (Rattle.client_owed.specs.Client.asks q k.name)) w in
+      let go : walk d C (talking.fresh d) (l1 ∷ l2 ∷ l3 ∷ R) ≡ walk d C t2 (l3 ∷ R) =
+      walk_first C (talking.fresh d) l1 (l2 ∷ l3 ∷ R) ∙ ap (λ y. walk d C y (l2 ∷ l3 ∷ R)) o1 ∙ walk_first C t1 l2 (l3 ∷ R) ∙ ap (λ y. walk d C y (l3 ∷ R)) o2 in
+      subst (λ (y : Talk State). Outcome id T y) (sym go) (ask_outcome refused k.wish max from to C app k.name T f id l3 R t2 n p refl refl x3 b3.1 (yes1, ((yes2, tt), tt)) refl)

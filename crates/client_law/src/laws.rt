@@ -1,0 +1,53 @@
+ghost use Rattle.std.specs.Prelude.{◌≡◌, ℕ, List, [], ◌∷◌, ◌++◌};
+ghost use Rattle.chunk_wire.specs.declared.message.Message.{Message};
+ghost use Rattle.client_owed.specs.declared.types.Asked.{Asked};
+ghost use Rattle.client_owed.specs.declared.types.Gave.{Gave};
+ghost use Rattle.client_owed.specs.Owed.{AreGiven, id_of, owed, phase_of};
+ghost use Rattle.client_owed.specs.declared.types.Wish.TheVariants.{Pull, Push};
+ghost use Rattle.command_dialog.specs.declared.types.Ask.{Ask};
+ghost use Rattle.command_dialog.specs.declared.types.Grant.{Grant};
+ghost use Rattle.av_unit.specs.declared.item.Item.{Item};
+ghost use Rattle.command_dialog.specs.Dialog.{shown};
+ghost use Rattle.client_law.specs.Pull.{HaveHeard, HavePlayed, IsTold, gift_of, gifts_in};
+ghost use Rattle.relay_session.specs.Session.{session};
+ghost use Rattle.session_owed.specs.Published.{published};
+ghost use Rattle.session_owed.specs.Talk.{Own};
+ghost use Rattle.client_law.specs.Laws.{HaveRead, HaveSent};
+ghost use Rattle.client_law.specs.Loud.{Rise, asked_by, loud, sents, units};
+
+/// But for control messages, what a client owes is the commands that its phase has called for, and then what it was given.
+pub fn order_law()
+    ensures { (k : Asked) (max n : ℕ) (ms : List (ℕ × Message)) (T : List Gave) → Rise 0 n ms → AreGiven k max n ms T
+        → loud (owed k n ms T) ≡ asked_by k (phase_of k ms) ++ sents (id_of (phase_of k ms)) T }
+{}
+
+/// What was given to a client that publishes is what its session publishes: the units of its tags, in order.
+pub fn push_law()
+    ensures { (k : Asked) (who window max n o : ℕ) (desk : Ask → Grant) (ns ms : List (ℕ × Message)) (g : Gave) (T : List Gave) (C : List Own)
+        → k.wish ≡ Push → HaveRead k (session who window desk) max n o ns ms (g ∷ T) C → published (session who window desk) ms C ≡ units (g ∷ T) }
+{}
+
+/// The same over bytes: where all that a client owes has come to a session, and the client has read the first of what the session owes, the
+/// session publishes the units of the tags that the client was given.
+pub fn push_bytes_law()
+    ensures { (k : Asked) (who window max : ℕ) (desk : Ask → Grant) (x y : List ℕ) (ms ns : List (ℕ × Message)) (g : Gave) (T : List Gave) (C : List Own)
+        → k.wish ≡ Push → HaveSent k (session who window desk) max x y ms ns (g ∷ T) C → published (session who window desk) ms C ≡ units (g ∷ T) }
+{}
+
+/// The messages that a player is shown of an item tell a client that plays this item, and nothing else.
+pub fn item_law()
+    ensures { (id : ℕ) (i : Item) → gifts_in id (shown id i) ≡ gift_of i ∷ [] }
+{}
+
+/// What a client that plays was told begins the items that its session was sent, in order: none is told twice, left out or changed.
+pub fn pull_law()
+    ensures { (k : Asked) (who window max n o : ℕ) (desk : Ask → Grant) (ns ms : List (ℕ × Message)) (T : List Gave) (C : List Own)
+        → k.wish ≡ Pull → HaveHeard k (session who window desk) max n o ns ms T C → IsTold k ns C }
+{}
+
+/// The same over bytes: where each has read the first of what the other owes, the client was told the first of the items that the
+/// session was sent.
+pub fn pull_bytes_law()
+    ensures { (k : Asked) (who window max : ℕ) (desk : Ask → Grant) (x y : List ℕ) (ms ns : List (ℕ × Message)) (T : List Gave) (C : List Own)
+        → k.wish ≡ Pull → HavePlayed k (session who window desk) max x y ms ns T C → IsTold k ns C }
+{}

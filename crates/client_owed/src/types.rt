@@ -1,0 +1,69 @@
+use av_unit::Bytes;
+use flv_tags::Tag;
+
+/// What a client wants: to publish a stream, or to play it.
+#[derive(Debug, Clone, Copy, PartialEq, Eq, Drop)]
+pub enum Wish {
+    Push,
+    Pull,
+}
+
+/// The stream that is to be published or played. A name may carry a key after `?`.
+#[derive(Debug, PartialEq, Eq, Drop)]
+pub struct Asked {
+    pub wish: Wish,
+    pub app: Bytes,
+    pub name: Bytes,
+}
+
+/// Where the dialogue of a client stands.
+#[derive(Debug, Clone, Copy, PartialEq, Eq, Drop)]
+pub enum Phase {
+    /// `connect` was sent.
+    Connecting,
+    /// The server is connected, and `createStream` was sent.
+    Creating,
+    /// `publish` or `play` was sent on this message stream.
+    Asking(u32),
+    /// The server has said that this has started.
+    Started(u32),
+}
+
+/// What a command of a server makes known to a client.
+#[derive(Debug, PartialEq, Eq, Drop)]
+pub enum News {
+    /// The result of the command with this transaction, and the fourth value where it is a number; both are the patterns of
+    /// numbers.
+    Done {
+        transaction: u64,
+        number: Option<u64>,
+    },
+    /// The client is refused, with a code.
+    Refused(Bytes),
+    /// A status with its code, which is no error.
+    Status(Bytes),
+    /// Nothing that matters here.
+    Other,
+}
+
+/// What a client that publishes is given: a tag to send, or that no more will come.
+#[derive(Debug, PartialEq, Eq, Drop)]
+pub enum Given {
+    Send(Tag),
+    Finish,
+}
+
+/// What was given, with the count of all bytes that the client was fed by then.
+#[derive(Debug, PartialEq, Eq, Drop)]
+pub struct Gave {
+    pub at: u64,
+    pub given: Given,
+}
+
+/// What a client that plays is told: that the stream is published, or is no longer, or a tag of it.
+#[derive(Debug, PartialEq, Eq, Drop)]
+pub enum Gift {
+    Published,
+    Unpublished,
+    Tag(Tag),
+}

@@ -1,0 +1,11 @@
+pub mod Known
+pub mod Refusing
+pub mod Telling
+pub mod Owing
+pub mod Learning
+pub mod Keeping
+pub mod Bounds
+pub mod Feeding
+pub mod Turns
+pub mod Causes
+pub mod ClientState

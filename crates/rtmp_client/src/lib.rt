@@ -1,0 +1,25 @@
+//! A client of an RTMP server, which publishes a stream or plays it: from the bytes of its server to the bytes that it owes,
+//! and to what it is told of the stream.
+//!
+//! The section numbers are those of Adobe's RTMP 1.0.
+#![tactic(auto)]
+
+mod answers;
+mod client;
+mod core_fields;
+mod end;
+mod giving;
+mod held;
+mod input;
+mod known;
+mod learning;
+mod outgoing;
+mod spelled;
+mod steps;
+mod take_input;
+mod turn_steps;
+
+pub use client::Client;
+pub use core_fields::Core;
+pub use end::{ClientEnd, ClientTurn};
+pub use outgoing::Outgoing;
