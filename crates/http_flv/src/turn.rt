@@ -1,0 +1,12 @@
+use crate::HttpEnd;
+
+/// The answer of a turn.
+#[derive(Clone, Copy, Debug, PartialEq, Eq)]
+pub enum HttpTurn {
+    /// A byte was received or sent, or a call other than a Take that was answered NotYet was made.
+    Moved,
+    /// Nothing was to be done.
+    Idle,
+    /// The player has ended.
+    Ended(HttpEnd),
+}

@@ -1,0 +1,14 @@
+//! What an HTTP request asks for, and what it is told: the head of the request, its target, and the head of the answer.
+//!
+//! The section numbers are those of RFC 9112.
+#![tactic(auto)]
+
+mod answer;
+mod head;
+mod laws;
+mod target;
+
+pub use answer::{Refusal, ok_text, refusal_text};
+pub use head::{HEAD_MOST, Head, read_head};
+pub use laws::{decided_heads_stay, heads_are_read_one_way, nothing_is_unfinished};
+pub use target::{Names, is_get, names_in};
