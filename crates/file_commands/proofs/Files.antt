@@ -1,11 +1,11 @@
 -- A file that was read in part or to its end.
-use Rattle.std.proofs.Common.{◌≡◌, inl, inr, Result, Ok, Err, MatchResult, ℕ, ◌≤◌, Bool, List, [], ◌++◌, Option, length, ap, sym, ◌∙◌, subst}
+use Rattle.std.proofs.Common.{◌≡◌, inl, inr, Result, Ok, Err, MatchResult, OnOk, ℕ, ◌<◌, ◌≤◌, Bool, List, [], ◌++◌, Option, length, ap, sym, ◌∙◌, subst}
 use Rattle.std.specs.Io.KnownBytes.{prepend_known, IsAtEnd}
 use Rattle.relay_outside.specs.Counts.{Rose}
 use Rattle.file_commands.specs.declared.fail.Fail.{Fail}
 use Rattle.file_commands.specs.declared.fail.Fail.TheVariants.{Refused, SourceFault, SinkFault, OutOfMemory}
 use Rattle.file_commands.specs.Written.{Writes}
-use Rattle.file_commands.specs.Outcome.{WritesAll, most_bytes}
+use Rattle.file_commands.specs.Outcome.{WritesAll, most_bytes, most_pending}
 use Rattle.file_commands.specs.Parts.{TakeFails, EndFails, WasRead, IsRead, IsRefusedThere, FileFails, Closes, PutEnds, Settles, SettlesFaults, SinkCause, SinkFaults, SourceFaults}
 use Rattle.file_commands.proofs.Writing.{prepend_known_twice, prepend_known_nil, no_part_written, write_part_then, write_rest, wrote_all}
 use Rattle.file_commands.proofs.Pieces.{given_all}
@@ -60,8 +60,8 @@ module _ (Gives : List ℕ → List ℕ → Type 0) (Stops Cut : List ℕ → �
 
   -- the source failed
   pub fault_ends : (fed given text : List ℕ) (left now after before held : Option (List ℕ)) → left ≡ prepend_known fed now → after ≡ now → Gives fed given
-      → Writes given text before held → FileFails Gives Stops Cut Whole SourceFault left after text before held
-  fault_ends fed given text left now after before held w same gives writes = (fed, w ∙ ap (prepend_known fed) (sym same), (given, gives, (text, writes)))
+      → Writes given text before held → length text < most_pending → FileFails Gives Stops Cut Whole SourceFault left after text before held
+  fault_ends fed given text left now after before held w same gives writes short = (fed, w ∙ ap (prepend_known fed) (sym same), (given, gives, (text, writes, short)))
 
   refused_closes : (at : ℕ) (last : Fail) (pending : List ℕ) (left left' before held now : Option (List ℕ))
       → FileFails Gives Stops Cut Whole (Refused at) left left' pending before held → PutEnds at last pending held now
@@ -90,6 +90,12 @@ module _ (Gives : List ℕ → List ℕ → Type 0) (Stops Cut : List ℕ → �
       rw (s.0, s.1) f
   closes OutOfMemory last pending left left' before held now f s =
       rw (s.0, s.1) f
+
+-- what is told of a file that was read to its end
+pub file_told : (r : Result Bool Fail) (Told : List ℕ → Type 0) (fed : List ℕ) (left now after : Option (List ℕ)) → left ≡ prepend_known fed now → after ≡ now
+    → OnOk r (Told fed) → OnOk r ((read : List ℕ) × WasRead read left after × Told read)
+file_told (Ok some_out) Told fed left now after w same t = (fed, w ∙ ap (prepend_known fed) (sym same), t)
+file_told (Err fail) Told fed left now after w same t = tt
 
 -- ---- faults
 

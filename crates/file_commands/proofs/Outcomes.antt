@@ -5,7 +5,8 @@ use Rattle.std.specs.Io.KnownBytes.{IsAtEnd}
 use Rattle.file_commands.specs.declared.fail.Fail.{Fail}
 use Rattle.file_commands.specs.declared.fail.Fail.TheVariants.{Refused, SourceFault, SinkFault, OutOfMemory}
 use Rattle.file_commands.specs.Outcome.{IsReadTo, IsTooLong, Outcome, Refused as IsRefused, Seen, StopsIn, WritesAll, WritesOf, WritesOfRead}
-use Rattle.file_commands.specs.Parts.{Closes, IsRead, IsRefusedThere, SinkFaults, SourceFaults, WasRead, status_of, whole_status}
+use Rattle.file_commands.specs.Parts.{Closes, IsRead, IsRefusedThere, SinkFaults, SourceFaults, WasRead, WasTold, status_of, whole_status}
+use Rattle.file_commands.specs.Remux.{IsWholeCode}
 use Rattle.file_commands.proofs.Writing.{no_part_written, prepend_known_nil}
 use Rattle.file_commands.proofs.Pieces.{given_all}
 
@@ -179,6 +180,16 @@ module _ (Gives : List ℕ → List ℕ → Type 0) (Stops Cut : List ℕ → �
       → (whole_status some_out).code ≡ 8 → (read : List ℕ) × (text : List ℕ) × Whole read true text
   left_out false left left' before now r e = absurd (omega (arith, e))
   left_out true left left' before now r e = (r.read, r.all.text, r.all.whole)
+
+-- what is told is told of that file
+pub told_of : {F : Type 0} (Told : F → List ℕ → Type 0) (end : F) (bytes : List ℕ) (left now : Option (List ℕ)) → WasTold Told end left now → IsAtEnd now → left ≡ Some bytes → Told end bytes
+told_of Told end bytes left now t at is = subst (λ (l : List ℕ). Told end l) (sym (at_end t.0 now bytes (front_of t.0 left now bytes t.1 is) at)) t.2
+
+pub other_codes : (last : Fail) → IsWholeCode (status_of last).code → ⊥
+other_codes (Refused at) e = elim e [ inl n ↦ omega (arith, n) | inr n ↦ omega (arith, n) ]
+other_codes SourceFault e = elim e [ inl n ↦ omega (arith, n) | inr n ↦ omega (arith, n) ]
+other_codes SinkFault e = elim e [ inl n ↦ omega (arith, n) | inr n ↦ omega (arith, n) ]
+other_codes OutOfMemory e = elim e [ inl n ↦ omega (arith, n) | inr n ↦ omega (arith, n) ]
 
 pub other_code : (last : Fail) → (status_of last).code ≡ 8 → ⊥
 other_code (Refused at) e = omega (arith, e)

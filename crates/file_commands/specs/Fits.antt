@@ -14,14 +14,17 @@ use Rattle.ts_writer.specs.Text.{ts_text}
 use Rattle.av_unit.specs.declared.item.Item.{Item}
 use Rattle.file_commands.specs.declared.fail.Fail.{Fail}
 use Rattle.file_commands.specs.declared.fail.Fail.TheVariants.{Refused, OutOfMemory}
-use Rattle.file_commands.specs.Remux.{items, leaves_out, some_left_out}
+use Rattle.file_commands.specs.declared.left_out.LeftOut.{LeftOut}
+use Rattle.file_commands.specs.LeftOut.{left_out_of}
+use Rattle.file_commands.specs.Remux.{items, left_out, some_enhanced}
 
 -- the tags that were read are written
-pub record TagsFit (reader : TagsKnown) (writer : TsKnown) (left_out : Bool) : Type 0 where
+pub record TagsFit (reader : TagsKnown) (writer : TsKnown) (left : LeftOut) (enhanced : Bool) : Type 0 where
   pub lives : reader.failed ≡ None
   pub stands : TagsStand reader
   pub past : writer.past ≡ reverse (items reader.given)
-  pub out : left_out ≡ leaves_out reader.given
+  pub left_is : left ≡ left_out reader.given
+  pub enhanced_is : enhanced ≡ some_enhanced reader.given
 
 -- the units that were read are counted
 pub record UnitsFit (reader : UnitsKnown) (count : ℕ) : Type 0 where
@@ -30,12 +33,12 @@ pub record UnitsFit (reader : UnitsKnown) (count : ℕ) : Type 0 where
   pub counted : count ≡ length reader.given
 
 -- items are written behind others: more of them, and the text that they add
-pub record Writes (more past past' : List Item) (left_out left_out' : Bool) (out out' : List ℕ) : Type 0 where
+pub record Writes (more past past' : List Item) (left left' : LeftOut) (out out' : List ℕ) : Type 0 where
   pub past_is : past' ≡ reverse more ++ past
   pub text : List ℕ
   pub text_is : ts_text past' ≡ ts_text past ++ text
   pub out_is : out' ≡ out ++ text
-  pub left_is : left_out ≡ some_left_out past → left_out' ≡ some_left_out past'
+  pub left_is : left ≡ left_out_of past → left' ≡ left_out_of past'
 
 abbrev pub tags_refusal : FlvFail → Fail
 tags_refusal (flv.BadHeader at) = Refused at

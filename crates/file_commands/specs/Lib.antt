@@ -1,6 +1,7 @@
 pub mod Written
 pub mod Outcome
 pub mod Words
+pub mod LeftOut
 pub mod Remux
 pub mod Check
 pub mod Parts

@@ -4,11 +4,15 @@ use Rattle.std.specs.declared.option.Option.{Option}
 use Rattle.std.specs.Io.KnownBytes.{append_known, IsAtEnd}
 use Rattle.relay_base.specs.declared.limits.Status.{Status}
 use Rattle.relay_outside.specs.Counts.{Rose}
-use Rattle.file_commands.specs.Written.{WritesPart}
+use Rattle.file_commands.specs.Written.{WritesNearly, WritesPart}
 
 -- how many bytes of a file are read at most; a byte behind them is refused
 abbrev pub most_bytes : ℕ
 most_bytes = 2 ^ 36
+
+-- of a text that grows so many bytes are put at once at the latest
+abbrev pub most_pending : ℕ
+most_pending = 65536
 
 -- what is seen of a source and a sink: what is left of the one and what the other holds, where they tell it, and their faults
 pub record Seen : Type 0 where
@@ -48,9 +52,9 @@ module _ (Gives : List ℕ → List ℕ → Type 0) where
     pub place : at ≡ most_bytes
     pub gives : Gives front text
 
-  -- a first part is written of what all bytes give that were read
+  -- what all bytes give that were read is written but for the last of it, which is less than a part
   abbrev pub WritesOfRead : List ℕ → Option (List ℕ) → Option (List ℕ) → Type 0
-  WritesOfRead read before now = (text : List ℕ) × Gives read text × WritesPart text before now
+  WritesOfRead read before now = (text : List ℕ) × Gives read text × WritesNearly most_pending text before now
 
   -- a first part is written of what some first bytes give
   abbrev pub WritesOfFront : List ℕ → Option (List ℕ) → Option (List ℕ) → Type 0

@@ -117,6 +117,10 @@ module _ (Gives : List ℕ → List ℕ → Type 0) (Cut : List ℕ → ℕ → 
 abbrev pub WasRead : List ℕ → Option (List ℕ) → Option (List ℕ) → Type 0
 WasRead read left now = left ≡ prepend_known read now
 
+-- what is told of them
+abbrev pub WasTold : {F : Type 0} → (F → List ℕ → Type 0) → F → Option (List ℕ) → Option (List ℕ) → Type 0
+WasTold told file left now = (read : List ℕ) × WasRead read left now × told file read
+
 module _ (Gives : List ℕ → List ℕ → Type 0) (Stops Cut : List ℕ → ℕ → List ℕ → Type 0) (Whole : List ℕ → Bool → List ℕ → Type 0) where
   -- the end was read, and all is written
   pub record IsRead (some_out : Bool) (left left' before now : Option (List ℕ)) : Type 0 where

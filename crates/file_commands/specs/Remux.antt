@@ -1,6 +1,6 @@
 -- What a file of FLV becomes: the transport stream of a Begin and of the units of its tags
-use Rattle.std.specs.Prelude.{◌≡◌, ℕ, Bool, true, false, ◌||◌, List, [], ◌∷◌, reverse, Option, Some, None}
-use Rattle.std.specs.List.{flat_map}
+use Rattle.std.specs.Prelude.{◌≡◌, ◌⊎◌, ℕ, Bool, false, ◌==◌, ◌&&◌, nat_le, List, [], ◌∷◌, reverse, slice_index, Option, Some, None, is_some}
+use Rattle.std.specs.List.{flat_map, list_any}
 use Rattle.av_unit.specs.Classes.{unit_from}
 use Rattle.av_unit.specs.Media.{Media}
 use Rattle.av_unit.specs.declared.item.Item.{Item}
@@ -10,9 +10,10 @@ use Rattle.flv_tags.specs.declared.fail.FlvFail.{FlvFail}
 use Rattle.flv_tags.specs.declared.fail.FlvFail.TheVariants.{BadHeader, BadTag, BadBack, OutOfMemory}
 use Rattle.flv_tags.specs.Reads.{IsFile, Reads}
 use Rattle.flv_tags.specs.Stops.{Ends, Stops}
-use Rattle.ts_writer.specs.declared.left.Wrote.{Wrote}
-use Rattle.ts_writer.specs.declared.left.Wrote.TheVariants.{Unit as AWritten, Nothing, LeftOut}
-use Rattle.ts_writer.specs.Text.{ts_text, wrote_of}
+use Rattle.ts_writer.specs.Text.{ts_text}
+use Rattle.file_commands.specs.declared.left_out.LeftOut.{LeftOut}
+use Rattle.file_commands.specs.declared.remuxes.Remuxed.{Remuxed}
+use Rattle.file_commands.specs.LeftOut.{left_out_of, none_left}
 
 abbrev pub as_item : Option Media → List Item
 as_item None = []
@@ -30,19 +31,20 @@ items tags = Begin ∷ flat_map items_of tags
 abbrev pub remux_text : List Tag → List ℕ
 remux_text tags = ts_text (reverse (items tags))
 
-abbrev pub is_left_out : Wrote → Bool
-is_left_out (LeftOut left) = true
-is_left_out AWritten = false
-is_left_out Nothing = false
+-- WHAT IS LEFT OUT of the text of tags; tags without a class aren't counted
+abbrev pub left_out : List Tag → LeftOut
+left_out tags = left_out_of (reverse (items tags))
 
--- whether one of the items, of which the newest stands first, is left out of their text
-abbrev pub some_left_out : List Item → Bool
-some_left_out [] = false
-some_left_out (item ∷ past) = is_left_out (wrote_of past item) || some_left_out past
-
--- WHETHER A UNIT of tags is left out; tags without a class aren't counted
+-- whether a unit is
 abbrev pub leaves_out : List Tag → Bool
-leaves_out tags = some_left_out (reverse (items tags))
+leaves_out tags = is_some (left_out tags).first
+
+-- a picture in the form of Enhanced RTMP, which has no class: the highest bit of its first byte is set
+abbrev pub is_enhanced : Tag → Bool
+is_enhanced t = nat_le 128 (slice_index t.body 0) && (t.kind == 9)
+
+abbrev pub some_enhanced : List Tag → Bool
+some_enhanced tags = list_any is_enhanced tags
 
 -- the place of a refusal
 abbrev pub place_of : FlvFail → ℕ
@@ -81,3 +83,19 @@ pub record RemuxWhole (bytes : List ℕ) (some_out : Bool) (text : List ℕ) : T
   pub file : IsFile bytes tags
   pub out_is : some_out ≡ leaves_out tags
   pub text_is : text ≡ remux_text tags
+
+-- what is told of a whole file
+pub record RemuxTold (left : LeftOut) (enhanced : Bool) (bytes : List ℕ) : Type 0 where
+  pub tags : List Tag
+  pub file : IsFile bytes tags
+  pub left_is : left ≡ left_out tags
+  pub enhanced_is : enhanced ≡ some_enhanced tags
+
+-- the file was read to its end
+abbrev pub IsWholeCode : ℕ → Type 0
+IsWholeCode code = (code ≡ 0) ⊎ (code ≡ 8)
+
+-- nothing is told of another
+pub record TellsNothing (r : Remuxed) : Type 0 where
+  pub left : r.left_out ≡ none_left
+  pub enhanced : r.enhanced ≡ false

@@ -1,5 +1,5 @@
 -- What is written of a text
-use Rattle.std.specs.Prelude.{◌≡◌, ℕ, List, ◌++◌}
+use Rattle.std.specs.Prelude.{◌≡◌, ◌<◌, ℕ, List, ◌++◌, length}
 use Rattle.std.specs.declared.option.Option.{Option}
 use Rattle.std.specs.Io.KnownBytes.{append_known}
 
@@ -12,3 +12,7 @@ pub record Writes (text left : List ℕ) (before now : Option (List ℕ)) : Type
 -- a first part of the text is written
 abbrev pub WritesPart : List ℕ → Option (List ℕ) → Option (List ℕ) → Type 0
 WritesPart text before now = (left : List ℕ) × Writes text left before now
+
+-- and what is left of it is shorter than that
+abbrev pub WritesNearly : ℕ → List ℕ → Option (List ℕ) → Option (List ℕ) → Type 0
+WritesNearly most text before now = (left : List ℕ) × Writes text left before now × (length left < most)

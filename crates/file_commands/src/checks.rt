@@ -21,7 +21,7 @@ use std::alloc::Global;
 /// |---|---|---|
 /// | 0 | the stream was read to its end | the lines of its units, and their number |
 /// | 2 | exactly where the words aren't `check` alone; nothing is read | nothing |
-/// | 3 | only where the source's faults rose | a first part of the lines of the units that were read |
+/// | 3 | only where the source's faults rose | the lines of the units that were read, but for the last of these lines: fewer than 65,536 bytes |
 /// | 4 | the stream is refused at `place`: at that of [`ts_reader::TsFail`], or at 2^36 where it has more bytes | the lines of the units before |
 /// | 5 | only where the sink's faults rose | a first part of the lines of the units that were read, and of their number |
 /// | 6 | for want of memory | the same |
@@ -42,5 +42,6 @@ pub fn check<S: Source, K: Sink>(
     if !only_word_is(words, b"check".as_slice()) {
         return Status { code: 2, place: 0 };
     }
-    convert(alloc, Units::new(alloc), Bytes::new(alloc), input, out)
+    let mut file = Units::new(alloc);
+    convert(alloc, &mut file, Bytes::new(alloc), input, out)
 }

@@ -27,6 +27,9 @@ pub(crate) trait Convert: Drop {
     // What a whole file becomes, and whether something of it is left out.
     ghost whole: { List ℕ → Bool → List ℕ → Type 0 };
 
+    // What is known of it once a whole file has ended.
+    ghost told: { Self → List ℕ → Type 0 };
+
     /// Takes bytes of the piece, and appends the text that they give.
     fn step(&mut self, alloc: Global, piece: &[u8], out: &mut Bytes) -> Result<usize, Fail>
         requires fits { fits self.old }
@@ -41,6 +44,7 @@ pub(crate) trait Convert: Drop {
         requires fits { fits self.old }
         requires near { length (fed self.old) ≤ 2 ^ 36 }
         ensures ok { IfOk result (λ some_out. Finishes whole (fed self.old) (given self.old) some_out out.old out.new) }
+        ensures told { OnOk result (told self.new (fed self.old)) }
         ensures err { IfErr result (λ e. StepFails cut e (fed self.old) (given self.old) out.old out.new) };
 
     // What it was fed gives its text.

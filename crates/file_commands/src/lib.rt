@@ -9,7 +9,7 @@
 //! |---|---|---|
 //! | 0 | the input was read to its end | all |
 //! | 2 | exactly where the words aren't those of the command; nothing is read | nothing |
-//! | 3 | only where the source's faults rose | a first part of what the bytes give that were read |
+//! | 3 | only where the source's faults rose | what the bytes give that were read, but for its last bytes, fewer than 65,536 |
 //! | 4 | the input is refused at the byte `place` | what stands before gives |
 //! | 5 | only where the sink's faults rose | a first part of what the bytes give that were read |
 //! | 6 | for want of memory | a first part of what the bytes give that were read |
@@ -18,9 +18,11 @@
 //! `place` is 0 but for code 4.
 #![tactic(auto)]
 
+mod cause;
 mod checks;
 mod convert;
 mod fail;
+mod left_out;
 mod lines;
 mod put;
 mod remuxes;
@@ -30,4 +32,5 @@ mod whole;
 mod words;
 
 pub use checks::check;
-pub use remuxes::remux;
+pub use left_out::LeftOut;
+pub use remuxes::{Remuxed, remux, remux_and_tell};

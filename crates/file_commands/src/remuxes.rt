@@ -1,8 +1,9 @@
-ghost use Rattle.std.specs.Prelude.{◌≡◌, map};
+ghost use Rattle.std.specs.Prelude.{◌≡◌, ℕ, List, Some, map};
 ghost use Rattle.file_commands.specs.Outcome.{Outcome, seen};
 ghost use Rattle.file_commands.specs.Words.{is_remux};
-ghost use Rattle.file_commands.specs.Remux.{RemuxGives, RemuxStops, RemuxCut, RemuxWhole};
+ghost use Rattle.file_commands.specs.Remux.{IsWholeCode, RemuxGives, RemuxStops, RemuxCut, RemuxTold, RemuxWhole, TellsNothing};
 
+use crate::left_out::LeftOut;
 use crate::tags::Tags;
 use crate::whole::convert;
 use crate::words::only_word_is;
@@ -10,6 +11,45 @@ use av_unit::Bytes;
 use relay_base::Status;
 use relay_outside::{Sink, Source};
 use std::alloc::Global;
+
+/// How a file was made a transport stream, and what of a whole file isn't in it.
+#[derive(Clone, Copy, Debug, Drop, PartialEq, Eq)]
+pub struct Remuxed {
+    pub status: Status,
+    /// How many units of a file that was read to its end were left out, and why the first of these was.
+    pub left_out: LeftOut,
+    /// Whether a picture of Enhanced RTMP stands in a file that was read to its end. It has no class, so it isn't counted.
+    pub enhanced: bool,
+}
+
+// What is told of a file that wasn't read to its end.
+fn nothing_told(status: Status) -> Remuxed
+    ensures status { result.status ≡ status }
+    ensures nothing { TellsNothing result }
+{
+    Remuxed {
+        status,
+        left_out: LeftOut::none(),
+        enhanced: false,
+    }
+}
+
+// What is told of a file whose reading ended so.
+fn told(status: Status, file: &Tags) -> Remuxed
+    ensures status { result.status ≡ status }
+    ensures left { IsWholeCode status.code → result.left_out ≡ file.now.left_out }
+    ensures enhanced { IsWholeCode status.code → result.enhanced ≡ file.now.enhanced }
+    ensures nothing { (IsWholeCode status.code → ⊥) → TellsNothing result }
+{
+    match status.code {
+        0 | 8 => Remuxed {
+            status,
+            left_out: file.left_out,
+            enhanced: file.enhanced,
+        },
+        _ => nothing_told(status),
+    }
+}
 
 /// Makes a transport stream (ISO/IEC 13818-1) of a file of FLV: that of a Begin and of the units of its tags.
 ///
@@ -21,7 +61,7 @@ use std::alloc::Global;
 /// |---|---|---|
 /// | 0 | the file was read to its end, and no unit was left out | the text of its tags |
 /// | 2 | exactly where the words aren't `remux` alone; nothing is read | nothing |
-/// | 3 | only where the source's faults rose | a first part of the text of the tags that were read |
+/// | 3 | only where the source's faults rose | the text of the tags that were read, but for its last bytes, fewer than 65,536 |
 /// | 4 | the file is refused at `place`: at that of [`flv_tags::FlvFail`], or at 2^36 where it has more bytes | the text of the tags before |
 /// | 5 | only where the sink's faults rose | a first part of the text of the tags that were read |
 /// | 6 | for want of memory | a first part of the text of the tags that were read |
@@ -39,12 +79,32 @@ pub fn remux<S: Source, K: Sink>(
         (seen (S.left input.new) (K.holds out.new) (S.faults input.new) (K.faults out.new)) result }
     ensures untouched { result.code ≡ 2 → (input.new ≡ input.old) × (out.new ≡ out.old) }
 {
+    remux_and_tell(alloc, words, input, out).status
+}
+
+/// Does what [`remux`] does, and tells what of a file that was read to its end isn't in its transport stream.
+pub fn remux_and_tell<S: Source, K: Sink>(
+    alloc: Global,
+    words: &[Vec<u8>],
+    input: &mut S,
+    out: &mut K,
+) -> Remuxed
+    ensures outcome { Outcome RemuxGives RemuxStops RemuxCut RemuxWhole (is_remux (map (λ w. w.items) words.now))
+        (seen (S.left input.old) (K.holds out.old) (S.faults input.old) (K.faults out.old))
+        (seen (S.left input.new) (K.holds out.new) (S.faults input.new) (K.faults out.new)) result.status }
+    ensures untouched { result.status.code ≡ 2 → (input.new ≡ input.old) × (out.new ≡ out.old) }
+    ensures told { IsWholeCode result.status.code → (bytes : List ℕ) → S.left input.old ≡ Some bytes → RemuxTold result.left_out result.enhanced bytes }
+    ensures nothing { (IsWholeCode result.status.code → ⊥) → TellsNothing result }
+{
     if !only_word_is(words, b"remux".as_slice()) {
-        return Status { code: 2, place: 0 };
+        return nothing_told(Status { code: 2, place: 0 });
     }
     let mut text = Bytes::new(alloc);
     match Tags::new(alloc, &mut text) {
-        Ok(file) => convert(alloc, file, text, input, out),
-        Err(_) => Status { code: 6, place: 0 },
+        Ok(mut file) => {
+            let status = convert(alloc, &mut file, text, input, out);
+            told(status, &file)
+        }
+        Err(_) => nothing_told(Status { code: 6, place: 0 }),
     }
 }

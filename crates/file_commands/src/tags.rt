@@ -1,22 +1,39 @@
 //! A file of FLV that becomes a transport stream.
 ghost use Rattle.std.specs.Prelude.{◌≡◌, ◌≤◌, ◌++◌, ◌∷◌, [], length, OnOk, IfOk, refl};
 ghost use Rattle.av_unit.specs.declared.item.Item.TheVariants.{Unit as AUnit};
-ghost use Rattle.file_commands.specs.Remux.{RemuxGives, RemuxStops, RemuxCut, RemuxWhole, items_of, remux_text};
+ghost use Rattle.file_commands.specs.Remux.{RemuxGives, RemuxStops, RemuxCut, RemuxTold, RemuxWhole, is_enhanced, items_of, remux_text};
 ghost use Rattle.file_commands.specs.Fits.{TagsFit, Writes, tags_refusal};
 
 use crate::convert::Convert;
 use crate::fail::Fail;
+use crate::left_out::LeftOut;
 use av_unit::{Bytes, Item, OutOfMemory, Unit, UnitArc, unit_of};
 use flv_tags::{FlvFail, Tag, TagFed, TagReader};
 use std::alloc::Global;
-use ts_writer::{TsWriter, Wrote};
+use ts_writer::TsWriter;
 
-/// The tags of a file, and the transport stream of their units.
+/// The type of a tag of pictures.
+const VIDEO: u8 = 9;
+
+/// The tags of a file, and the transport stream of their units: what is left out of it, and whether a picture of Enhanced RTMP
+/// stands among them.
 #[derive(Drop)]
 pub(crate) struct Tags {
     reader: TagReader,
     writer: TsWriter,
-    left_out: bool,
+    pub(crate) left_out: LeftOut,
+    pub(crate) enhanced: bool,
+}
+
+// Whether it is a picture of Enhanced RTMP (IsExHeader).
+#[tactic(auto, using(std::proofs::lemmas::Bool::Decides::nat_tests))]
+fn is_enhanced(tag: &Tag) -> bool
+    ensures { result ≡ is_enhanced tag.now }
+{
+    match tag.body.as_slice() {
+        [first, ..] => *first >= 128 && tag.kind == VIDEO,
+        [] => false,
+    }
 }
 
 fn refusal(fail: FlvFail) -> Fail
@@ -38,18 +55,14 @@ fn refusal(fail: FlvFail) -> Fail
 fn write_unit(
     alloc: Global,
     writer: &mut TsWriter,
-    left_out: &mut bool,
+    left_out: &mut LeftOut,
     unit: Unit,
     out: &mut Bytes,
 ) -> Result<(), OutOfMemory>
     ensures { OnOk result (Writes (AUnit unit ∷ []) writer.old.past writer.new.past left_out.old left_out.new out.old out.new) }
 {
     let item = Item::Unit(UnitArc::new(alloc, unit)?);
-    match writer.item(&item, out)? {
-        Wrote::LeftOut(_) => *left_out = true,
-        Wrote::Unit => {}
-        Wrote::Nothing => {}
-    }
+    left_out.note(writer.item(&item, out)?);
     Ok(())
 }
 
@@ -57,7 +70,7 @@ fn write_unit(
 fn write_tag(
     alloc: Global,
     writer: &mut TsWriter,
-    left_out: &mut bool,
+    left_out: &mut LeftOut,
     tag: Tag,
     out: &mut Bytes,
 ) -> Result<(), OutOfMemory>
@@ -72,32 +85,35 @@ fn write_tag(
 }
 
 impl Tags {
-    /// A file of which nothing was read. A broadcast begins.
+    /// A file of which nothing was read. A broadcast begins, which writes nothing.
+    #[tactic(auto, unfolding(ts_writer::specs::Text::item_text))]
     pub(crate) fn new(alloc: Global, out: &mut Bytes) -> Result<Tags, OutOfMemory>
-        ensures fits { IfOk result (λ t. TagsFit t.reader t.writer t.left_out) }
+        ensures fits { IfOk result (λ t. TagsFit t.reader t.writer t.left_out t.enhanced) }
         ensures fresh { IfOk result (λ t. t.reader.fed ≡ []) }
         ensures text { IfOk result (λ t. out.new ≡ out.old ++ remux_text t.reader.given) }
+        ensures none { OnOk result (out.new ≡ out.old) }
     {
         let mut writer = TsWriter::new(alloc);
         writer.item(&Item::Begin, out)?;
         Ok(Tags {
             reader: TagReader::new(alloc),
             writer,
-            left_out: false,
+            left_out: LeftOut::none(),
+            enhanced: false,
         })
     }
 }
 
 impl Convert for Tags {
     ghost use Rattle.std.specs.Prelude.{refl};
-    ghost use Rattle.file_commands.specs.Remux.{RemuxGives, RemuxStops, RemuxCut, RemuxWhole, remux_text};
+    ghost use Rattle.file_commands.specs.Remux.{RemuxGives, RemuxStops, RemuxCut, RemuxTold, RemuxWhole, remux_text};
     ghost use Rattle.file_commands.specs.Fits.{TagsFit};
 
     ghost fed = { λ t. t.reader.fed };
 
     ghost given = { λ t. remux_text t.reader.given };
 
-    ghost fits = { λ t. TagsFit t.reader t.writer t.left_out };
+    ghost fits = { λ t. TagsFit t.reader t.writer t.left_out t.enhanced };
 
     ghost gives = { RemuxGives };
 
@@ -106,6 +122,8 @@ impl Convert for Tags {
     ghost cut = { RemuxCut };
 
     ghost whole = { RemuxWhole };
+
+    ghost told = { λ t bytes. RemuxTold t.left_out t.enhanced bytes };
 
     fn step(&mut self, alloc: Global, piece: &[u8], out: &mut Bytes) -> Result<usize, Fail> {
         match self.reader.feed(alloc, piece) {
@@ -116,6 +134,7 @@ impl Convert for Tags {
                     tag: Some(tag),
                 },
             ) => {
+                self.enhanced |= is_enhanced(&tag);
                 write_tag(alloc, &mut self.writer, &mut self.left_out, tag, out)?;
                 Ok(used)
             }
@@ -126,7 +145,7 @@ impl Convert for Tags {
     fn finish(&mut self, _alloc: Global, out: &mut Bytes) -> Result<bool, Fail> {
         let _ = &out;
         match self.reader.finish() {
-            Ok(()) => Ok(self.left_out),
+            Ok(()) => Ok(self.left_out.first.is_some()),
             Err(fail) => Err(refusal(fail)),
         }
     }

@@ -65,6 +65,8 @@ impl Convert for Units {
 
     ghost whole = { CheckWhole };
 
+    ghost told = { λ _ _. Unit {0} };
+
     fn step(&mut self, alloc: Global, piece: &[u8], out: &mut Bytes) -> Result<usize, Fail> {
         match self.reader.feed(alloc, piece) {
             Ok(TsFed { used, unit: None }) => Ok(used),

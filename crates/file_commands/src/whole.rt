@@ -1,8 +1,9 @@
 //! Reading a file to its end.
-ghost use Rattle.std.specs.Prelude.{◌≡◌, ◌≤◌, ◌<◌, ◌+◌, ◌^◌, ◌++◌, ℕ, List, [], length, Option, MatchResult, OnOk, true};
+ghost use Rattle.std.specs.Prelude.{◌≡◌, ◌≤◌, ◌<◌, ◌+◌, ◌^◌, ◌++◌, ℕ, List, [], length, Option, Some, MatchResult, OnOk, true};
 ghost use Rattle.file_commands.specs.Written.{Writes};
-ghost use Rattle.file_commands.specs.Outcome.{Outcome, WritesAll, seen};
-ghost use Rattle.file_commands.specs.Parts.{PutFails, PieceFails, TakeFails, EndFails, IsRead, FileFails, SinkCause, SinkFaults, SourceFaults, Settles, SettlesFaults, status_of, whole_status};
+ghost use Rattle.file_commands.specs.Outcome.{Outcome, WritesAll, most_pending, seen};
+ghost use Rattle.file_commands.specs.Remux.{IsWholeCode};
+ghost use Rattle.file_commands.specs.Parts.{PutFails, PieceFails, TakeFails, EndFails, IsRead, FileFails, SinkCause, SinkFaults, SourceFaults, Settles, SettlesFaults, WasTold, status_of, whole_status};
 
 use crate::convert::Convert;
 use crate::fail::Fail;
@@ -22,6 +23,7 @@ const PIECE: usize = 65_536;
 fn put_some<K: Sink>(out: &mut K, text: &mut Bytes) -> Result<(), Fail>
     ensures goes { (given : List ℕ) (before : Option (List ℕ)) → Writes given text.old before (K.holds out.old)
         → MatchResult result (λ _. Writes given text.new before (K.holds out.new)) (λ fail. PutFails fail given before (K.holds out.new)) }
+    ensures short { OnOk result (length text.new < most_pending) }
     ensures faults { MatchResult result (λ _. K.faults out.new ≡ K.faults out.old) (λ fail. SinkCause fail (K.faults out.old) (K.faults out.new)) }
 {
     if text.len() < PIECE {
@@ -47,6 +49,7 @@ fn take_piece<C: Convert, K: Sink>(
     ensures goes { (before : Option (List ℕ)) → Writes (C.given file.old) text.old before (K.holds out.old)
         → MatchResult result (λ _. Writes (C.given file.new) text.new before (K.holds out.new))
         (λ fail. PieceFails C.gives C.stops fail (C.fed file.old ++ piece.now) text.new before (K.holds out.new)) }
+    ensures short { length text.old < most_pending → OnOk result (length text.new < most_pending) }
     ensures faults { MatchResult result (λ _. K.faults out.new ≡ K.faults out.old) (λ fail. SinkCause fail (K.faults out.old) (K.faults out.new)) }
 {
     let mut left = piece;
@@ -76,6 +79,7 @@ fn take_within<C: Convert, K: Sink>(
     ensures goes { (before : Option (List ℕ)) → Writes (C.given file.old) text.old before (K.holds out.old)
         → MatchResult result (λ _. Writes (C.given file.new) text.new before (K.holds out.new))
         (λ fail. TakeFails C.gives C.stops fail (C.fed file.old ++ piece.now) text.new before (K.holds out.new)) }
+    ensures short { length text.old < most_pending → OnOk result (length text.new < most_pending) }
     ensures faults { MatchResult result (λ _. K.faults out.new ≡ K.faults out.old) (λ fail. SinkCause fail (K.faults out.old) (K.faults out.new)) }
 {
     let room = MOST_BYTES - place;
@@ -98,6 +102,7 @@ fn end<C: Convert, K: Sink>(
     ensures ends { (before : Option (List ℕ)) → Writes (C.given file.old) text.old before (K.holds out.old)
         → MatchResult result (λ some_out. WritesAll C.whole (C.fed file.old) some_out before (K.holds out.new))
         (λ fail. EndFails C.gives C.cut C.whole fail (C.fed file.old) text.new before (K.holds out.new)) }
+    ensures told { OnOk result (C.told file.new (C.fed file.old)) }
     ensures faults { MatchResult result (λ _. K.faults out.new ≡ K.faults out.old) (λ fail. SinkCause fail (K.faults out.old) (K.faults out.new)) }
 {
     let some_out = file.finish(alloc, text)?;
@@ -117,10 +122,12 @@ fn read_all<C: Convert, S: Source, K: Sink>(
     requires fits { C.fits file.old }
     requires fresh { C.fed file.old ≡ [] }
     requires text { text.old ≡ C.given file.old }
+    requires short { length text.old < most_pending }
     requires room { 0 < length piece.old }
     ensures ends { MatchResult result
         (λ some_out. IsRead C.gives C.stops C.cut C.whole some_out (S.left input.old) (S.left input.new) (K.holds out.old) (K.holds out.new))
         (λ fail. FileFails C.gives C.stops C.cut C.whole fail (S.left input.old) (S.left input.new) text.new (K.holds out.old) (K.holds out.new)) }
+    ensures told { OnOk result (WasTold C.told file.new (S.left input.old) (S.left input.new)) }
     ensures source { MatchResult result (λ _. S.faults input.new ≡ S.faults input.old)
         (λ fail. SourceFaults fail (S.faults input.old) (S.faults input.new)) }
     ensures sink { MatchResult result (λ _. K.faults out.new ≡ K.faults out.old) (λ fail. SinkFaults fail (K.faults out.old) (K.faults out.new)) }
@@ -149,9 +156,11 @@ fn read_file<C: Convert, S: Source, K: Sink>(
     requires fits { C.fits file.old }
     requires fresh { C.fed file.old ≡ [] }
     requires text { text.old ≡ C.given file.old }
+    requires short { length text.old < most_pending }
     ensures ends { MatchResult result
         (λ some_out. IsRead C.gives C.stops C.cut C.whole some_out (S.left input.old) (S.left input.new) (K.holds out.old) (K.holds out.new))
         (λ fail. FileFails C.gives C.stops C.cut C.whole fail (S.left input.old) (S.left input.new) text.new (K.holds out.old) (K.holds out.new)) }
+    ensures told { OnOk result (WasTold C.told file.new (S.left input.old) (S.left input.new)) }
     ensures source { MatchResult result (λ _. S.faults input.new ≡ S.faults input.old)
         (λ fail. SourceFaults fail (S.faults input.old) (S.faults input.new)) }
     ensures sink { MatchResult result (λ _. K.faults out.new ≡ K.faults out.old) (λ fail. SinkFaults fail (K.faults out.old) (K.faults out.new)) }
@@ -197,20 +206,22 @@ fn whole_status(some_out: bool) -> Status
 /// Reads a file to its end, and writes its text.
 pub(crate) fn convert<C: Convert, S: Source, K: Sink>(
     alloc: Global,
-    mut file: C,
+    file: &mut C,
     mut text: Bytes,
     input: &mut S,
     out: &mut K,
 ) -> Status
-    requires fits { C.fits file }
-    requires fresh { C.fed file ≡ [] }
-    requires text { text ≡ C.given file }
+    requires fits { C.fits file.old }
+    requires fresh { C.fed file.old ≡ [] }
+    requires text { text ≡ C.given file.old }
+    requires short { length text < most_pending }
     ensures outcome { Outcome C.gives C.stops C.cut C.whole true
         (seen (S.left input.old) (K.holds out.old) (S.faults input.old) (K.faults out.old))
         (seen (S.left input.new) (K.holds out.new) (S.faults input.new) (K.faults out.new)) result }
     ensures left_out { result.code ≡ 8 → (read : List ℕ) × (text : List ℕ) × C.whole read true text }
+    ensures told { IsWholeCode result.code → (bytes : List ℕ) → S.left input.old ≡ Some bytes → C.told file.new bytes }
 {
-    match read_file(alloc, &mut file, &mut text, input, out) {
+    match read_file(alloc, file, &mut text, input, out) {
         Ok(some_out) => whole_status(some_out),
         Err(fail) => status_of(settle(fail, text.as_slice(), out)),
     }

@@ -1,8 +1,9 @@
-use Rattle.std.proofs.Common.{refl, ap, sym, ◌∙◌}
+use Rattle.std.proofs.Common.{refl, ap, sym, subst, ◌∙◌}
+use Rattle.file_commands.specs.Remux.{IsWholeCode}
 use Rattle.relay_base.specs.declared.limits.Status.{Status}
 use Rattle.file_commands.specs.Outcome.{seen}
 use Rattle.file_commands.proofs.Files.{closes, source_settled, sink_settled}
-use Rattle.file_commands.proofs.Outcomes.{finished, failed, left_out, other_code}
+use Rattle.file_commands.proofs.Outcomes.{finished, failed, left_out, other_code, other_codes, told_of}
 use Rattle.file_commands.proofs.whole.convert.Goals as goal
 
 pub returns-in-Ok-clause-outcome : goal.returns-in-Ok-clause-outcome
@@ -40,3 +41,11 @@ returns-in-Ok-clause-left_out g c = λ e.
 
 pub returns-clause-left_out : goal.returns-clause-left_out
 returns-clause-left_out g c = λ e. absurd (other_code c.settle.result (sym (ap (λ (s : Status). s.code) c.status_of.ensures) ∙ e))
+
+pub returns-in-Ok-clause-told : goal.returns-in-Ok-clause-told
+returns-in-Ok-clause-told g c = λ _ bytes is.
+    let r = c.read_file.new in
+    told_of g.C.Convert.told r.file bytes (g.S.Source.left c.args.input.now) (g.S.Source.left r.input) c.in-Ok.ensures.told c.in-Ok.ensures.ends.end is
+
+pub returns-clause-told : goal.returns-clause-told
+returns-clause-told g c = λ e. absurd (other_codes c.settle.result (subst (λ (s : Status). IsWholeCode s.code) c.status_of.ensures e))

@@ -3,7 +3,7 @@ use Rattle.std.proofs.lemmas.List.{length-take}
 use Rattle.std.specs.Io.KnownBytes.{prepend_known}
 use Rattle.file_commands.specs.Written.{Writes}
 use Rattle.file_commands.proofs.Writing.{nothing_written, prepend_known_nil}
-use Rattle.file_commands.proofs.Files.{piece_fails, file_ends, fault_ends, read_more, source_kept, source_kept_by, sink_faults, sink_faults_by}
+use Rattle.file_commands.proofs.Files.{piece_fails, file_ends, file_told, fault_ends, read_more, source_kept, source_kept_by, sink_faults, sink_faults_by}
 use Rattle.file_commands.proofs.whole.read_all.Goals as goal
 
 pub loop-count-init : goal.loop-count-init
@@ -18,6 +18,7 @@ loop-count-init g c =
       read = sym (ap (λ (l : List ℕ). prepend_known l left) c.requires.fresh ∙ prepend_known_nil left);
       writes = subst (λ (l : List ℕ). Writes (C.given c.args.file.now) l (g.K.Sink.holds c.args.out.now) (g.K.Sink.holds c.args.out.now)) (sym c.requires.text)
           (nothing_written (C.given c.args.file.now) (g.K.Sink.holds c.args.out.now));
+      short = c.requires.short;
       source = refl;
       sink = refl;
     }
@@ -60,6 +61,7 @@ loop-count-preserved g c =
       read = read_more (C.fed l.file) bytes (g.S.Source.left c.args.input.now) (g.S.Source.left l.input) (g.S.Source.left c.get.new.self)
           l.invariant.read c.in-Bytes.ensures.bytes ∙ ap (λ (x : List ℕ). prepend_known x (g.S.Source.left c.get.new.self)) (sym t.fed);
       writes = t.goes (g.K.Sink.holds c.args.out.now) l.invariant.writes;
+      short = t.short l.invariant.short;
       source = c.in-Bytes.ensures.cause ∙ l.invariant.source;
       sink = t.faults ∙ l.invariant.sink;
     }
@@ -89,4 +91,11 @@ returns-in-Failed-clause-ends g c =
     let l = c.loop-count in
     fault_ends C.gives C.stops C.cut C.whole (C.fed l.file) (C.given l.file) l.text (g.S.Source.left c.args.input.now) (g.S.Source.left l.input)
     (g.S.Source.left c.get.new.self) (g.K.Sink.holds c.args.out.now) (g.K.Sink.holds l.out) l.invariant.read c.in-Failed.ensures.bytes
-    (g.met.C.Convert.reads l.file l.invariant.fits) l.invariant.writes
+    (g.met.C.Convert.reads l.file l.invariant.fits) l.invariant.writes l.invariant.short
+
+pub returns-in-End-clause-told : goal.returns-in-End-clause-told
+returns-in-End-clause-told g c =
+    let C = g.C.Convert in
+    let l = c.loop-count in
+    file_told c.end.result (C.told c.end.new.file) (C.fed l.file) (g.S.Source.left c.args.input.now) (g.S.Source.left l.input) (g.S.Source.left c.get.new.self)
+    l.invariant.read c.in-End.ensures.bytes.0 c.end.ensures.told

@@ -1,5 +1,6 @@
 use Rattle.std.proofs.Common.{◌≡◌, ◌≤◌, ◌<◌, ◌-◌, ◌^◌, length}
 use Rattle.std.specs.Io.KnownBytes.{prepend_known}
+use Rattle.file_commands.specs.Outcome.{most_pending}
 use Rattle.file_commands.specs.Written.{Writes}
 use Rattle.file_commands.proofs.whole.read_all.Given as goal
 
@@ -11,6 +12,7 @@ invariant-loop-count g l = record {
   room : 0 < length l.piece;
   read : g.S.Source.left l.fn.input ≡ prepend_known (g.C.Convert.fed l.file) (g.S.Source.left l.input);
   writes : Writes (g.C.Convert.given l.file) l.text (g.K.Sink.holds l.fn.out) (g.K.Sink.holds l.out);
+  short : length l.text < most_pending;
   source : g.S.Source.faults l.input ≡ g.S.Source.faults l.fn.input;
   sink : g.K.Sink.faults l.out ≡ g.K.Sink.faults l.fn.out;
 }

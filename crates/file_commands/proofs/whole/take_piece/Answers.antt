@@ -36,6 +36,7 @@ loop-left-preserved g c =
       goes = λ before w. c.in_ok-put_some.ensures.goes (C.given c.step.new.self) before
           (step_writes (C.fed l.file) (C.given l.file) l.left.now c.in_ok-used.used l.text (C.fed c.step.new.self) (C.given c.step.new.self) c.step.new.out before
           (g.K.Sink.holds l.out) s (l.invariant.goes before w));
+      short = λ _. c.in_ok-put_some.ensures.short;
       faults = c.in_ok-put_some.ensures.faults ∙ l.invariant.faults;
     }
 

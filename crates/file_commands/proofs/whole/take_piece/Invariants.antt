@@ -1,4 +1,5 @@
-use Rattle.std.proofs.Common.{◌≡◌, ◌++◌, ℕ, List, Option, length}
+use Rattle.std.proofs.Common.{◌≡◌, ◌<◌, ◌++◌, ℕ, List, Option, length}
+use Rattle.file_commands.specs.Outcome.{most_pending}
 use Rattle.file_commands.specs.Written.{Writes}
 use Rattle.file_commands.proofs.whole.take_piece.Given as goal
 
@@ -8,6 +9,7 @@ invariant-loop-left g l = record {
   fed : g.C.Convert.fed l.file ++ l.left ≡ g.C.Convert.fed l.fn.file ++ l.fn.piece;
   goes : (before : Option (List ℕ)) → Writes (g.C.Convert.given l.fn.file) l.fn.text before (g.K.Sink.holds l.fn.out)
       → Writes (g.C.Convert.given l.file) l.text before (g.K.Sink.holds l.out);
+  short : length l.fn.text < most_pending → length l.text < most_pending;
   faults : g.K.Sink.faults l.out ≡ g.K.Sink.faults l.fn.out;
 }
 

@@ -1,0 +1,13 @@
+//! A recording as segments of a transport stream (ISO/IEC 13818-1), and their playlist (RFC 8216), for any web server to serve.
+#![tactic(auto)]
+
+mod cut;
+mod laws;
+mod playlist;
+mod segmenter;
+mod times;
+
+pub use cut::{Cut, CutFail};
+pub use laws::{a_target_covers_all, segments_are_cut, segments_are_read, worked_playlists};
+pub use playlist::file_name;
+pub use segmenter::Segmenter;

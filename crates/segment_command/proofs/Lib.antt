@@ -1,0 +1,5 @@
+pub mod Writing
+pub mod Shelving
+pub mod Filming
+pub mod Reading
+pub mod Ending

@@ -1,0 +1,5 @@
+pub mod Words
+pub mod Files
+pub mod Outcome
+pub mod Shelves
+pub mod Parts
