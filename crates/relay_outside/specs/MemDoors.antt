@@ -70,6 +70,8 @@ pub record MemHouseState : Type 0 where
   pub spoiled : ℕ
   -- the doors that it gave, as they were asked for
   pub asked : List Asked
+  -- the names of the files that it gave
+  pub named : List (List ℕ)
   -- its calls `door`, `rest` and `file`
   pub count : CallCount
 
@@ -88,6 +90,10 @@ house_gave h worker listen accept = record h {
   asked = h.asked ++ record { worker = worker; listen = listen; accept = accept } ∷ [];
   count = called h.count;
 }
+
+-- a file of that name was given
+abbrev pub house_named : MemHouseState → List ℕ → MemHouseState
+house_named h name = record h { named = h.named ++ name ∷ []; count = called h.count }
 
 -- with one call of `door`, `rest` or `file` more
 abbrev pub house_called : MemHouseState → MemHouseState

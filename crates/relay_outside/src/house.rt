@@ -1,4 +1,4 @@
-ghost use Rattle.std.specs.Prelude.{◌≡◌, List, Option, IfSome, IfNone, OnOk, OnErr};
+ghost use Rattle.std.specs.Prelude.{◌≡◌, ℕ, List, Option, Some, IfSome, IfNone, OnOk, OnErr};
 ghost use Rattle.relay_outside.specs.Doors.{IsNewDoor, IsDone, with_one};
 ghost use Rattle.relay_outside.specs.Houses.{Asked, HouseTold, IsNewFile, asked_door, Refuses, Keeps, kept_file, with_shut, shut_door};
 
@@ -30,25 +30,32 @@ pub trait House: Drop {
     /// The doors that it gave, as they were asked for, in order, where it tells them.
     ghost asked: { Self → Option (List Asked) };
 
+    /// The names of the files that it gave, in order, where it tells them.
+    ghost named: { Self → Option (List (List ℕ)) };
+
     /// Gives the door of a worker, which is new. It is to listen at that address and to close after so many
     /// links, 0 being any number. `None` comes only where the house's faults rose.
     fn door(&mut self, worker: u32, listen: &[u8], accept: u32) -> Option<Self::Door>
         ensures new { IfSome result (λ d. IsNewDoor (Self.Door.told d) × (told self.new ≡ told self.old)) }
         ensures none { IfNone result (Refuses (told self.old) (told self.new)) }
         ensures asked { IfSome result (λ _. asked self.new ≡ with_one (asked self.old) (asked_door worker listen.now accept)) }
-        ensures unasked { IfNone result (asked self.new ≡ asked self.old) };
+        ensures unasked { IfNone result (asked self.new ≡ asked self.old) }
+        ensures named { named self.new ≡ named self.old };
 
     /// Gives the rest of a worker. `None` comes only where the house's faults rose.
     fn rest(&mut self, worker: u32) -> Option<Self::Rest>
         ensures new { IfSome result (λ _. told self.new ≡ told self.old) }
         ensures none { IfNone result (Refuses (told self.old) (told self.new)) }
-        ensures asked { asked self.new ≡ asked self.old };
+        ensures asked { asked self.new ≡ asked self.old }
+        ensures named { named self.new ≡ named self.old };
 
     /// Gives a new file of that name. `None` comes only where the house's faults rose.
     fn file(&mut self, name: &[u8]) -> Option<Self::File>
         ensures new { IfSome result (λ f. IsNewFile (Self.File.holds f) (Self.File.faults f) × (told self.new ≡ told self.old)) }
         ensures none { IfNone result (Refuses (told self.old) (told self.new)) }
-        ensures asked { asked self.new ≡ asked self.old };
+        ensures asked { asked self.new ≡ asked self.old }
+        ensures named { IfSome result (λ _. named self.new ≡ with_one (named self.old) (Some name.now)) }
+        ensures unnamed { IfNone result (named self.new ≡ named self.old) };
 
     /// Keeps a file under a name. It counts as spoiled exactly where the file has faults. A refusal, for
     /// want of memory, drops the file and changes nothing.
@@ -56,7 +63,8 @@ pub trait House: Drop {
         ensures kept { OnOk result (Keeps (told self.old) (told self.new) (Self.File.faults file)
             (kept_file name.now (Self.File.holds file) (Self.File.faults file))) }
         ensures refused { OnErr result (told self.new ≡ told self.old) }
-        ensures asked { asked self.new ≡ asked self.old };
+        ensures asked { asked self.new ≡ asked self.old }
+        ensures named { named self.new ≡ named self.old };
 
     /// Takes back the door of a worker, which is closed or has given 2^40 links. A refusal, for want of
     /// memory, drops the door and changes nothing.
@@ -64,5 +72,6 @@ pub trait House: Drop {
         requires { IsDone (Self.Door.told door) }
         ensures shut { OnOk result (told self.new ≡ with_shut (told self.old) (shut_door worker (Self.Door.told door))) }
         ensures refused { OnErr result (told self.new ≡ told self.old) }
-        ensures asked { asked self.new ≡ asked self.old };
+        ensures asked { asked self.new ≡ asked self.old }
+        ensures named { named self.new ≡ named self.old };
 }

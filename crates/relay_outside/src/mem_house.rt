@@ -4,7 +4,7 @@ ghost use Rattle.std.specs.Option.{option_copied};
 ghost use Rattle.relay_outside.specs.Counts.{next_fails, risen};
 ghost use Rattle.relay_outside.specs.Doors.{IsNewDoor, IsDone, with_one};
 ghost use Rattle.relay_outside.specs.Houses.{IsNewFile, Refuses, Keeps, asked_door, kept_file, with_shut, shut_door};
-ghost use Rattle.relay_outside.specs.MemDoors.{IsNewMemDoor, door_told, house_told, house_called, house_gave, no_door, bytes_kept, door_of, took_back};
+ghost use Rattle.relay_outside.specs.MemDoors.{IsNewMemDoor, door_told, house_told, house_called, house_gave, house_named, no_door, bytes_kept, door_of, took_back};
 
 use crate::calls::Calls;
 use crate::{House, MemDoor, MemSink, Rest};
@@ -82,6 +82,30 @@ impl GivenDoor {
     }
 }
 
+// The name under which a file was given, as only clauses see it, of no bytes.
+#[derive(Drop)]
+struct GivenName {
+    at: Flow<u8>,
+}
+
+impl Model for GivenName {
+    ghost use Rattle.std.specs.Prelude.{List, ℕ};
+
+    ghost Value = { List ℕ };
+
+    ghost view = { λ g. g.at };
+}
+
+impl GivenName {
+    fn new(name: &[u8]) -> GivenName
+        ensures { result ≡ name.now }
+    {
+        let mut at = Flow::new();
+        at.add_all(name);
+        GivenName { at }
+    }
+}
+
 /// A house in memory. It tells the files that were kept and the doors that were shut.
 ///
 /// A call that doesn't fail gives the worker with a number the door with that number, and a door without
@@ -94,6 +118,7 @@ pub struct MemHouse {
     returned: Vec<ShutDoor>,
     spoilt: u64,
     given: Flow<GivenDoor>,
+    titled: Flow<GivenName>,
     made: Calls,
 }
 
@@ -109,6 +134,7 @@ impl Model for MemHouse {
       gone = h.returned.items;
       spoiled = h.spoilt;
       asked = h.given;
+      named = h.titled;
       count = h.made;
     } };
 
@@ -127,6 +153,7 @@ impl MemHouse {
           gone = [];
           spoiled = 0;
           asked = [];
+          named = [];
           count = record { fails = fails.items; calls = 0; faults = 0 };
         } }
     {
@@ -137,6 +164,7 @@ impl MemHouse {
             returned: Vec::new(alloc),
             spoilt: 0,
             given: Flow::new(),
+            titled: Flow::new(),
             made: Calls::new(fails),
         }
     }
@@ -186,6 +214,8 @@ impl House for MemHouse {
 
     ghost asked = { λ h. Some h.asked };
 
+    ghost named = { λ h. Some h.named };
+
     fn door(&mut self, worker: u32, listen: &[u8], accept: u32) -> Option<MemDoor>
         ensures new { IfSome result (λ d. IsNewDoor (door_told d) × (house_told self.new ≡ house_told self.old)) }
         ensures none { IfNone result (Refuses (house_told self.old) (house_told self.new)) }
@@ -194,6 +224,7 @@ impl House for MemHouse {
         ensures refused { IfNone result ((next_fails self.old.count ≡ true) × (self.new ≡ house_called self.old)) }
         ensures asked { IfSome result (λ _. Some self.new.asked ≡ with_one (Some self.old.asked) (asked_door worker listen.now accept)) }
         ensures unasked { IfNone result (Some self.new.asked ≡ Some self.old.asked) }
+        ensures named { Some self.new.named ≡ Some self.old.named }
     {
         if self.made.fails_next() {
             return None;
@@ -214,6 +245,7 @@ impl House for MemHouse {
         ensures given { IfSome result (λ _. (next_fails self.old.count ≡ false) × (self.new ≡ house_called self.old)) }
         ensures refused { IfNone result ((next_fails self.old.count ≡ true) × (self.new ≡ house_called self.old)) }
         ensures asked { Some self.new.asked ≡ Some self.old.asked }
+        ensures named { Some self.new.named ≡ Some self.old.named }
     {
         if self.made.fails_next() {
             return None;
@@ -221,17 +253,20 @@ impl House for MemHouse {
         Some(MemRest)
     }
 
-    fn file(&mut self, _name: &[u8]) -> Option<MemSink>
+    fn file(&mut self, name: &[u8]) -> Option<MemSink>
         ensures new { IfSome result (λ f. IsNewFile (Some f.bytes) f.count.faults × (house_told self.new ≡ house_told self.old)) }
         ensures none { IfNone result (Refuses (house_told self.old) (house_told self.new)) }
-        ensures given { IfSome result (λ f. (next_fails self.old.count ≡ false) × (self.new ≡ house_called self.old)
+        ensures given { IfSome result (λ f. (next_fails self.old.count ≡ false) × (self.new ≡ house_named self.old name.now)
             × (f ≡ record { bytes = []; count = record { fails = []; calls = 0; faults = 0 } })) }
         ensures refused { IfNone result ((next_fails self.old.count ≡ true) × (self.new ≡ house_called self.old)) }
         ensures asked { Some self.new.asked ≡ Some self.old.asked }
+        ensures named { IfSome result (λ _. Some self.new.named ≡ with_one (Some self.old.named) (Some name.now)) }
+        ensures unnamed { IfNone result (Some self.new.named ≡ Some self.old.named) }
     {
         if self.made.fails_next() {
             return None;
         }
+        self.titled.add(&GivenName::new(name));
         Some(MemSink::new(self.alloc, Vec::new(self.alloc)))
     }
 
@@ -245,6 +280,7 @@ impl House for MemHouse {
         }) }
         ensures same { OnErr result (self.new ≡ self.old) }
         ensures asked { Some self.new.asked ≡ Some self.old.asked }
+        ensures named { Some self.new.named ≡ Some self.old.named }
     {
         let title = name.to_vec(self.alloc)?;
         let spoils = file.faults() > 0;
@@ -266,6 +302,7 @@ impl House for MemHouse {
         ensures exact { OnOk result (self.new ≡ record self.old { gone = self.old.gone ++ record { worker = worker; door = door } ∷ [] }) }
         ensures same { OnErr result (self.new ≡ self.old) }
         ensures asked { Some self.new.asked ≡ Some self.old.asked }
+        ensures named { Some self.new.named ≡ Some self.old.named }
     {
         match self.returned.push(ShutDoor {
             by: worker,

@@ -13,10 +13,10 @@ use Rattle.relay_serve.specs.Taking.{TakesText}
 use Rattle.relay_outside.specs.Houses.{Asked, HouseTold}
 use Rattle.stream_registry.specs.Pasts.{Attempt}
 
-pub runs_unopened : (config : Config) (attempts : ℕ → List Attempt) (held : Option (List ℕ)) (faults : ℕ) (house house' : HouseTold) (asked asked' : Option (List Asked)) (cause : OpenFail)
-    → HouseCause cause house house' → RunsAs config attempts (seen held faults house asked) (seen held faults house' asked') (unopened_as cause)
-runs_unopened config attempts held faults house house' asked asked' opened.HouseFault h = (h, refl, refl)
-runs_unopened config attempts held faults house house' asked asked' opened.OutOfMemory h = (refl, ap (λ (x : HouseTold). x.faults) h)
+pub runs_unopened : (config : Config) (attempts : ℕ → List Attempt) (held : Option (List ℕ)) (faults : ℕ) (house house' : HouseTold) (asked asked' : Option (List Asked)) (named named' : Option (List (List ℕ))) (cause : OpenFail)
+    → HouseCause cause house house' → RunsAs config attempts (seen held faults house asked named) (seen held faults house' asked' named') (unopened_as cause)
+runs_unopened config attempts held faults house house' asked asked' named named' opened.HouseFault h = (h, refl, refl)
+runs_unopened config attempts held faults house house' asked asked' named named' opened.OutOfMemory h = (refl, ap (λ (x : HouseTold). x.faults) h)
 
 cause_is : (cause : ConfigFail) (bytes : List ℕ) → cause ≢ fail.OutOfMemory → (cause ≡ fail.OutOfMemory) ⊎ (refusal bytes ≡ Some cause) → refusal bytes ≡ Some cause
 cause_is cause bytes n (inl e) = absurd (n e)

@@ -39,7 +39,7 @@ module _ {D K L : Type 0} (holds : K → Option (List ℕ)) (faults : K → ℕ)
       })
 
 -- what follows the first of a list, as a pattern binds it
-rest_is : {X : Type 0} (x : X) (xs : List X) → take (length (x ∷ xs) - 1) (drop 1 (x ∷ xs)) ≡ xs
+pub rest_is : {X : Type 0} (x : X) (xs : List X) → take (length (x ∷ xs) - 1) (drop 1 (x ∷ xs)) ≡ xs
 rest_is x xs = take_all (length (x ∷ xs) - 1) xs (omega arith)
 
 pub rest_length : {X : Type 0} (xs : List X) → 1 ≤ length xs → length (take (length xs - 1) (drop 1 xs)) + 1 ≡ length xs

@@ -28,7 +28,7 @@ chosen : (b : Bool) (rs : List Label) (r : Label) → b ≡ true → Contains rs
 chosen true rs r e c = c
 chosen false rs r e c = absurd (let f : false ≡ true = e in cc)
 
-same_number : (m n : ℕ) → m ≡ n → (m == n) ≡ true
+pub same_number : (m n : ℕ) → m ≡ n → (m == n) ≡ true
 same_number m n e = grind (arith, nat_tests, e)
 
 own_has : (longest workers worker first i : ℕ) (rules : List PlaceRule) (rule : PlaceRule) (f : Form) (name : List ℕ) → slice_get rules i ≡ Some rule

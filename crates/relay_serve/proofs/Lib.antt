@@ -6,9 +6,11 @@ pub mod Offering
 pub mod Crossing
 pub mod Counted
 pub mod Limited
+pub mod Few
 pub mod Numbered
 pub mod Telling
 pub mod Enlisting
 pub mod Recording
 pub mod Settling
 pub mod Having
+pub mod Naming

@@ -6,7 +6,7 @@ use Rattle.std.specs.declared.result.Result.TheVariants.{Ok, Err}
 use Rattle.std.proofs.lemmas.List.{length-map}
 use Rattle.std.proofs.lemmas.List.Concat.{flat_map-append}
 use Rattle.std.proofs.lemmas.Option.{slice_get_within}
-use Rattle.std.specs.Option.{option_and_then}
+use Rattle.std.specs.Option.{option_and_then, option_or}
 use Rattle.std.proofs.lemmas.List.Elements.{All-head, All-nil, All-push, All-tail}
 use Rattle.turn_gate.specs.Histories.{Begins}
 use Rattle.stream_model.specs.declared.calls.Call.{Call}
@@ -22,6 +22,7 @@ use Rattle.stream_registry.specs.Roots.{Later}
 use Rattle.stream_registry.specs.Told.{Step, Histories}
 use Rattle.media_recorder.proofs.Standing.{begins_length, begins_trans, stand_later}
 use Rattle.media_recorder.specs.Calls.{Stand}
+use Rattle.media_recorder.specs.Joined.{from_at, joined_from}
 use Rattle.media_recorder.specs.Leaves.{Goes, LeaveEnds}
 use Rattle.media_recorder.specs.Ports.{mine_of}
 use Rattle.media_recorder.specs.Says.{Rests, Says}
@@ -145,6 +146,15 @@ rests_earlier mine root history r b t = record {
 
 -- ---- what its file holds
 
+-- one that joined from there has
+joined_or : (o p q : Option ℕ) (n : ℕ) → (p ≡ Some n → q ≡ Some n) → option_or o p ≡ Some n → option_or o q ≡ Some n
+joined_or None p q n f e = f e
+joined_or (Some m) p q n f e = e
+
+joined_on : (calls more : List Step) (n : ℕ) → joined_from calls ≡ Some n → joined_from (calls ++ more) ≡ Some n
+joined_on [] more n e = absurd (let f : None ≡ Some n = e in cc)
+joined_on (step ∷ calls) more n e = joined_or (from_at step.0.call step.1) (joined_from calls) (joined_from (calls ++ more)) n (joined_on calls more n) e
+
 as_many : (numbers : List ℕ) (calls : List Step) (history : List Step) → map (slice_get history) numbers ≡ map Some calls → length numbers ≡ length calls
 as_many numbers calls history e =
     sym (length-map numbers (slice_get history)) ∙ (ap length e ∙ length-map calls Some)
@@ -154,9 +164,9 @@ module _ {Q : Type 0} (mine : Q → List ℕ) (streams : ℕ → StreamLimits) (
   abbrev Label_is : Label
   Label_is = record { who = r.seat.who; place = r.seat.place; form = form; longest = r.tape.longest }
 
-  whole_from : r.tape.sent ++ r.tape.pending ≡ text_in form (taken r.seat.calls) → Rests mine (joined r.seat.place) r
+  whole_from : r.tape.sent ++ r.tape.pending ≡ text_in form (taken r.seat.calls) → joined_from r.seat.calls ≡ Some 0 → Rests mine (joined r.seat.place) r
       → IsWhole Label_is bytes (joined r.seat.place) (mine_of mine r.seat.pass ++ left.numbers) (r.seat.calls ++ left.leaves)
-  whole_from text t =
+  whole_from text from t =
       let take : Step = (entry_of r.seat.who (call.Take t.player all), reply.NotYet t.last) in
       let numbers_are : mine_of mine r.seat.pass ++ left.numbers ≡ t.numbers ++ t.number ∷ left.numbers =
       ap (λ (l : List ℕ). l ++ left.numbers) t.mine_are ∙ append_assoc t.numbers (t.number ∷ []) left.numbers in
@@ -164,6 +174,7 @@ module _ {Q : Type 0} (mine : Q → List ℕ) (streams : ℕ → StreamLimits) (
       ap (λ (l : List Step). l ++ left.leaves) t.calls_are ∙ append_assoc t.earlier (take ∷ []) left.leaves in
       let counts = as_many (mine_of mine r.seat.pass ++ left.numbers) (r.seat.calls ++ left.leaves) left.stand.known left.stand.calls_are in
       record {
+        from_first = joined_on r.seat.calls left.leaves 0 from;
         text = sent ∙ (sym (append-nil r.tape.sent) ∙ (ap (λ (l : List ℕ). r.tape.sent ++ l) (sym t.drained)
             ∙ (text ∙ ap (text_in form) (sym (taken_on r.seat.calls left.leaves left.only_leaves)))));
         earlier = t.earlier;
@@ -193,38 +204,38 @@ module _ {Q : Type 0} (mine : Q → List ℕ) (streams : ℕ → StreamLimits) (
       subst (IsTurnedAway r.seat.who) (sym (ap (λ (l : List Step). r.seat.calls ++ l) (left.unjoined t.0) ∙ append-nil r.seat.calls)) t.1
 
   whole_by : (end : Option RecEnd) (faults : ℕ) → IsSettled mine (joined r.seat.place) end r → starved end ≡ false → (r.end ≡ Some rec.SinkFault → faults ≢ 0)
-      → (r.end ≡ Some rec.Full → (r.player ≡ None) × IsTurnedAway r.seat.who r.seat.calls) → (worn_out end ≡ true → worn r.seat.place)
+      → (r.end ≡ Some rec.Full → (r.player ≡ None) × IsTurnedAway r.seat.who r.seat.calls) → (worn_out end ≡ true → worn r.seat.place) → (end ≡ None → joined_from r.seat.calls ≡ Some 0)
       → (r.end ≢ Some rec.OutOfMemory → r.tape.sent ++ r.tape.pending ≡ text_in form (taken r.seat.calls)) → faults ≡ 0
       → IsWhole Label_is bytes (joined r.seat.place) (mine_of mine r.seat.pass ++ left.numbers) (r.seat.calls ++ left.leaves)
       ⊎ (IsTurnedAway r.seat.who (r.seat.calls ++ left.leaves) ⊎ worn r.seat.place)
-  whole_by None faults s spared blamed full out text f =
-      inl (whole_from (text (λ e. let g : None ≡ Some rec.OutOfMemory = sym s.ended ∙ e in cc)) (s.rests refl))
-  whole_by (Some rec.SinkFault) faults s spared blamed full out text f = absurd (blamed s.ended f)
-  whole_by (Some rec.Full) faults s spared blamed full out text f = inr (inl (turned_away (full s.ended)))
-  whole_by (Some rec.Worn) faults s spared blamed full out text f = inr (inr (out refl))
-  whole_by (Some rec.OutOfMemory) faults s spared blamed full out text f = absurd (let g : true ≡ false = spared in cc)
+  whole_by None faults s spared blamed full out from text f =
+      inl (whole_from (text (λ e. let g : None ≡ Some rec.OutOfMemory = sym s.ended ∙ e in cc)) (from refl) (s.rests refl))
+  whole_by (Some rec.SinkFault) faults s spared blamed full out from text f = absurd (blamed s.ended f)
+  whole_by (Some rec.Full) faults s spared blamed full out from text f = inr (inl (turned_away (full s.ended)))
+  whole_by (Some rec.Worn) faults s spared blamed full out from text f = inr (inr (out refl))
+  whole_by (Some rec.OutOfMemory) faults s spared blamed full out from text f = absurd (let g : true ≡ false = spared in cc)
 
   records_by : (end : Option RecEnd) (faults : ℕ) → IsSettled mine (joined r.seat.place) end r → starved end ≡ false → (r.end ≡ Some rec.SinkFault → faults ≢ 0)
-      → (r.end ≡ Some rec.Full → (r.player ≡ None) × IsTurnedAway r.seat.who r.seat.calls) → (worn_out end ≡ true → worn r.seat.place)
+      → (r.end ≡ Some rec.Full → (r.player ≡ None) × IsTurnedAway r.seat.who r.seat.calls) → (worn_out end ≡ true → worn r.seat.place) → (end ≡ None → joined_from r.seat.calls ≡ Some 0)
       → (r.end ≢ Some rec.OutOfMemory → r.tape.sent ++ r.tape.pending ≡ text_in form (taken r.seat.calls))
       → Begins (r.tape.sent ++ r.tape.pending) (text_in form (taken r.seat.calls)) → Records streams joined histories worn Label_is bytes faults
-  records_by end faults s spared blamed full out text prefix = record {
+  records_by end faults s spared blamed full out from text prefix = record {
     calls = r.seat.calls ++ left.leaves;
     numbers = mine_of mine r.seat.pass ++ left.numbers;
     stand = left.stand;
     prefix = subst (λ (l : List _). Begins bytes (text_in form l)) (sym (taken_on r.seat.calls left.leaves left.only_leaves))
         (begins_trans bytes (r.tape.sent ++ r.tape.pending) (text_in form (taken r.seat.calls)) (r.tape.pending, ap (λ (l : List ℕ). l ++ r.tape.pending) sent) prefix);
-    whole = λ f. whole_by end faults s spared blamed full out text f;
+    whole = λ f. whole_by end faults s spared blamed full out from text f;
   }
 
 -- WHAT ITS FILE HOLDS once it has left
 pub records_from : {Q : Type 0} (mine : Q → List ℕ) (count : Q → ℕ) (streams : ℕ → StreamLimits) (joined histories : Histories) (worn : ℕ → Type 0) (form : Form)
     (r : RecorderState Q) (end : Option RecEnd) (held : Option (List ℕ)) (faults : ℕ) (bytes : List ℕ) → IsSettled mine (joined r.seat.place) end r → starved end ≡ false
-    → (worn_out end ≡ true → worn r.seat.place) → Tallied count held faults r → held ≡ Some bytes → (r.end ≢ Some rec.OutOfMemory → r.tape.sent ++ r.tape.pending ≡ text_in form (taken r.seat.calls))
+    → (worn_out end ≡ true → worn r.seat.place) → (end ≡ None → joined_from r.seat.calls ≡ Some 0) → Tallied count held faults r → held ≡ Some bytes → (r.end ≢ Some rec.OutOfMemory → r.tape.sent ++ r.tape.pending ≡ text_in form (taken r.seat.calls))
     → Begins (r.tape.sent ++ r.tape.pending) (text_in form (taken r.seat.calls)) → HasLeft mine (streams r.seat.place) (histories r.seat.place) r
     → Records streams joined histories worn (record { who = r.seat.who; place = r.seat.place; form = form; longest = r.tape.longest }) bytes faults
-records_from mine count streams joined histories worn form r end held faults bytes s spared out t told text prefix left =
-    records_by mine streams joined histories worn form r bytes left (t.told bytes told) end faults s spared t.blamed t.full out text prefix
+records_from mine count streams joined histories worn form r end held faults bytes s spared out from t told text prefix left =
+    records_by mine streams joined histories worn form r bytes left (t.told bytes told) end faults s spared t.blamed t.full out from text prefix
 
 -- ---- in histories that went on
 
@@ -232,6 +243,7 @@ module _ (streams : ℕ → StreamLimits) (joined joined' histories histories' :
   whole_later : (r : Label) (bytes : List ℕ) (numbers : List ℕ) (calls : List Step) → IsWhole r bytes (joined' r.place) numbers calls
       → IsWhole r bytes (joined r.place) numbers calls
   whole_later r bytes numbers calls w = record {
+    from_first = w.from_first;
     text = w.text;
     earlier = w.earlier;
     player = w.player;
@@ -284,16 +296,16 @@ module _ {Q : Type 0} (mine : Q → List ℕ) (root history : List Step) (busies
 pub records_of : {P K Q : Type 0} (holds : K → Option (List ℕ)) (faults : K → ℕ) (mine : Q → List ℕ) (count : Q → ℕ) (streams : ℕ → StreamLimits) (joined histories : Histories)
     (worn : ℕ → Type 0) (old r : Recorder P K Q) (end : Option RecEnd) (file : K) → label_of r ≡ label_of old
     → IsSettled mine (joined (state_of old).seat.place) end (state_of r) → starved end ≡ false → (worn_out end ≡ true → worn (state_of r).seat.place)
-    → Tallies count holds faults r → file ≡ sink_of r
+    → (end ≡ None → joined_from (state_of r).seat.calls ≡ Some 0) → Tallies count holds faults r → file ≡ sink_of r
     → ((state_of r).end ≢ Some rec.OutOfMemory → (state_of r).tape.sent ++ (state_of r).tape.pending ≡ text_of r (taken (state_of r).seat.calls))
     → Begins ((state_of r).tape.sent ++ (state_of r).tape.pending) (text_of r (taken (state_of r).seat.calls))
     → HasLeft mine (streams (state_of r).seat.place) (histories (state_of r).seat.place) (state_of r)
     → (bytes : List ℕ) → holds file ≡ Some bytes → Records streams joined histories worn (label_of old) bytes (faults file)
-records_of holds faults mine count streams joined histories worn old r end file same settled spared out tally is text prefix left = λ bytes told.
+records_of holds faults mine count streams joined histories worn old r end file same settled spared out from tally is text prefix left = λ bytes told.
     subst (λ (l : Label). Records streams joined histories worn l bytes (faults file)) same
     (subst (λ (n : ℕ). Records streams joined histories worn (label_of r) bytes n) (ap faults (sym is))
     (records_from mine count streams joined histories worn (form_of r) (state_of r) end (holds (sink_of r)) (faults (sink_of r)) bytes
-    (subst (λ (l : Label). IsSettled mine (joined l.place) end (state_of r)) (sym same) settled) spared out tally (ap holds (sym is) ∙ told) text prefix left))
+    (subst (λ (l : Label). IsSettled mine (joined l.place) end (state_of r)) (sym same) settled) spared out from tally (ap holds (sym is) ∙ told) text prefix left))
 
 -- the file that is kept of it
 pub recorded_by : (streams : ℕ → StreamLimits) (joined histories : Histories) (worn worn' : ℕ → Type 0) (places : List PlaceRule) (r : Label) (name : List ℕ)

@@ -30,40 +30,64 @@ goes_on h k l = record { at_each = l.at }
 
 module _ (config : Config) (streams : ℕ → StreamLimits) (h k : Histories) where
   -- in histories that went on
-  pub balanced_later : Later h k → (worker : ℕ) (door : DoorTold) → IsBalanced config streams h worker door → IsBalanced config streams k worker door
-  balanced_later l worker door b = record {
+  pub balanced_later : Later h k → (worn : Bool) (worker : ℕ) (door : DoorTold) → IsBalanced config streams h worn worker door → IsBalanced config streams k worn worker door
+  balanced_later l worn worker door b = record {
     terms = b.terms;
     number = b.number;
     limited = b.limited;
-    settled = settled_later (granted_from 0 config.places) b.terms streams h k door false (goes_on h k l) b.settled;
+    links_are = b.links_are;
+    settled = settled_later (granted_from 0 config.places) b.terms streams h k door false worn (goes_on h k l) b.settled;
   }
 
   -- from what a worker tells at its end
-  pub balanced_from : (streams' : ℕ → StreamLimits) (t : Terms) (worker : ℕ) (door : DoorTold) (refused : Bool)
-      → Settled (granted_from 0 config.places) t streams' h door refused → refused ≡ false → streams' ≡ streams → Later h k → t.number ≡ worker
-      → t.limits ≡ config.limits → IsBalanced config streams k worker door
-  balanced_from streams' t worker door refused s r same l n m =
+  pub balanced_from : (streams' : ℕ → StreamLimits) (t : Terms) (worker : ℕ) (door : DoorTold) (refused worn : Bool)
+      → Settled (granted_from 0 config.places) t streams' h door refused worn → refused ≡ false → streams' ≡ streams → Later h k → t.number ≡ worker
+      → t.limits ≡ config.limits → t.links ≡ config.links → IsBalanced config streams k worn worker door
+  balanced_from streams' t worker door refused worn s r same l n m links =
       let desk = granted_from 0 config.places in
       record {
         terms = t;
         number = n;
         limited = m;
-        settled = settled_later desk t streams h k door false (goes_on h k l)
-            (subst (λ (f : ℕ → StreamLimits). Settled desk t f h door false) same (subst (λ (b : Bool). Settled desk t streams' h door b) r s));
+        links_are = links;
+        settled = settled_later desk t streams h k door false worn (goes_on h k l)
+            (subst (λ (f : ℕ → StreamLimits). Settled desk t f h door false worn) same (subst (λ (b : Bool). Settled desk t streams' h door b worn) r s));
       }
 
-pub balanced_as : (config : Config) (q q' : PortRules) (h : Histories) (n m : ℕ) (door : DoorTold) → q ≡ q' → m ≡ n → IsBalanced config q.limits h m door
-    → IsBalanced config q'.limits h n door
-balanced_as config q q' h n m door e f b =
-    subst (λ (r : PortRules). IsBalanced config r.limits h n door) e (subst (λ (i : ℕ). IsBalanced config q.limits h i door) f b)
+-- where more is said of full histories
+pub balanced_worn : (config : Config) (streams : ℕ → StreamLimits) (h : Histories) (worn more : Bool) → (more ≡ false → worn ≡ false) → (worker : ℕ) (door : DoorTold) → IsBalanced config streams h worn worker door → IsBalanced config streams h more worker door
+balanced_worn config streams h worn more less worker door b =
+    let s = b.settled in
+    record {
+      terms = b.terms;
+      number = b.number;
+      limited = b.limited;
+      links_are = b.links_are;
+      settled = record {
+        accounts = s.accounts;
+        back_is = s.back_is;
+        accounted = s.accounted;
+        named = s.named;
+        apart = s.apart;
+        counted = s.counted;
+        few = s.few;
+        spared = s.spared;
+        unworn = λ m. s.unworn (less m);
+      };
+    }
+
+pub balanced_as : (config : Config) (q q' : PortRules) (h : Histories) (worn : Bool) (n m : ℕ) (door : DoorTold) → q ≡ q' → m ≡ n → IsBalanced config q.limits h worn m door
+    → IsBalanced config q'.limits h worn n door
+balanced_as config q q' h worn n m door e f b =
+    subst (λ (r : PortRules). IsBalanced config r.limits h worn n door) e (subst (λ (i : ℕ). IsBalanced config q.limits h worn i door) f b)
 
 -- what a house tells of such a door
-pub shut_is : (config : Config) (streams : ℕ → StreamLimits) (h : Histories) (worker number : ℕ) (door : DoorTold) → number ≡ worker
-    → IsBalanced config streams h number door → (s : Shut) → shut_door number door ≡ Some s → IsShut config streams h worker s
-shut_is config streams h worker number door e b s t = record {
+pub shut_is : (config : Config) (streams : ℕ → StreamLimits) (h : Histories) (worn : Bool) (worker number : ℕ) (door : DoorTold) → number ≡ worker
+    → IsBalanced config streams h worn number door → (s : Shut) → shut_door number door ≡ Some s → IsShut config streams h worn worker s
+shut_is config streams h worn worker number door e b s t = record {
   door = door;
   told = subst (λ (n : ℕ). shut_door n door ≡ Some s) e t;
-  balanced = subst (λ (n : ℕ). IsBalanced config streams h n door) e b;
+  balanced = subst (λ (n : ℕ). IsBalanced config streams h worn n door) e b;
 }
 
 pub left_as : (config : Config) {K : Type 0} (holds : K → Option (List ℕ)) (faults : K → ℕ) (q q' : PortRules) (n m : ℕ) (door : DoorTold)
@@ -86,6 +110,18 @@ recordings_more config n =
 pub or_false : (a b : Bool) → (a || b) ≡ false → (a ≡ false) × (b ≡ false)
 or_false false b e = (refl, e)
 or_false true b e = absurd (let f : true ≡ false = e in cc)
+
+pub or_false_first : (a b : Bool) → (a || b) ≡ false → a ≡ false
+or_false_first a b e = (or_false a b e).0
+
+pub or_false_last : (a b : Bool) → (a || b) ≡ false → b ≡ false
+or_false_last a b e = (or_false a b e).1
+
+-- one of two, where the first isn't
+pub told_or : (told worn : Bool) → (told || not worn) ≡ true → worn ≡ true → told ≡ true
+told_or true worn e w = refl
+told_or false true e w = e
+told_or false false e w = absurd (let f : false ≡ true = w in cc)
 
 pub and_true : (a b : Bool) → (a && b) ≡ true → (a ≡ true) × (b ≡ true)
 and_true true b e = (refl, e)

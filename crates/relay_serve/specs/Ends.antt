@@ -23,7 +23,7 @@ use Rattle.relay_serve.specs.Texts.{WritesPart, lines_from}
 use Rattle.relay_serve.specs.Counts.{counted_if}
 use Rattle.relay_serve.specs.Lasts.{AllEnd, IsWorn}
 use Rattle.relay_serve.specs.Recorded.{IsRecorded}
-use Rattle.relay_serve.specs.Recordings.{recordings_upto}
+use Rattle.relay_serve.specs.Recordings.{names_upto, recordings_upto, with_names}
 use Rattle.relay_serve.specs.Settling.{AsksFor, IsShut, TellsMore}
 use Rattle.stream_model.specs.declared.calls.StreamLimits.{StreamLimits}
 use Rattle.relay_serve.specs.Places.{limits_in}
@@ -53,15 +53,17 @@ HouseCause opened.OutOfMemory before now = now ≡ before
 
 -- ---- the codes
 
--- what is seen of a report and a house: what the report holds, where it tells it, its faults, what the house tells, and how its doors were asked for
+-- what is seen of a report and a house: what the report holds, where it tells it, its faults, what the house tells, how its doors
+-- were asked for, and under which names it gave files
 pub record Seen : Type 0 where
   pub held : Option (List ℕ)
   pub sink_faults : ℕ
   pub house : HouseTold
   pub asked : Option (List Asked)
+  pub named : Option (List (List ℕ))
 
-abbrev pub seen : Option (List ℕ) → ℕ → HouseTold → Option (List Asked) → Seen
-seen held sink_faults house asked = record { held = held; sink_faults = sink_faults; house = house; asked = asked }
+abbrev pub seen : Option (List ℕ) → ℕ → HouseTold → Option (List Asked) → Option (List (List ℕ)) → Seen
+seen held sink_faults house asked named = record { held = held; sink_faults = sink_faults; house = house; asked = asked; named = named }
 
 -- and of the configuration's file: what is left of it, where it tells that, and its faults
 pub record Outer : Type 0 where
@@ -94,8 +96,13 @@ pub record Reports (config : Config) (attempts : ℕ → List Attempt) (old new 
   pub later : Later joined (tells attempts)
   -- each worker's door was asked for with the configured address and number of links
   pub asked : TellsMore (AsksFor config) (range_with_len 0 config.workers) old.asked new.asked
+  -- the file of each recording was made under the configured name, and no other file was
+  pub named : new.named ≡ with_names old.named (names_upto config config.workers)
+  -- a session ended as the history of its stream was full: only where the line of a stream tells that its history is
+  pub worn : Bool
+  pub full : worn ≡ true → (place : ℕ) × IsWorn counts place
   -- each worker's door was shut, and what its links were sent is what they were owed
-  pub shut : TellsMore (IsShut config streams joined) (range_with_len 0 config.workers) old.house.shut new.house.shut
+  pub shut : TellsMore (IsShut config streams joined worn) (range_with_len 0 config.workers) old.house.shut new.house.shut
   -- the file of each recording was kept, and holds what its recorder was sent
   pub kept : TellsMore (IsRecorded streams joined (tells attempts) (IsWorn counts) config.places) (recordings_upto config config.workers)
       old.house.kept new.house.kept

@@ -10,6 +10,7 @@ use Rattle.relay_outside.specs.Houses.{Kept}
 use Rattle.media_recorder.specs.declared.turn.RecEnd.{RecEnd}
 use Rattle.media_recorder.specs.declared.turn.RecEnd.TheVariants as rec
 use Rattle.media_recorder.specs.Calls.{Stand}
+use Rattle.media_recorder.specs.Joined.{joined_from}
 use Rattle.media_recorder.specs.Ports.{mine_of}
 use Rattle.media_recorder.specs.Says.{Rests}
 use Rattle.media_recorder.specs.Seats.{entry_of}
@@ -24,9 +25,10 @@ use Rattle.relay_serve.specs.Recordings.{file_name}
 abbrev pub IsLeave : Step → Type 0
 IsLeave step = (player : ℕ) × (step.0.call ≡ call.Leave player)
 
--- THE WHOLE RECORDING: the file is the text of all that the recorder's Takes were sent, and the last of these found nothing
--- more, after all these calls of the stream's history. The recorder left then
+-- THE WHOLE RECORDING: the recorder joined before its stream had an item. The file is the text of all that its Takes were sent, and
+-- the last of these found nothing more, after all these calls of the stream's history. The recorder left then
 pub record IsWhole (r : Label) (bytes : List ℕ) (joined : List Step) (numbers : List ℕ) (calls : List Step) : Type 0 where
+  pub from_first : joined_from calls ≡ Some 0
   pub text : bytes ≡ text_in r.form (taken calls)
   pub earlier : List Step
   pub player : ℕ

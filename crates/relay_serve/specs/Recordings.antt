@@ -1,7 +1,7 @@
 -- The recordings of a configuration
 use Rattle.std.specs.Prelude.{ℕ, ◌+◌, ◌*◌, ◌^◌, ◌%◌, ◌==◌, if◌then◌else◌, List, [], ◌∷◌, ◌++◌, Option, Some, None, slice_get}
 use Rattle.std.specs.List.{flat_map, range_with_len}
-use Rattle.std.specs.Option.{option_and_then}
+use Rattle.std.specs.Option.{option_and_then, option_map}
 use Rattle.relay_config.specs.declared.config.Config.{Config}
 use Rattle.relay_config.specs.declared.config.PlaceRule.{PlaceRule}
 use Rattle.relay_worker.specs.Running.{Label}
@@ -49,3 +49,30 @@ recordings_of config worker = own_from config.limits.max_message config.workers 
 -- THE RECORDINGS of the first workers, by their numbers
 abbrev pub recordings_upto : Config → ℕ → List Label
 recordings_upto config workers = flat_map (recordings_of config) (range_with_len 0 workers)
+
+-- ---- their files, as the house is asked for them
+
+abbrev pub names_if : Option (List ℕ) → List (List ℕ)
+names_if None = []
+names_if (Some name) = name ∷ []
+
+-- the names of the files of the stream at a place: FLV before the transport stream
+abbrev pub names_at : PlaceRule → List (List ℕ)
+names_at rule = names_if rule.flv ++ names_if rule.ts
+
+-- those of the worker with this number, of so many, where the places are numbered from `place` on
+abbrev pub names_from : ℕ → ℕ → ℕ → List PlaceRule → List (List ℕ)
+names_from workers worker place [] = []
+names_from workers worker place (rule ∷ rules) =
+    (if place % workers == worker then names_at rule else []) ++ names_from workers worker (place + 1) rules
+
+abbrev pub names_of : Config → ℕ → List (List ℕ)
+names_of config worker = names_from config.workers worker 0 config.places
+
+-- THE NAMES OF ALL FILES, as the first workers are given them, by their numbers
+abbrev pub names_upto : Config → ℕ → List (List ℕ)
+names_upto config workers = flat_map (names_of config) (range_with_len 0 workers)
+
+-- what a house tells that gave files of these names more
+abbrev pub with_names : Option (List (List ℕ)) → List (List ℕ) → Option (List (List ℕ))
+with_names before names = option_map (λ list. list ++ names) before

@@ -1,5 +1,5 @@
 -- What the doors that were shut tell of their links
-use Rattle.std.specs.Prelude.{◌≡◌, ◌<◌, ℕ, false, List, ◌++◌, length, map, All, slice_index_or, Option, Some}
+use Rattle.std.specs.Prelude.{◌≡◌, ℕ, Bool, false, List, ◌++◌, map, All, Option, Some}
 use Rattle.std.specs.List.{AllZip}
 use Rattle.relay_config.specs.declared.config.Config.{Config}
 use Rattle.relay_outside.specs.Doors.{DoorTold, IsDone}
@@ -22,10 +22,6 @@ use Rattle.turn_gate.specs.Known.{PassKnown}
 use Rattle.relay_serve.specs.Recordings.{recordings_of}
 use Rattle.relay_serve.specs.Starts.{HasTally, IsFiledBy}
 
--- each member of a list, by its place there
-abbrev pub EachAt : {X : Type 0} → (ℕ → X → Type 0) → List X → Type 0
-EachAt {X} P xs = (i : ℕ) (d : X) → i < length xs → P i (slice_index_or xs i d)
-
 -- ---- a worker
 
 -- a worker that was given the recorders of these recordings too, each with a tally
@@ -36,12 +32,13 @@ pub record Enlists {D K L : Type 0} (holds : K → Option (List ℕ)) (faults : 
   pub labels : map label_of w'.recorders ≡ map label_of w.recorders ++ recordings
   pub tallies : All (HasTally holds faults) w.recorders → All (HasTally holds faults) w'.recorders
 
--- A WORKER OF THE SERVER: it has that number and the configured limits, its books are kept, and its recorders are those of its
--- recordings, each with a tally
+-- A WORKER OF THE SERVER: it has that number, the configured limits and as many link places as are configured, its books are kept,
+-- and its recorders are those of its recordings, each with a tally
 pub record IsServing (config : Config) {D K L : Type 0} (links : L → Option LinkTold) (counts : L → LinkCounts) (doors : D → DoorTold)
     (holds : K → Option (List ℕ)) (faults : K → ℕ) (number : ℕ) (w : WorkerState Streams D K (PassKnown Site Attempt) L) : Type 0 where
   pub number_is : w.terms.number ≡ number
   pub limited : w.terms.limits ≡ config.limits
+  pub links_are : w.terms.links ≡ config.links
   pub books : HasBooks shared_rules (λ s. told_at s.roots) (λ p. told p.seen) links counts doors (granted_from 0 config.places) w
   pub labels : map label_of w.recorders ≡ recordings_of config number
   pub tallies : All (HasTally holds faults) w.recorders
@@ -63,14 +60,16 @@ asked_of config worker = record { worker = worker; listen = config.listen; accep
 abbrev pub AsksFor : Config → ℕ → Asked → Type 0
 AsksFor config worker asked = asked ≡ asked_of config worker
 
-module _ (config : Config) (streams : ℕ → StreamLimits) (histories : Histories) where
-  -- THE DOOR OF A WORKER at its end, where nothing was refused for want of memory: as many links are back as it gave, and each
-  -- was sent a beginning of what its session owes, whose calls stand in these histories
+module _ (config : Config) (streams : ℕ → StreamLimits) (histories : Histories) (worn : Bool) where
+  -- THE DOOR OF A WORKER at its end, where nothing was refused for want of memory, and no session found the history of its stream
+  -- full unless `worn` says so: as many links are back as it gave, no more were out at a time than are configured, and each was sent
+  -- a beginning of what its session owes, whose calls stand in these histories
   pub record IsBalanced (worker : ℕ) (door : DoorTold) : Type 0 where
     pub terms : Terms
     pub number : terms.number ≡ worker
     pub limited : terms.limits ≡ config.limits
-    pub settled : Settled (granted_from 0 config.places) terms streams histories door false
+    pub links_are : terms.links ≡ config.links
+    pub settled : Settled (granted_from 0 config.places) terms streams histories door false worn
 
   -- what a house tells of such a door
   pub record IsShut (worker : ℕ) (shut : Shut) : Type 0 where

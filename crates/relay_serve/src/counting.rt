@@ -1,5 +1,5 @@
 //! The last call at each place, and the report.
-ghost use Rattle.std.specs.Prelude.{◌≡◌, ◌≢◌, ◌<◌, ◌≤◌, ◌+◌, ◌++◌, ℕ, None, Contains, length, string_bytes, vec_len, map, IfOk, OnOk};
+ghost use Rattle.std.specs.Prelude.{◌≡◌, ◌≢◌, ◌<◌, ◌≤◌, ◌+◌, ◌++◌, ℕ, true, None, Contains, length, string_bytes, vec_len, map, IfOk, OnOk};
 ghost use Rattle.std.specs.Fmt.{decimal};
 ghost use Rattle.turn_gate.specs.Histories.{Begins};
 ghost use Rattle.stream_registry.specs.Gates.{told_at};
@@ -121,6 +121,18 @@ pub(crate) fn count_all<W: Wait>(
         }
     }
     Ok(list)
+}
+
+/// Whether the history of a stream is full.
+pub(crate) fn has_worn(list: &[Option<Counts>]) -> bool
+    ensures { result ≡ true → (place : ℕ) × IsWorn list.now place }
+{
+    for place in 0..list.len() {
+        if list[place].is_none() {
+            return true;
+        }
+    }
+    false
 }
 
 // Adds a label and a number.

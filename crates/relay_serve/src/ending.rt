@@ -1,14 +1,14 @@
 //! What comes after the workers: ports are gathered, recorders take what is left and leave, files are kept and doors shut.
-ghost use Rattle.std.specs.Prelude.{◌≡◌, ◌+◌, ◌≤◌, ℕ, List, [], ◌∷◌, true, false, All, Contains, Some, map, vec_len, IfOk, option_map};
+ghost use Rattle.std.specs.Prelude.{◌≡◌, ◌+◌, ◌≤◌, ℕ, Bool, List, [], ◌∷◌, true, false, All, Contains, None, Some, map, vec_len, IfOk, option_map};
 ghost use Rattle.std.specs.List.{range_with_len};
 ghost use Rattle.relay_outside.specs.Doors.{with_one};
 ghost use Rattle.relay_outside.specs.Houses.{kept_file, shut_door};
 ghost use Rattle.relay_serve.specs.Recorded.{HasLeft, IsRecorded, IsSettled, Records, starved, worn_out};
 ghost use Rattle.relay_serve.specs.Recordings.{file_name, recordings_of, recordings_upto};
-ghost use Rattle.relay_serve.specs.Settling.{EachAt, IsBalanced, IsLeft, IsServing, IsShut, TellsMore};
+ghost use Rattle.relay_serve.specs.Settling.{IsBalanced, IsLeft, IsServing, IsShut, TellsMore};
 ghost use Rattle.relay_serve.specs.Starts.{HasRules, HasTally, IsFiledBy};
 ghost use Rattle.relay_worker.specs.Filed.{sink_of, state_of};
-ghost use Rattle.relay_worker.specs.Running.{HasRun, label_of};
+ghost use Rattle.relay_worker.specs.Running.{EachAt, HasRun, label_of};
 ghost use Rattle.stream_registry.specs.Gates.{numbers, told_at};
 ghost use Rattle.stream_registry.specs.Roots.{Later};
 ghost use Rattle.stream_registry.specs.SharedState.{shared_rules};
@@ -31,20 +31,22 @@ pub(crate) struct Left<D: Door, K: Sink> {
     pub recorders: Vec<ServeRecorder<K>>,
 }
 
-/// What is left of all workers, and whether one of them lacked memory.
+/// What is left of all workers, whether one of them lacked memory, and whether a session found the history of its stream full.
 #[derive(Drop)]
 pub(crate) struct AllLeft<D: Door, K: Sink> {
     pub list: Vec<Left<D, K>>,
     pub refused: bool,
+    pub worn: bool,
 }
 
-// Takes a worker apart, whose port is gathered into the first. Whether it lacked memory.
+// Takes a worker apart, whose port is gathered into the first. Whether it lacked memory, and whether a session found the history
+// of its stream full.
 fn take_apart<D: Door, R: Rest, K: Sink>(
     config: &Config,
     first: &mut Shared<Desk>,
     worker: ServeWorker<D, R, K>,
     number: u32,
-) -> (Left<D, K>, bool)
+) -> (Left<D, K>, bool, bool)
     requires run { HasRun D.told worker }
     requires rules { HasRules (shared_rules first.old) worker.bench.port }
     requires serving { IsServing config.now D.Link.told D.Link.counts D.told K.holds K.faults number worker }
@@ -52,7 +54,8 @@ fn take_apart<D: Door, R: Rest, K: Sink>(
     ensures grown { Later (told_at first.old.roots) (told_at first.new.roots) }
     ensures number { result.0.number ≡ number }
     ensures left { IsLeft config.now K.holds K.faults (shared_rules first.old) number (D.told result.0.door) result.0.recorders.items }
-    ensures balanced { result.1 ≡ false → IsBalanced config.now (shared_rules first.old).limits (told_at first.new.roots) number (D.told result.0.door) }
+    ensures balanced { result.1 ≡ false
+        → IsBalanced config.now (shared_rules first.old).limits (told_at first.new.roots) result.2 number (D.told result.0.door) }
 {
     let _ = config;
     let finished = worker.finish();
@@ -62,7 +65,7 @@ fn take_apart<D: Door, R: Rest, K: Sink>(
         door: finished.door,
         recorders: finished.recorders,
     };
-    (left, finished.refused)
+    (left, finished.refused, finished.worn)
 }
 
 /// Takes all workers apart, the last first. Their ports are gathered into the first.
@@ -83,19 +86,25 @@ pub(crate) fn take_all_apart<D: Door, R: Rest, K: Sink>(
     ensures left { IfOk result (λ all.
         All (λ l. IsLeft config.now K.holds K.faults (shared_rules first.old) l.number (D.told l.door) l.recorders.items) all.list.items) }
     ensures balanced { IfOk result (λ all. all.refused ≡ false
-        → All (λ l. IsBalanced config.now (shared_rules first.old).limits (told_at first.new.roots) l.number (D.told l.door)) all.list.items) }
+        → All (λ l. IsBalanced config.now (shared_rules first.old).limits (told_at first.new.roots) all.worn l.number (D.told l.door)) all.list.items) }
 {
     let mut list = Vec::new(alloc);
     let mut refused = false;
+    let mut worn = false;
     while let Some(worker) = workers.pop() {
         let number = workers.len() as u32;
-        let (left, lacked) = take_apart(config, first, worker, number);
+        let (left, lacked, found) = take_apart(config, first, worker, number);
         refused |= lacked;
+        worn |= found;
         if list.push(left).is_err() {
             return Err(OutOfMemory);
         }
     }
-    Ok(AllLeft { list, refused })
+    Ok(AllLeft {
+        list,
+        refused,
+        worn,
+    })
 }
 
 // Turns the recorder until its stream has nothing more for it, or it has ended. Why it has.
@@ -150,6 +159,17 @@ fn is_worn(end: Option<RecEnd>) -> bool
     }
 }
 
+// Whether a recorder that hasn't ended joined before its stream had an item.
+fn is_first(end: Option<RecEnd>, from: Option<u64>) -> bool
+    ensures { result ≡ true → end ≡ None → from ≡ Some 0 }
+{
+    match (end, from) {
+        (None, Some(from)) => from == 0,
+        (None, None) => false,
+        (Some(_), _) => true,
+    }
+}
+
 // The recorder leaves its stream, and gives its file. Whether it has left: nobody else has a pass then, so that it isn't busy,
 // but there may be no memory for the call.
 fn part<K: Sink>(port: &mut Shared<Desk>, recorder: ServeRecorder<K>) -> (K, bool)
@@ -167,7 +187,8 @@ fn part<K: Sink>(port: &mut Shared<Desk>, recorder: ServeRecorder<K>) -> (K, boo
     }
 }
 
-// What a recorder has come to: its file, whether there was memory for all of it, and whether the history of its stream was full.
+// What a recorder has come to: its file, whether there was memory for all of it and it was there from the first item on, and
+// whether the history of its stream was full.
 #[derive(Drop)]
 struct Outcome<K: Sink> {
     file: K,
@@ -191,11 +212,12 @@ fn finish<W: Wait, K: Sink>(
 {
     let end = settle(rt, port, &mut recorder);
     recorder.law();
+    let first = is_first(end, recorder.joined_from());
     let (file, left) = part(port, recorder);
     let spared = !is_starved(end);
     Outcome {
         file,
-        whole: left & spared,
+        whole: left & spared & first,
         worn: is_worn(end),
     }
 }
@@ -222,6 +244,7 @@ fn keep<H: House>(
 ) -> bool
     ensures faults { (H.told house.new).faults ≡ (H.told house.old).faults }
     ensures asked { H.asked house.new ≡ H.asked house.old }
+    ensures named { H.named house.new ≡ H.named house.old }
     ensures shut { (H.told house.new).shut ≡ (H.told house.old).shut }
     ensures kept { result ≡ true → (name : List ℕ) × (file_name places.now place form ≡ Some name)
         × ((H.told house.new).kept ≡ with_one (H.told house.old).kept (kept_file name (H.File.holds file) (H.File.faults file))) }
@@ -259,6 +282,7 @@ fn end_recorder<W: Wait, H: House>(
     ensures grown { Later (told_at port.old.roots) (told_at port.new.roots) }
     ensures faults { (H.told house.new).faults ≡ (H.told house.old).faults }
     ensures asked { H.asked house.new ≡ H.asked house.old }
+    ensures named { H.named house.new ≡ H.named house.old }
     ensures shut { (H.told house.new).shut ≡ (H.told house.old).shut }
     ensures noted { (q : ℕ) → Contains full.old.items q → Contains full.new.items q }
     ensures kept { result ≡ true → TellsMore
@@ -288,6 +312,7 @@ fn end_recorders<W: Wait, H: House>(
     ensures grown { Later (told_at port.old.roots) (told_at port.new.roots) }
     ensures faults { (H.told house.new).faults ≡ (H.told house.old).faults }
     ensures asked { H.asked house.new ≡ H.asked house.old }
+    ensures named { H.named house.new ≡ H.named house.old }
     ensures shut { (H.told house.new).shut ≡ (H.told house.old).shut }
     ensures noted { (q : ℕ) → Contains full.old.items q → Contains full.new.items q }
     ensures kept { result ≡ true → TellsMore
@@ -316,6 +341,7 @@ fn end_left<W: Wait, H: House>(
     ensures grown { Later (told_at port.old.roots) (told_at port.new.roots) }
     ensures faults { (H.told house.new).faults ≡ (H.told house.old).faults }
     ensures asked { H.asked house.new ≡ H.asked house.old }
+    ensures named { H.named house.new ≡ H.named house.old }
     ensures noted { (q : ℕ) → Contains full.old.items q → Contains full.new.items q }
     ensures kept { result ≡ true → TellsMore
         (IsRecorded (shared_rules port.old).limits (told_at port.old.roots) (told_at port.new.roots) (Contains full.new.items) config.now.places)
@@ -349,12 +375,13 @@ pub(crate) fn end_all<W: Wait, H: House>(
     ensures grown { Later (told_at port.old.roots) (told_at port.new.roots) }
     ensures faults { (H.told house.new).faults ≡ (H.told house.old).faults }
     ensures asked { H.asked house.new ≡ H.asked house.old }
+    ensures named { H.named house.new ≡ H.named house.old }
     ensures kept { result ≡ true → TellsMore
         (IsRecorded (shared_rules port.old).limits (told_at port.old.roots) (told_at port.new.roots) (Contains full.new.items) config.now.places)
         (recordings_upto config.now (vec_len list)) (H.told house.old).kept (H.told house.new).kept }
-    ensures shut { result ≡ true
-        → All (λ l. IsBalanced config.now (shared_rules port.old).limits (told_at port.old.roots) l.number (H.Door.told l.door)) list.items
-        → TellsMore (IsShut config.now (shared_rules port.old).limits (told_at port.old.roots)) (range_with_len 0 (vec_len list))
+    ensures shut { result ≡ true → (worn : Bool)
+        → All (λ l. IsBalanced config.now (shared_rules port.old).limits (told_at port.old.roots) worn l.number (H.Door.told l.door)) list.items
+        → TellsMore (IsShut config.now (shared_rules port.old).limits (told_at port.old.roots) worn) (range_with_len 0 (vec_len list))
         (H.told house.old).shut (H.told house.new).shut }
 {
     let mut whole = true;

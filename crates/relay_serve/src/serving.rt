@@ -3,17 +3,18 @@ ghost use Rattle.std.specs.Prelude.{◌≡◌, ◌≤◌, ℕ, length, map, vec_
 ghost use Rattle.relay_config.specs.Accepts.{Lawful};
 ghost use Rattle.relay_serve.specs.Ends.{EndsAs, HouseCause, RefusesAs, RunsAs, Serves, code_of, outer, seen, unopened_as};
 ghost use Rattle.relay_serve.specs.Places.{limits_in};
+ghost use Rattle.relay_serve.specs.Recordings.{names_upto, with_names};
 ghost use Rattle.std.specs.List.{range_with_len};
 ghost use Rattle.relay_outside.specs.Houses.{Asked};
-ghost use Rattle.relay_serve.specs.Settling.{AsksFor, EachAt, IsServing, TellsMore};
-ghost use Rattle.relay_serve.specs.Starts.{HasLimits, HasRules};
+ghost use Rattle.relay_serve.specs.Settling.{AsksFor, IsServing, TellsMore};
+ghost use Rattle.relay_serve.specs.Starts.{AreReady, HasLimits, HasRules};
 ghost use Rattle.relay_serve.specs.Words.{is_serve};
-ghost use Rattle.relay_worker.specs.Running.{HasRun};
+ghost use Rattle.relay_worker.specs.Running.{EachAt, HasRun};
 ghost use Rattle.stream_registry.specs.Pasts.{Attempt};
 ghost use Rattle.stream_registry.specs.Roots.{seen_at};
 ghost use Rattle.stream_registry.specs.SharedState.{shared_rules};
 
-use crate::counting::{count_all, report_of};
+use crate::counting::{count_all, has_worn, report_of};
 use crate::ending::{end_all, take_all_apart};
 use crate::put::{PutFail, put_all};
 use crate::reading::{ReadFail, read_text};
@@ -110,6 +111,7 @@ fn make_ready<H: House>(
     requires lawful { Lawful config.now }
     ensures house { MatchResult result (λ _. H.told house.new ≡ H.told house.old) (λ fail. HouseCause fail (H.told house.old) (H.told house.new)) }
     ensures asked { IfOk result (λ ready. TellsMore (AsksFor config.now) (range_with_len 0 (vec_len ready.workers)) (H.asked house.old) (H.asked house.new)) }
+    ensures named { IfOk result (λ ready. H.named house.new ≡ with_names (H.named house.old) (names_upto config.now (vec_len ready.workers))) }
     ensures few { IfOk result (λ ready. vec_len ready.workers ≤ 16) }
     ensures places { IfOk result (λ ready. length config.now.places ≡ length (shared_rules ready.port).names) }
     ensures limits { IfOk result (λ ready. HasLimits (limits_in config.now) (length config.now.places) ready.port) }
@@ -152,8 +154,9 @@ fn conclude<W: Wait, H: House, K: Sink>(
     requires each { vec_len workers ≡ config.now.workers }
     requires serving { EachAt (IsServing config.now H.Door.Link.told H.Door.Link.counts H.Door.told H.File.holds H.File.faults) workers.items }
     ensures { (before : Option (List Asked)) → TellsMore (AsksFor config.now) (range_with_len 0 config.now.workers) before (H.asked house.old)
-        → RunsAs config.now (seen_at port.new.roots) (seen (K.holds out.old) (K.faults out.old) (H.told house.old) before)
-        (seen (K.holds out.new) (K.faults out.new) (H.told house.new) (H.asked house.new)) result }
+        → (names : Option (List (List ℕ))) → H.named house.old ≡ with_names names (names_upto config.now config.now.workers)
+        → RunsAs config.now (seen_at port.new.roots) (seen (K.holds out.old) (K.faults out.old) (H.told house.old) before names)
+        (seen (K.holds out.new) (K.faults out.new) (H.told house.new) (H.asked house.new) (H.named house.new)) result }
 {
     let Ok(left) = take_all_apart(alloc, config, port, workers) else {
         return Ending::OutOfMemory;
@@ -166,12 +169,51 @@ fn conclude<W: Wait, H: House, K: Sink>(
     let Ok(text) = report_of(alloc, counts.as_slice()) else {
         return Ending::OutOfMemory;
     };
+    let agreed = has_worn(counts.as_slice()) | !left.worn;
     match put_all(out, text.as_slice()) {
-        Ok(()) if whole && !left.refused => Ending::Served,
+        Ok(()) if whole && !left.refused && agreed => Ending::Served,
         Ok(()) => Ending::OutOfMemory,
         Err(PutFail::SinkFault) => Ending::SinkFault,
         Err(PutFail::OutOfMemory) => Ending::OutOfMemory,
     }
+}
+
+// All recorders join their streams, before a session can publish to one.
+fn ready_all<W: Wait, D: Door, R: Rest, K: Sink>(
+    rt: &W,
+    workers: &mut [ServeWorker<D, R, K>],
+    port: &Shared<Desk>,
+    config: &Config,
+)
+    requires rules { All (λ x. HasRules (shared_rules port.now) x.bench.port) workers.old }
+    requires serving { EachAt (IsServing config.now D.Link.told D.Link.counts D.told K.holds K.faults) workers.old }
+    ensures rules { All (λ x. HasRules (shared_rules port.now) x.bench.port) workers.new }
+    ensures serving { EachAt (IsServing config.now D.Link.told D.Link.counts D.told K.holds K.faults) workers.new }
+    ensures ready { All AreReady workers.new }
+{
+    let _ = port;
+    let _ = config;
+    for worker in workers.iter_mut() {
+        worker.ready(rt);
+    }
+}
+
+// The same of workers that are handed on.
+fn ready_workers<W: Wait, D: Door, R: Rest, K: Sink>(
+    rt: &W,
+    mut workers: Vec<ServeWorker<D, R, K>>,
+    port: &Shared<Desk>,
+    config: &Config,
+) -> Vec<ServeWorker<D, R, K>>
+    requires rules { All (λ x. HasRules (shared_rules port.now) x.bench.port) workers.items }
+    requires serving { EachAt (IsServing config.now D.Link.told D.Link.counts D.told K.holds K.faults) workers.items }
+    ensures rules { All (λ x. HasRules (shared_rules port.now) x.bench.port) result.items }
+    ensures each { vec_len result ≡ vec_len workers }
+    ensures serving { EachAt (IsServing config.now D.Link.told D.Link.counts D.told K.holds K.faults) result.items }
+    ensures ready { All AreReady result.items }
+{
+    ready_all(rt, workers.as_mut_slice(), port, config);
+    workers
 }
 
 // All workers run, each in a thread of its own, with the desk of the configuration's places.
@@ -188,6 +230,7 @@ where
     requires places { length config.now.places ≡ length (shared_rules port.now).names }
     requires rules { All (λ x. HasRules (shared_rules port.now) x.bench.port) workers.items }
     requires serving { EachAt (IsServing config.now D.Link.told D.Link.counts D.told K.holds K.faults) workers.items }
+    requires ready { All AreReady workers.items }
     ensures run { All (λ x. HasRun D.told x) result.items }
     ensures rules { All (λ x. HasRules (shared_rules port.now) x.bench.port) result.items }
     ensures each { vec_len result ≡ vec_len workers }
@@ -210,11 +253,13 @@ fn run<T: Threads + Wait + Sync, H: House, K: Sink>(
     out: &mut K,
 ) -> Ending
     requires lawful { Lawful config.now }
-    ensures { (attempts : ℕ → List Attempt) × RunsAs config.now attempts (seen (K.holds out.old) (K.faults out.old) (H.told house.old) (H.asked house.old))
-        (seen (K.holds out.new) (K.faults out.new) (H.told house.new) (H.asked house.new)) result }
+    ensures { (attempts : ℕ → List Attempt) × RunsAs config.now attempts
+        (seen (K.holds out.old) (K.faults out.old) (H.told house.old) (H.asked house.old) (H.named house.old))
+        (seen (K.holds out.new) (K.faults out.new) (H.told house.new) (H.asked house.new) (H.named house.new)) result }
 {
     match make_ready(alloc, config, house) {
         Ok(Ready { mut port, workers }) => {
+            let workers = ready_workers(rt, workers, &port, config);
             let workers = run_workers(rt, workers, &port, guards, config);
             conclude(rt, alloc, config, house, out, &mut port, workers)
         }
@@ -249,8 +294,10 @@ fn end<T: Threads + Wait + Sync, H: House, S: Source, K: Sink>(
     out: &mut K,
 ) -> Ending
     ensures ends { EndsAs (is_serve (map (λ w. w.items) words.now))
-        (outer (S.left config.old) (S.faults config.old) (seen (K.holds out.old) (K.faults out.old) (H.told house.old) (H.asked house.old)))
-        (outer (S.left config.new) (S.faults config.new) (seen (K.holds out.new) (K.faults out.new) (H.told house.new) (H.asked house.new))) result }
+        (outer (S.left config.old) (S.faults config.old)
+        (seen (K.holds out.old) (K.faults out.old) (H.told house.old) (H.asked house.old) (H.named house.old)))
+        (outer (S.left config.new) (S.faults config.new)
+        (seen (K.holds out.new) (K.faults out.new) (H.told house.new) (H.asked house.new) (H.named house.new))) result }
     ensures untouched { result ≡ Ending.BadWords → (config.new ≡ config.old) × (house.new ≡ house.old) × (out.new ≡ out.old) }
 {
     if !is_serve(words) {
@@ -296,8 +343,10 @@ pub fn serve<T: Threads + Wait + Sync, H: House, S: Source, K: Sink>(
     report: &mut K,
 ) -> Status
     ensures serves { Serves (is_serve (map (λ w. w.items) words.now))
-        (outer (S.left config.old) (S.faults config.old) (seen (K.holds report.old) (K.faults report.old) (H.told house.old) (H.asked house.old)))
-        (outer (S.left config.new) (S.faults config.new) (seen (K.holds report.new) (K.faults report.new) (H.told house.new) (H.asked house.new))) result }
+        (outer (S.left config.old) (S.faults config.old)
+        (seen (K.holds report.old) (K.faults report.old) (H.told house.old) (H.asked house.old) (H.named house.old)))
+        (outer (S.left config.new) (S.faults config.new)
+        (seen (K.holds report.new) (K.faults report.new) (H.told house.new) (H.asked house.new) (H.named house.new))) result }
     ensures untouched { result.code ≡ 2 → (config.new ≡ config.old) × (house.new ≡ house.old) × (report.new ≡ report.old) }
 {
     let ending = end(rt, alloc, words, guards, config, house, report);

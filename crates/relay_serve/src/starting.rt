@@ -6,11 +6,12 @@ ghost use Rattle.relay_outside.specs.Houses.{IsNewFile, asked_door};
 ghost use Rattle.std.specs.List.{range_with_len};
 ghost use Rattle.relay_serve.specs.Ends.{HouseCause};
 ghost use Rattle.relay_serve.specs.Places.{name_of};
+ghost use Rattle.relay_serve.specs.Recordings.{names_at, names_if, names_of, names_upto, with_names};
 ghost use Rattle.relay_serve.specs.Recordings.{recorder_name, recording, recording_if, recordings_at, recordings_of};
-ghost use Rattle.relay_serve.specs.Settling.{AsksFor, EachAt, Enlists, IsServing, TellsMore};
+ghost use Rattle.relay_serve.specs.Settling.{AsksFor, Enlists, IsServing, TellsMore};
 ghost use Rattle.relay_serve.specs.Starts.{HasRules, HasTally};
 ghost use Rattle.relay_worker.specs.Filed.{state_of};
-ghost use Rattle.relay_worker.specs.Running.{label_of};
+ghost use Rattle.relay_worker.specs.Running.{EachAt, label_of};
 ghost use Rattle.stream_registry.specs.SharedState.{shared_rules};
 
 use av_unit::{Bytes, OutOfMemory};
@@ -101,6 +102,7 @@ fn open_recording<H: House>(
 ) -> Result<(), OpenFail>
     requires { place < length (shared_rules worker.old.bench.port).names }
     ensures enlists { OnOk result (Enlists H.File.holds H.File.faults (recording longest place form ∷ []) worker.old worker.new) }
+    ensures named { OnOk result (H.named house.new ≡ with_names (H.named house.old) (name.now ∷ [])) }
     ensures house { MatchResult result (λ _. H.told house.new ≡ H.told house.old) (λ fail. HouseCause fail (H.told house.old) (H.told house.new)) }
     ensures asked { H.asked house.new ≡ H.asked house.old }
 {
@@ -128,6 +130,7 @@ fn open_if<H: House>(
 ) -> Result<(), OpenFail>
     requires { place < length (shared_rules worker.old.bench.port).names }
     ensures enlists { OnOk result (Enlists H.File.holds H.File.faults (recording_if name.now (recording longest place form)) worker.old worker.new) }
+    ensures named { OnOk result (H.named house.new ≡ with_names (H.named house.old) (names_if name.now)) }
     ensures house { MatchResult result (λ _. H.told house.new ≡ H.told house.old) (λ fail. HouseCause fail (H.told house.old) (H.told house.new)) }
     ensures asked { H.asked house.new ≡ H.asked house.old }
 {
@@ -148,6 +151,7 @@ fn open_place<H: House>(
 ) -> Result<(), OpenFail>
     requires { place < length (shared_rules worker.old.bench.port).names }
     ensures enlists { OnOk result (Enlists H.File.holds H.File.faults (recordings_at longest place rule.now) worker.old worker.new) }
+    ensures named { OnOk result (H.named house.new ≡ with_names (H.named house.old) (names_at rule.now)) }
     ensures house { MatchResult result (λ _. H.told house.new ≡ H.told house.old) (λ fail. HouseCause fail (H.told house.old) (H.told house.new)) }
     ensures asked { H.asked house.new ≡ H.asked house.old }
 {
@@ -171,6 +175,7 @@ fn open_own_place<H: House>(
     requires place { place < length (shared_rules worker.old.bench.port).names }
     ensures enlists { OnOk result (Enlists H.File.holds H.File.faults (if place % workers == number then recordings_at longest place rule.now else [])
         worker.old worker.new) }
+    ensures named { OnOk result (H.named house.new ≡ with_names (H.named house.old) (if place % workers == number then names_at rule.now else [])) }
     ensures house { MatchResult result (λ _. H.told house.new ≡ H.told house.old) (λ fail. HouseCause fail (H.told house.old) (H.told house.new)) }
     ensures asked { H.asked house.new ≡ H.asked house.old }
 {
@@ -191,6 +196,7 @@ fn open_own<H: House>(
     requires lawful { Lawful config.now }
     requires places { length config.now.places ≡ length (shared_rules worker.old.bench.port).names }
     ensures enlists { OnOk result (Enlists H.File.holds H.File.faults (recordings_of config.now number) worker.old worker.new) }
+    ensures named { OnOk result (H.named house.new ≡ with_names (H.named house.old) (names_of config.now number)) }
     ensures house { MatchResult result (λ _. H.told house.new ≡ H.told house.old) (λ fail. HouseCause fail (H.told house.old) (H.told house.new)) }
     ensures asked { H.asked house.new ≡ H.asked house.old }
 {
@@ -226,6 +232,7 @@ fn open_worker<H: House>(
     requires places { length config.now.places ≡ length (shared_rules port).names }
     ensures house { MatchResult result (λ _. H.told house.new ≡ H.told house.old) (λ fail. HouseCause fail (H.told house.old) (H.told house.new)) }
     ensures asked { IfOk result (λ _. H.asked house.new ≡ with_one (H.asked house.old) (asked_door number config.now.listen config.now.accept)) }
+    ensures named { IfOk result (λ _. H.named house.new ≡ with_names (H.named house.old) (names_of config.now number)) }
     ensures port { IfOk result (λ x. x.bench.port ≡ port) }
     ensures serving { IfOk result (λ x. IsServing config.now H.Door.Link.told H.Door.Link.counts H.Door.told H.File.holds H.File.faults number x) }
 {
@@ -257,6 +264,7 @@ pub(crate) fn open_workers<H: House>(
     requires rules { All (HasRules (shared_rules first.now)) ports.items }
     ensures house { MatchResult result (λ _. H.told house.new ≡ H.told house.old) (λ fail. HouseCause fail (H.told house.old) (H.told house.new)) }
     ensures asked { IfOk result (λ workers. TellsMore (AsksFor config.now) (range_with_len 0 (vec_len workers)) (H.asked house.old) (H.asked house.new)) }
+    ensures named { IfOk result (λ workers. H.named house.new ≡ with_names (H.named house.old) (names_upto config.now (vec_len workers))) }
     ensures rules { IfOk result (λ workers. All (λ x. HasRules (shared_rules first.now) x.bench.port) workers.items) }
     ensures each { IfOk result (λ workers. vec_len workers ≡ vec_len ports) }
     ensures serving { IfOk result (λ workers.

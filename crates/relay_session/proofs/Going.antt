@@ -1,8 +1,11 @@
 -- Feeding a buffer, piece by piece
 use Rattle.std.proofs.Common.{◌≡◌, ◌≤◌, ◌<◌, ◌+◌, ◌*◌, ℕ, length-append, length-drop, Option, Some, List, ◌++◌, length, drop, Bool, false, ap, ◌∙◌, subst, arith, append_assoc, None}
+use Rattle.chunk_wire.specs.declared.message.Message.{Message}
+use Rattle.chunk_reader.specs.Sound.{IsRead}
 use Rattle.command_dialog.specs.declared.types.Ask.{Ask}
 use Rattle.command_dialog.specs.declared.types.Grant.{Grant}
 use Rattle.relay_session.specs.Feeding.{Decides, Fixed, Heard, Hears, IsFed, IsStopped, heard_of}
+use Rattle.session_owed.specs.Talk.{hand_bytes}
 use Rattle.stream_model.specs.declared.calls.Entry.{Entry}
 use Rattle.relay_session.specs.Bounds.{IsLight, weight}
 use Rattle.relay_session.specs.Holding.{HandFits}
@@ -84,5 +87,7 @@ stopped_then desk old now next input left e f s =
       fixed = s.fixed ∙ f.fed.fixed;
       kept = s.kept ∙ ap (λ (x : Heard). x.kept) f.heard;
       place = s.place ∙ ap (λ (x : Heard). x.place) f.heard;
+      read = subst (λ (m : ℕ). IsRead m (drop hand_bytes next.x) old.reader.given) (ap (λ (x : Fixed). x.max) f.fed.fixed) (subst (λ (g : List (ℕ × Message)). IsRead now.reader.max (drop hand_bytes next.x) g) (ap (λ (x : Heard). x.given) f.heard) s.read);
+      state = λ ne. s.state ne ∙ ap (λ (x : Heard). x.state) f.heard;
       cause = decides_same (length next.x) now.reader.max (heard_of now) (heard_of old) (now.x ++ left) (old.x ++ input) e old.reader.max (ap (λ (x : Fixed). x.max) f.fed.fixed) f.heard whole s.cause;
     }

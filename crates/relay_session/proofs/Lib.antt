@@ -22,3 +22,5 @@ pub mod Onwards
 pub mod SeatStanding
 pub mod SeatOwn
 pub mod Granting
+mod Deciding
+mod Coming

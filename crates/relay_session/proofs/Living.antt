@@ -2,7 +2,7 @@
 use Rattle.std.proofs.Common.{◌≡◌, ◌≤◌, ◌<◌, ◌+◌, ◌-◌, ◌^◌, ℕ, zero, suc, true, Bool, nat_le, List, [], ◌∷◌, ◌++◌, length, take, drop, min, refl, sym, ap, ◌∙◌, subst, arith, append-nil, append_assoc, length-append, false, option_map, Option, Some, None, Result, Ok, Err, OnErr}
 use Rattle.std.proofs.lemmas.List.{take-append-drop, take_all, take_min, drop_all, take-append-le, drop-append-le, length-drop, length-take-le}
 use Rattle.std.proofs.lemmas.Bool.Decides.{nat_tests}
-use Rattle.std.specs.Option.{option_map_or}
+use Rattle.std.specs.Option.{is_some, option_map_or}
 use Rattle.chunk_wire.specs.declared.message.Message.{Message}
 use Rattle.chunk_reader.specs.ReaderKnown.{ReaderKnown}
 use Rattle.chunk_reader.specs.Feeds.{IsFedTo}
@@ -47,6 +47,7 @@ use Rattle.relay_session.specs.Keeping.{IsIdle, IsOver, IsSound, StandsBefore, k
 use Rattle.relay_session.specs.Owing.{Owing, Says, Takes, nothing, pending}
 use Rattle.relay_session.specs.Session.{does, does_by, entry_by, item_in, session, told}
 use Rattle.relay_session.specs.declared.core_fields.Core.{Core}
+use Rattle.relay_session.specs.declared.end.End.TheVariants as end
 
 -- a message asks for no item
 act_takes : (a : Act) → is_take (call_of a) ≡ false
@@ -326,7 +327,7 @@ before_heard desk c e r o s calls h k se so ce st =
 
 -- a reply that was heard and couldn't be answered
 pub over_heard : (desk : Ask → Grant) (c : Core) (e : Entry) (r : Reply) (o : Owing) (s : State) (calls : List Own) → IsSound c → hand_bytes ≤ length c.x → c.kept ≡ Some e → calls ≡ c.calls ++ (e, r) ∷ []
-    → StandsBefore desk c → IsOver desk (record c { dialog = s; outgoing = o; kept = None; calls = calls })
+    → StandsBefore desk c → IsOver desk end.OutOfMemory (record c { dialog = s; outgoing = o; kept = None; calls = calls })
 over_heard desk c e r o s calls l h k ce st =
     let d = session c.who c.window desk in
     let t = told c.dialog r in
@@ -337,6 +338,7 @@ over_heard desk c e r o s calls l h k ce st =
       more = pending c.outgoing ++ written c.outgoing.writer t.says;
       owes = z.owes;
       talks = z.talks;
+      state = λ ne. absurd (ne refl);
     })
 
 -- ---- a Take
@@ -406,21 +408,22 @@ before_taken desk c q e r o calls l k pl tk at t ce st =
     let m = option_map_or (dialog.shown q.id) (item_in r) [] in
     let n = item_of d c.dialog (e, r) in
     let nm : n ≡ m = shown_item c.dialog q e r c.who c.window desk tk (plays_phase c.dialog.phase q pl) in
-    let z = stands_take d (past_of c) (keeps_of c) e r (late_plays c q l pl) k at tk st in
+    let z = stands_take d (past_of c) (keeps_of c) e r (late_plays c q l pl) k at tk (ap is_some pl) st in
     let P : List Message → Type 0 = λ w. Stands d (with_call (past_of c) e r) (says_more (keeps_of c) w) in
     rw ce (taken_kept d c e r o m k t (subst P nm z))
 
 pub over_taken : (desk : Ask → Grant) (c : Core) (q : Playing) (e : Entry) (r : Reply) (o : Owing) (calls : List Own) → IsSound c → c.kept ≡ None → playing_in c.dialog.phase ≡ Some q → is_take e.call ≡ true → e.at ≡ length c.x
-    → calls ≡ c.calls ++ (e, r) ∷ [] → StandsBefore desk c → IsOver desk (record c { outgoing = o; calls = calls })
+    → calls ≡ c.calls ++ (e, r) ∷ [] → StandsBefore desk c → IsOver desk end.OutOfMemory (record c { outgoing = o; calls = calls })
 over_taken desk c q e r o calls l k pl tk at ce st =
     let d = session c.who c.window desk in
-    let z = stands_take d (past_of c) (keeps_of c) e r (late_plays c q l pl) k at tk st in
+    let z = stands_take d (past_of c) (keeps_of c) e r (late_plays c q l pl) k at tk (ap is_some pl) st in
     rw ce (record {
       ms = c.reader.given;
       read = subst (λ (b : List ℕ). IsRead c.reader.max b c.reader.given) l.fed l.read;
       more = pending c.outgoing ++ written c.outgoing.writer (item_of d c.dialog (e, r));
       owes = z.owes;
       talks = subst (λ (o : Option Entry). Talks d (count_of d c.x) c.reader.given (c.calls ++ (e, r) ∷ []) o) (sym k) z.talks;
+      state = λ ne. absurd (ne refl);
     })
 
 -- ---- bytes sent

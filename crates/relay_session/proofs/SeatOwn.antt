@@ -1,9 +1,12 @@
 -- What the calls of one name at a stream are answered
-use Rattle.std.proofs.Common.{◌≡◌, ◌==◌, ℕ, zero, suc, Bool, true, false, if◌then◌else◌, List, [], ◌∷◌, ◌++◌, length, Option, Some, None, refl, sym, ap, ◌∙◌, subst, inl, inr}
+use Rattle.std.proofs.Common.{◌≡◌, ◌==◌, nat_eq, ℕ, zero, suc, Bool, true, false, if◌then◌else◌, List, [], ◌∷◌, ◌++◌, length, map, reverse, All, Option, Some, None, refl, sym, ap, ◌∙◌, subst, inl, inr}
 use Rattle.std.specs.Option.{is_some}
 use Rattle.std.proofs.lemmas.Bool.{false≢true}
 use Rattle.std.proofs.lemmas.Bool.Decides.{eqb_tells}
+use Rattle.std.proofs.lemmas.List.{reverse-append}
+use Rattle.std.proofs.lemmas.List.Elements.{All-cons, All-head, All-nil, All-push, All-tail}
 use Rattle.std.proofs.lemmas.List.Sums.{fold-append}
+use Rattle.session_owed.specs.Talk.{is_take}
 use Rattle.av_unit.specs.declared.head.Want.{Want}
 use Rattle.av_unit.specs.declared.item.Item.{Item}
 use Rattle.av_unit.specs.declared.item.Item.TheVariants as item
@@ -23,9 +26,12 @@ use Rattle.stream_model.specs.Counts.{is_began, is_pushed, is_ended, is_joined}
 use Rattle.stream_model.specs.Answer.{reply_to, begin_reply, join_reply, first_or, free_place, is_who}
 use Rattle.stream_model.specs.History.{History, items_of, after_push, last_began, publisher, holder, holder_after}
 use Rattle.stream_model.specs.Known.{IsLawful}
-use Rattle.stream_registry.specs.Told.{Step}
+use Rattle.stream_registry.specs.Told.{Histories, Step}
 use Rattle.relay_session.specs.SeatState.{publishes, plays}
-use Rattle.relay_session.specs.SeatOwn.{own, is_not_player, FaresSo, Fares}
+use Rattle.relay_session.specs.SeatOwn.{own, is_not_player, BringsSo, FaresSo, Fares}
+use Rattle.relay_session.specs.SeatVisits.{AllStand, StandIn, Visit, calls_at, calls_of}
+use Rattle.relay_session.specs.Session.{item_in}
+use Rattle.relay_session.proofs.SeatStanding.{calls_here}
 
 -- ---- the publisher after a call
 
@@ -293,3 +299,44 @@ fares limits (s ∷ past) who l = elim (eqb_tells s.0.who who) [
   | inl h ↦ subst (λ (b : Bool). Fares (if b then s ∷ own who past else own who past)) (sym h.0) (one_fares limits past who s.0.who s.0.call s.1 l.1 h.1 l.0, fares limits past who l.1)
   | inr h ↦ subst (λ (b : Bool). Fares (if b then s ∷ own who past else own who past)) (sym h.0) (fares limits past who l.1)
 ]
+
+-- ---- an item
+
+brings : Reply → Bool
+brings r = is_some (item_in r)
+
+-- the rules answer a Take alone with one
+no_item : (limits : StreamLimits) (past : History) (who : ℕ) (c : Call) → is_take c ≡ false → brings (reply_to limits past who c) ≡ false
+unfolding brings
+no_item limits past who call.Begin t = begins brings (length (items_of past)) (publisher past) refl (λ by. refl)
+no_item limits past who (call.Push u) t = either brings (is_who (publisher past) who) (reply.Pushed (length (items_of past))) (reply.NotPublisher (publisher past)) refl refl
+no_item limits past who call.End t = either brings (is_who (publisher past) who) (reply.Ended (length (items_of past))) (reply.NotPublisher (publisher past)) refl refl
+no_item limits past who call.Join t = joins brings (join limits (items_of past)) (free_place (holder past) limits.players) (λ p. refl) refl
+no_item limits past who (call.Take player want) t = absurd (false≢true (sym t))
+no_item limits past who (call.Leave player) t = either brings (is_who (holder past player) who) (reply.Left player) reply.NotPlayer refl refl
+no_item limits past who call.Count t = refl
+
+brings_one : (limits : StreamLimits) (past : History) (s : Step) → s.1 ≡ reply_to limits past s.0.who s.0.call → BringsSo s
+unfolding brings
+brings_one limits past s e = λ t. ap brings e ∙ no_item limits past s.0.who s.0.call t
+
+brings_in : (limits : StreamLimits) (calls : List Step) (past : History) → StandIn limits calls past → All BringsSo calls
+brings_in limits [] past s = All-nil BringsSo
+brings_in limits (m ∷ ms) [] s = absurd s
+brings_in limits (m ∷ ms) (p ∷ past) (inl s) = All-cons BringsSo m ms (brings_one limits past m s.1) (brings_in limits ms past s.2)
+brings_in limits (m ∷ ms) (p ∷ past) (inr s) = brings_in limits (m ∷ ms) past s
+
+brings_rest : (b : Bool) (s : Step) (calls : List Step) → All BringsSo (if b then s ∷ calls else calls) → All BringsSo calls
+brings_rest true s calls a = All-tail BringsSo s calls a
+brings_rest false s calls a = a
+
+brings_all : (visits : List Visit) → ((q : ℕ) → All BringsSo (calls_at q visits)) → All BringsSo (calls_of visits)
+brings_all [] h = All-nil BringsSo
+brings_all ((place, step) ∷ visits) h =
+    let here = subst (λ (l : List Step). All BringsSo l) (calls_here place step visits) (h place) in
+    let rest : (q : ℕ) → All BringsSo (calls_at q visits) = λ q. brings_rest (nat_eq place q) step (calls_at q visits) (h q) in
+    subst (λ (l : List Step). All BringsSo l) (sym (reverse-append (step ∷ []) (map (λ (v : Visit). v.1) visits)))
+    (All-push BringsSo (calls_of visits) step (brings_all visits rest) (All-head BringsSo step (calls_at place visits) here))
+
+pub brings_so : (limits : ℕ → StreamLimits) (histories : Histories) (visits : List Visit) → AllStand limits histories visits → All BringsSo (calls_of visits)
+brings_so limits histories visits s = brings_all visits (λ q. brings_in (limits q) (calls_at q visits) (reverse (histories q)) (s.at_each q))

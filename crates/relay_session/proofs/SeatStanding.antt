@@ -92,7 +92,7 @@ stand_more limits root known known' step calls n s =
     subst (λ (h : History). StandIn limits (step ∷ calls) h) (sym is) (inl (refl, n.reply_is, stand_later limits calls known n.before n.known_first s)) in
     stand_later limits (step ∷ calls) (n.before ++ step ∷ []) known' n.within here
 
-calls_here : (place : ℕ) (step : Step) (vs : List Visit) → calls_at place ((place, step) ∷ vs) ≡ step ∷ calls_at place vs
+pub calls_here : (place : ℕ) (step : Step) (vs : List Visit) → calls_at place ((place, step) ∷ vs) ≡ step ∷ calls_at place vs
 calls_here place step vs = let t : nat_eq place place ≡ true = grind (arith, nat_tests) in rw t refl
 
 calls_else : (place q : ℕ) (step : Step) (vs : List Visit) → q ≢ place → calls_at q ((place, step) ∷ vs) ≡ calls_at q vs

@@ -1,5 +1,5 @@
 -- What was fed, and why a session ends at a byte
-use Rattle.std.proofs.Common.{◌≡◌, ◌≤◌, ◌<◌, ◌+◌, ◌-◌, ◌^◌, ◌⊎◌, inl, inr, ℕ, suc, List, [], ◌∷◌, ◌++◌, length, take, drop, min, refl, sym, ap, ◌∙◌, subst, arith, append-nil, append_assoc, length-append, Option, Some, None, Result, Ok, Err}
+use Rattle.std.proofs.Common.{◌≡◌, ◌≢◌, ◌≤◌, ◌<◌, ◌+◌, ◌-◌, ◌^◌, ◌⊎◌, inl, inr, ℕ, suc, List, [], ◌∷◌, ◌++◌, length, take, drop, min, refl, sym, ap, ◌∙◌, subst, arith, append-nil, append_assoc, length-append, Option, Some, None, Result, Ok, Err}
 use Rattle.std.proofs.lemmas.List.{take-append-drop, take-append-le, drop-append-le, length-drop, length-take, length-take-le}
 use Rattle.std.specs.Prelude.{true}
 use Rattle.chunk_wire.specs.State as wire
@@ -59,14 +59,14 @@ fed_hand c piece more x o used k be oe xe = record {
   others = omega (arith, oe, ap length be, length-append (pending c.outgoing) more);
 }
 
-pub stop_memory : (c : Core) (piece : List ℕ) (k : Handshake) (o : Owing) → IsSound c → IsStopped c piece end.OutOfMemory (record c { hand = k; outgoing = o })
-stop_memory c piece k o l = record { fed = []; left = piece; split = refl; x = sym (append-nil c.x); counted = l.counted; fixed = refl; kept = refl; place = refl; cause = tt }
-
 pub read_here : (c : Core) → IsSound c → IsRead c.reader.max (drop hand_bytes c.x) c.reader.given
 read_here c l = subst (λ (b : List ℕ). IsRead c.reader.max b c.reader.given) l.fed l.read
 
-pub over_here : (desk : Ask → Grant) (c : Core) (k : Handshake) (o : Owing) → IsSound c → StandsBefore desk c → IsOver desk (record c { hand = k; outgoing = o })
-over_here desk c k o l st = record { ms = c.reader.given; read = read_here c l; more = pending c.outgoing; owes = st.owes; talks = st.talks }
+pub stop_memory : (c : Core) (piece : List ℕ) (k : Handshake) (o : Owing) → IsSound c → IsStopped c piece end.OutOfMemory (record c { hand = k; outgoing = o })
+stop_memory c piece k o l = record { fed = []; left = piece; split = refl; x = sym (append-nil c.x); counted = l.counted; fixed = refl; kept = refl; place = refl; read = read_here c l; state = λ ne. refl; cause = tt }
+
+pub over_here : (desk : Ask → Grant) (e : End) (c : Core) (k : Handshake) (o : Owing) → IsSound c → StandsBefore desk c → IsOver desk e (record c { hand = k; outgoing = o })
+over_here desk e c k o l st = record { ms = c.reader.given; read = read_here c l; more = pending c.outgoing; owes = st.owes; talks = st.talks; state = λ ne. st.state }
 
 -- ---- chunks that are read
 
@@ -128,13 +128,18 @@ loud_heard desk c part x used last m r i b s o kept place l h f se ke be pe xe l
 
 -- ---- chunks that end it
 
+-- the dialogue stays, unless memory was wanting
+unless : (e : End) (s t : State) → (e ≡ end.OutOfMemory) ⊎ (s ≡ t) → e ≢ end.OutOfMemory → s ≡ t
+unless e s t (inl o) ne = absurd (ne o)
+unless e s t (inr same) ne = same
+
 -- what was sent begins what is owed, also for bytes more that end no message
-pub over_fed : (desk : Ask → Grant) (c : Core) (q x : List ℕ) (r : ReaderKnown) (i : InWindow) (b : OutWindow) (s : State) (o : Owing) (n : ℕ) → hand_bytes ≤ length c.x → c.kept ≡ None → length q ≤ room_of c.inbound
+pub over_fed : (desk : Ask → Grant) (e : End) (c : Core) (q x : List ℕ) (r : ReaderKnown) (i : InWindow) (b : OutWindow) (s : State) (o : Owing) (n : ℕ) → hand_bytes ≤ length c.x → c.kept ≡ None → length q ≤ room_of c.inbound
     → IsRead c.reader.max (drop hand_bytes (c.x ++ q)) c.reader.given → r.max ≡ c.reader.max → x ≡ c.x ++ q
-    → StandsBefore desk c → IsOver desk (record c { reader = r; inbound = i; outbound = b; dialog = s; outgoing = o; fed = n; x = x })
-over_fed desk c q x r i b s o n h k room read max xe st =
+    → (e ≢ end.OutOfMemory → s ≡ c.dialog) → StandsBefore desk c → IsOver desk e (record c { reader = r; inbound = i; outbound = b; dialog = s; outgoing = o; fed = n; x = x })
+over_fed desk e c q x r i b s o n h k room read max xe same st =
     let z = stands_fed (session c.who c.window desk) (past_of c) (keeps_of c) q h k room st in
-    rw (xe, max) (record { ms = c.reader.given; read = read; more = (took (keeps_of c) (length q)).pending; owes = z.owes; talks = z.talks })
+    rw (xe, max) (record { ms = c.reader.given; read = read; more = (took (keeps_of c) (length q)).pending; owes = z.owes; talks = z.talks; state = λ ne. same ne ∙ st.state })
 
 dropped : (c : Core) (q : List ℕ) → IsSound c → hand_bytes ≤ length c.x → drop hand_bytes (c.x ++ q) ≡ c.reader.fed ++ q
 dropped c q l h = drop-append-le hand_bytes c.x q h ∙ ap (λ (b : List ℕ). b ++ q) (sym l.fed)
@@ -217,6 +222,8 @@ stop_reader c piece part x count at before e r l h f pe ae be xe =
       fixed = ap (λ (n : ℕ). record { who = c.who; window = c.window; max = n; calls = c.calls; sent = c.sent }) (ap (λ (k : ReaderKnown). k.max) f.now);
       kept = refl;
       place = refl;
+      read = subst (λ (v : List ℕ). IsRead c.reader.max (drop hand_bytes v) c.reader.given) (sym (xe ∙ ap (λ (k : ℕ). c.x ++ take k part) p.0)) (read_some c part e r l h f);
+      state = λ ne. refl;
       cause = decides_read c (c.x ++ piece) (length x) at e.cause (sym lx) (omega (arith, lx, p, h))
           (stops_by c.reader.max ((c.reader.fed ++ part) ++ rest) (drop hand_bytes (c.x ++ piece)) e.cause e.at (length x - hand_bytes) whole place (stops_more c.reader.max (c.reader.fed ++ part) rest e.cause e.at f.cause));
     }
@@ -232,6 +239,8 @@ stop_acknowledge c piece part used m r i o l f = record {
   fixed = ap (λ (n : ℕ). record { who = c.who; window = c.window; max = n; calls = c.calls; sent = c.sent }) (fixed_read c part used m r f);
   kept = refl;
   place = refl;
+  read = read_here c l;
+  state = λ ne. refl;
   cause = tt;
 }
 
@@ -288,9 +297,9 @@ refused_by_end c y n last m s r e reads len le (inr i) =
     inr (refused_at n c.dialog m e j, record { m = m; s = s; r = r; reads = reads; why = ap (λ (v : ℕ). refused v c.dialog m) k ∙ j })
 
 pub stop_message : (c : Core) (piece part x : List ℕ) (count used n last : ℕ) (m : Message) (r : ReaderKnown) (i : InWindow) (b : OutWindow) (s : State) (o : Owing) (e : End) → IsSound c → hand_bytes ≤ length c.x → IsFedTo c.reader part used (Some m) r
-    → part ≡ take count piece → n ≡ c.fed + used - 1 → last ≡ n → x ≡ c.x ++ take (used - 1) part → (e ≡ end.OutOfMemory) ⊎ (refused last c.dialog m ≡ Some e)
+    → part ≡ take count piece → n ≡ c.fed + used - 1 → last ≡ n → x ≡ c.x ++ take (used - 1) part → (e ≡ end.OutOfMemory) ⊎ (refused last c.dialog m ≡ Some e) → (e ≡ end.OutOfMemory) ⊎ (s ≡ c.dialog)
     → IsStopped c piece e (record c { reader = r; inbound = i; outbound = b; dialog = s; outgoing = o; fed = n; x = x })
-stop_message c piece part x count used n last m r i b s o e l h f pe ne le xe ee =
+stop_message c piece part x count used n last m r i b s o e l h f pe ne le xe ee se =
     let some : 0 < used = f.some refl in
     let q = take used part in
     let lq : length q ≡ used = length-take-le used part f.within in
@@ -315,6 +324,8 @@ stop_message c piece part x count used n last m r i b s o e l h f pe ne le xe ee
       fixed = ap (λ (k : ℕ). record { who = c.who; window = c.window; max = k; calls = c.calls; sent = c.sent }) (fixed_read c part used (Some m) r f);
       kept = refl;
       place = refl;
+      read = subst (λ (v : List ℕ). IsRead c.reader.max (drop hand_bytes v) c.reader.given) (sym xe) (read_last c part used m r l h f);
+      state = unless e s c.dialog se;
       cause = decides_message c y (length x) e (refused_by_end c y (length x) last m g.s g.r e reads lf (omega (arith, le, lx)) ee);
     }
 
@@ -326,22 +337,22 @@ part_room piece part count room e le = omega (arith, le, ap length e, length-tak
 part_less : (part : List ℕ) (n room : ℕ) → n ≤ length part → length part ≤ room → length (take n part) ≤ room
 part_less part n room le lt = omega (arith, le, lt, length-take-le n part le)
 
-pub over_reader : (desk : Ask → Grant) (c : Core) (piece part x : List ℕ) (count at before : ℕ) (e : ReadFail) (r : ReaderKnown) → IsSound c → hand_bytes ≤ length c.x → c.kept ≡ None → reader.IsRefused c.reader part e r
+pub over_reader : (desk : Ask → Grant) (w : End) (c : Core) (piece part x : List ℕ) (count at before : ℕ) (e : ReadFail) (r : ReaderKnown) → IsSound c → hand_bytes ≤ length c.x → c.kept ≡ None → reader.IsRefused c.reader part e r
     → part ≡ take count piece → count ≤ room_of c.inbound → at ≡ min (e.at + 3073) (2 ^ 64 - 1) → before ≡ at - c.fed → x ≡ c.x ++ take before part
-    → StandsBefore desk c → IsOver desk (record c { reader = r; fed = at; x = x })
-over_reader desk c piece part x count at before e r l h k f pe le ae be xe st =
+    → StandsBefore desk c → IsOver desk w (record c { reader = r; fed = at; x = x })
+over_reader desk w c piece part x count at before e r l h k f pe le ae be xe st =
     let p = refused_place c part e r at before l h f ae be in
     let read : IsRead c.reader.max (drop hand_bytes (c.x ++ take before part)) c.reader.given =
     subst (λ (n : ℕ). IsRead c.reader.max (drop hand_bytes (c.x ++ take n part)) c.reader.given) (sym p.0) (read_some c part e r l h f) in
-    over_fed desk c (take before part) x r c.inbound c.outbound c.dialog c.outgoing at h k (part_less part before (room_of c.inbound) (omega (arith, f.within, p.0)) (part_room piece part count (room_of c.inbound) pe le))
-    read (ap (λ (v : ReaderKnown). v.max) f.now) xe st
+    over_fed desk w c (take before part) x r c.inbound c.outbound c.dialog c.outgoing at h k (part_less part before (room_of c.inbound) (omega (arith, f.within, p.0)) (part_room piece part count (room_of c.inbound) pe le))
+    read (ap (λ (v : ReaderKnown). v.max) f.now) xe (λ ne. refl) st
 
-pub over_message : (desk : Ask → Grant) (c : Core) (piece part x : List ℕ) (count used n : ℕ) (m : Message) (r : ReaderKnown) (i : InWindow) (b : OutWindow) (s : State) (o : Owing) → IsSound c → hand_bytes ≤ length c.x → c.kept ≡ None
-    → IsFedTo c.reader part used (Some m) r → part ≡ take count piece → count ≤ room_of c.inbound → x ≡ c.x ++ take (used - 1) part
-    → StandsBefore desk c → IsOver desk (record c { reader = r; inbound = i; outbound = b; dialog = s; outgoing = o; fed = n; x = x })
-over_message desk c piece part x count used n m r i b s o l h k f pe le xe st =
-    over_fed desk c (take (used - 1) part) x r i b s o n h k (part_less part (used - 1) (room_of c.inbound) (omega (arith, f.within)) (part_room piece part count (room_of c.inbound) pe le))
-    (read_last c part used m r l h f) (fixed_read c part used (Some m) r f) xe st
+pub over_message : (desk : Ask → Grant) (w : End) (c : Core) (piece part x : List ℕ) (count used n : ℕ) (m : Message) (r : ReaderKnown) (i : InWindow) (b : OutWindow) (s : State) (o : Owing) → IsSound c → hand_bytes ≤ length c.x → c.kept ≡ None
+    → IsFedTo c.reader part used (Some m) r → part ≡ take count piece → count ≤ room_of c.inbound → x ≡ c.x ++ take (used - 1) part → (w ≡ end.OutOfMemory) ⊎ (s ≡ c.dialog)
+    → StandsBefore desk c → IsOver desk w (record c { reader = r; inbound = i; outbound = b; dialog = s; outgoing = o; fed = n; x = x })
+over_message desk w c piece part x count used n m r i b s o l h k f pe le xe se st =
+    over_fed desk w c (take (used - 1) part) x r i b s o n h k (part_less part (used - 1) (room_of c.inbound) (omega (arith, f.within)) (part_room piece part count (room_of c.inbound) pe le))
+    (read_last c part used m r l h f) (fixed_read c part used (Some m) r f) xe (unless w s c.dialog se) st
 
 -- ---- before it has a place
 

@@ -18,7 +18,7 @@ use Rattle.relay_session.specs.declared.seat_answers.Active.{Active}
 use Rattle.relay_session.specs.declared.seat_answers.Leaving.{Leaving}
 use Rattle.relay_session.specs.declared.seat_answers.Leaving.TheVariants as leaving
 use Rattle.relay_session.specs.Session.{session}
-use Rattle.relay_session.specs.SessionState.{IsLiving, Publishes, StandsBy, ended_by}
+use Rattle.relay_session.specs.SessionState.{IsLiving, Publishes, Rises, StandsBy, ended_by}
 use Rattle.relay_session.specs.Turns.{EndedBy, KeptBy, Leaves, Life, Lives}
 use Rattle.relay_session.specs.declared.core_fields.Core.{Core}
 use Rattle.relay_session.specs.declared.end.End.{End}
@@ -93,6 +93,12 @@ published_by (Some e) desk c l s = record {
   read = s.read;
   units = published_are (session c.who c.window desk) (count_of (session c.who c.window desk) c.x) s.ms c.calls c.kept s.talks;
 }
+
+-- ---- the order of its calls
+
+pub risen_by : (o : Option End) (desk : Ask → Grant) (c : Core) → IsLiving o c → StandsBy o desk c → Rises desk c
+risen_by None desk c l s = record { ms = c.reader.given; read = read_here c l.sound; rise = s.talks.rise }
+risen_by (Some e) desk c l s = record { ms = s.ms; read = s.read; rise = s.talks.rise }
 
 module _ {P S : Type 0} (asks : P → S → ℕ → Entry → Made → P → S → Type 0) (desk : Ask → Grant) {L : Type 0} (hears : L → ℕ → Came → L → Type 0) (says : L → List ℕ → Said → L → Type 0) where
   pub turned : (o : Option End) (quit : Bool) (v w : Life P S) (l m : L) (a : Turn) → o ≡ None → KeptBy asks desk hears says v.parts.kept quit v l a w m → EndedBy asks desk hears says o quit v l a w m

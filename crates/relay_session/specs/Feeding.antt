@@ -1,6 +1,7 @@
 -- What feeding input does
-use Rattle.std.specs.Prelude.{◌≡◌, ◌≤◌, ℕ, ◌+◌, ◌-◌, Bool, true, false, List, [], ◌∷◌, ◌++◌, length, min, take, drop, Option, None, Some, is_some}
+use Rattle.std.specs.Prelude.{◌≡◌, ◌≢◌, ◌≤◌, ℕ, ◌+◌, ◌-◌, Bool, true, false, List, [], ◌∷◌, ◌++◌, length, min, take, drop, Option, None, Some, is_some}
 use Rattle.chunk_reader.specs.Reads.{Reads}
+use Rattle.chunk_reader.specs.Sound.{IsRead}
 use Rattle.chunk_reader.specs.Stops.{Stops}
 use Rattle.chunk_reader.specs.declared.fail.ReadCause.{ReadCause}
 use Rattle.chunk_reader.specs.declared.fail.ReadCause.TheVariants as cause
@@ -96,7 +97,8 @@ Decides max h y n end.LinkFault = ⊥
 Decides max h y n end.Quit = ⊥
 Decides max h y n end.Worn = ⊥
 
--- the bytes before it were fed, and nothing else was received, sent or called
+-- the bytes before it were fed, which complete no message, and nothing else was received, sent or called; unless memory was wanting
+-- the dialogue stands where it did
 pub record IsStopped (old : Core) (input : List ℕ) (e : End) (new : Core) : Type 0 where
   pub fed : List ℕ
   pub left : List ℕ
@@ -106,6 +108,8 @@ pub record IsStopped (old : Core) (input : List ℕ) (e : End) (new : Core) : Ty
   pub fixed : fixed_of new ≡ fixed_of old
   pub kept : new.kept ≡ old.kept
   pub place : new.place ≡ old.place
+  pub read : IsRead old.reader.max (drop hand_bytes new.x) old.reader.given
+  pub state : e ≢ end.OutOfMemory → new.dialog ≡ old.dialog
   pub cause : Decides old.reader.max (heard_of old) (old.x ++ input) (length new.x) e
 
 -- why the reader's refusal ends the session, where so many bytes stand before the byte

@@ -1,5 +1,5 @@
 -- What the fields of a session keep true
-use Rattle.std.specs.Prelude.{◌≡◌, ◌-◌, ◌^◌, ◌<◌, ◌≤◌, ◌++◌, ℕ, List, length, min, take, drop, Option, Some, None}
+use Rattle.std.specs.Prelude.{◌≡◌, ◌≢◌, ◌-◌, ◌^◌, ◌<◌, ◌≤◌, ◌++◌, ℕ, List, length, min, take, drop, Option, Some, None}
 use Rattle.chunk_reader.specs.Sound.{IsRead}
 use Rattle.chunk_wire.specs.declared.message.Message.{Message}
 use Rattle.command_dialog.specs.declared.types.Ask.{Ask}
@@ -10,13 +10,15 @@ use Rattle.stream_model.specs.declared.calls.Entry.{Entry}
 use Rattle.rtmp_handshake.specs.Answer.{bad_version}
 use Rattle.session_owed.specs.Owed.{count_of, out}
 use Rattle.session_owed.specs.Standing.{Past, Keeps, Stands}
-use Rattle.session_owed.specs.Talk.{hand_bytes}
+use Rattle.session_owed.specs.Talk.{hand_bytes, talk}
 use Rattle.session_owed.specs.Talks.{Talks}
 use Rattle.relay_session.specs.Bounds.{Acts, HasRoom, IsLight}
 use Rattle.relay_session.specs.Holding.{HandFits}
 use Rattle.relay_session.specs.Owing.{pending}
 use Rattle.relay_session.specs.Session.{session}
 use Rattle.relay_session.specs.declared.core_fields.Core.{Core}
+use Rattle.relay_session.specs.declared.end.End.{End}
+use Rattle.relay_session.specs.declared.end.End.TheVariants as end
 
 -- its past: the bytes fed and the messages that they read as, its calls with their replies, the call that waits, and
 -- the bytes sent
@@ -63,14 +65,15 @@ pub record IsSound (c : Core) : Type 0 where
 abbrev pub waiting : Core → Entry → Core
 waiting c e = record c { kept = Some e }
 
--- of a session that has ended: what it sent begins what it owes before this desk for the bytes fed and its calls, and these are
--- the calls that the messages of those bytes ask for
-pub record IsOver (desk : Ask → Grant) (c : Core) : Type 0 where
+-- of a session that has ended so: what it sent begins what it owes before this desk for the bytes fed and its calls, and these are
+-- the calls that the messages of those bytes ask for; unless memory was wanting, its dialogue stands where they left it
+pub record IsOver (desk : Ask → Grant) (e : End) (c : Core) : Type 0 where
   pub ms : List (ℕ × Message)
   pub read : IsRead c.reader.max (drop hand_bytes c.x) ms
   pub more : List ℕ
   pub owes : c.sent ++ more ≡ out (session c.who c.window desk) c.x ms c.calls
   pub talks : Talks (session c.who c.window desk) (count_of (session c.who c.window desk) c.x) ms c.calls c.kept
+  pub state : e ≢ end.OutOfMemory → c.dialog ≡ (talk (session c.who c.window desk) c.calls ms).state
 
 -- between the steps of a turn: it is sound, not many answers wait, and the unit in hand is no longer than a message that it takes
 pub record IsSteady (c : Core) : Type 0 where

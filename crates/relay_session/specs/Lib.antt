@@ -13,3 +13,5 @@ pub mod Causes
 pub mod SessionState
 pub mod Grants
 pub mod Onward
+pub mod Decided
+pub mod Coming

@@ -103,6 +103,11 @@ abbrev pub shown_by : List ℕ → ℕ → ℕ → Option Hand → ℕ
 shown_by first offset item None = item - offset
 shown_by first offset item (Some h) = length first - offset
 
+-- of a unit in hand there is more to encode
+abbrev pub IsUnfinished : Option Hand → Type 0
+IsUnfinished None = Unit {0}
+IsUnfinished (Some h) = 0 < length (left h)
+
 abbrev pub IsHandSized : Option Hand → Type 0
 IsHandSized None = Unit {0}
 IsHandSized (Some h) = IsSized h.sending.size

@@ -1,5 +1,7 @@
 -- What the calls of one name at a stream are answered
 use Rattle.std.specs.Prelude.{◌≡◌, ℕ, Bool, true, false, if◌then◌else◌, ◌==◌, List, [], ◌∷◌}
+use Rattle.std.specs.Option.{is_some}
+use Rattle.session_owed.specs.Talk.{is_take}
 use Rattle.stream_model.specs.declared.calls.Call.{Call}
 use Rattle.stream_model.specs.declared.calls.Call.TheVariants as call
 use Rattle.stream_model.specs.declared.replies.Reply.{Reply}
@@ -8,6 +10,7 @@ use Rattle.stream_model.specs.Counts.{is_pushed, is_ended}
 use Rattle.stream_model.specs.History.{History}
 use Rattle.stream_registry.specs.Told.{Step}
 use Rattle.relay_session.specs.SeatState.{plays, publishes}
+use Rattle.relay_session.specs.Session.{item_in}
 
 -- the calls of this name, the newest first
 abbrev pub own : ℕ → History → List Step
@@ -33,3 +36,7 @@ FaresSo before call.Count r = Unit {0}
 abbrev pub Fares : List Step → Type 0
 Fares [] = Unit {0}
 Fares (s ∷ before) = FaresSo before s.0.call s.1 × Fares before
+
+-- a call that is no Take brought no item
+abbrev pub BringsSo : Step → Type 0
+BringsSo s = is_take s.0.call ≡ false → is_some (item_in s.1) ≡ false

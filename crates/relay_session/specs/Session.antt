@@ -1,5 +1,6 @@
 -- The dialogue of a session: what it does at a message of its peer, at the reply of a stream, and at an item
 use Rattle.std.specs.Prelude.{ℕ, List, [], ◌∷◌, Option, Some, None, option_map, Result, Ok, Err}
+use Rattle.std.specs.Option.{is_some}
 use Rattle.chunk_wire.specs.declared.message.Message.{Message}
 use Rattle.ack_window.specs.declared.control.Control.{Control}
 use Rattle.ack_window.specs.declared.control.Control.TheVariants.{ChunkSize, Abort, Acknowledgement, User, Window, Bandwidth}
@@ -16,7 +17,7 @@ use Rattle.command_dialog.specs.declared.types.Act.TheVariants as act
 use Rattle.command_dialog.specs.Dialog.{call_of, shows}
 use Rattle.command_dialog.specs.Dialog as dialog
 use Rattle.command_dialog.specs.Meaning.{meaning}
-use Rattle.command_dialog.specs.State.{State, fresh}
+use Rattle.command_dialog.specs.State.{State, fresh, playing_in}
 use Rattle.command_dialog.specs.declared.types.Meant.{Meant}
 use Rattle.command_dialog.specs.declared.types.DialogFail.{DialogFail}
 use Rattle.command_dialog.specs.declared.types.DialogFail.TheVariants as fail
@@ -71,7 +72,7 @@ told s r = record { state = (dialog.told s r).state; says = (dialog.told s r).sa
 
 -- the dialogue of a session of this name, that tells and begins with this window
 abbrev pub session : ℕ → ℕ → (Ask → Grant) → Dialogue State
-session who window desk = record { who = who; window = window; start = fresh window; does = does desk; told = told; shows = shows }
+session who window desk = record { who = who; window = window; start = fresh window; does = does desk; told = told; shows = shows; plays = λ s. is_some (playing_in s.phase) }
 
 -- a call as an entry
 abbrev pub entry_by : ℕ → ℕ → Option Call → Option Entry

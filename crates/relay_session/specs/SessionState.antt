@@ -1,12 +1,13 @@
 -- What contracts see of a session
-use Rattle.std.specs.Prelude.{◌≡◌, ℕ, Bool, List, ◌++◌, length, drop, Option, Some, None}
+use Rattle.std.specs.Prelude.{◌≡◌, ℕ, ◌+◌, Bool, List, ◌++◌, length, drop, Option, Some, None}
 use Rattle.chunk_reader.specs.Sound.{IsRead}
 use Rattle.chunk_wire.specs.declared.message.Message.{Message}
 use Rattle.command_dialog.specs.declared.types.Ask.{Ask}
 use Rattle.command_dialog.specs.declared.types.Grant.{Grant}
-use Rattle.session_owed.specs.Owed.{out}
+use Rattle.session_owed.specs.Owed.{count_of, out}
 use Rattle.session_owed.specs.Published.{published, pushed_by, pushed_in}
-use Rattle.session_owed.specs.Talk.{hand_bytes}
+use Rattle.session_owed.specs.Talk.{hand_bytes, talk}
+use Rattle.session_owed.specs.Talks.{Rise}
 use Rattle.relay_session.specs.Keeping.{HasEnded, IsOver, IsSteady, StandsBefore}
 use Rattle.relay_session.specs.Owing.{pending}
 use Rattle.relay_session.specs.SeatState.{SeatState}
@@ -42,7 +43,7 @@ IsLiving (Some e) c = HasEnded c
 -- WHAT WAS SENT AND WHAT IS PENDING IS WHAT IT OWES before this desk; of one that has ended, what was sent begins that
 abbrev pub StandsBy : Option End → (Ask → Grant) → Core → Type 0
 StandsBy None desk c = StandsBefore desk c
-StandsBy (Some e) desk c = IsOver desk c
+StandsBy (Some e) desk c = IsOver desk e c
 
 abbrev pub StandsFor : {Q : Type 0} → (Ask → Grant) → SessionState Q → Type 0
 StandsFor desk s = StandsBy s.ended desk s.parts
@@ -74,6 +75,14 @@ pub record Publishes (desk : Ask → Grant) (c : Core) : Type 0 where
   pub ms : List (ℕ × Message)
   pub read : IsRead c.reader.max (drop hand_bytes c.x) ms
   pub units : pushed_by c.calls ++ pushed_in c.kept ≡ published (session c.who c.window desk) ms c.calls
+
+-- ITS CALLS STAND IN THE ORDER OF THEIR PLACES, which are among the bytes fed, and each of its Takes was made while a play was granted,
+-- by the dialogue over the messages of the bytes fed
+pub record Rises (desk : Ask → Grant) (c : Core) : Type 0 where
+  pub ms : List (ℕ × Message)
+  pub read : IsRead c.reader.max (drop hand_bytes c.x) ms
+  pub rise : Rise (session c.who c.window desk) (talk (session c.who c.window desk) c.calls ms).states hand_bytes
+      (hand_bytes + count_of (session c.who c.window desk) c.x) c.calls
 
 abbrev pub ended_by : Turn → Option End
 ended_by Moved = None

@@ -8,7 +8,7 @@ use Rattle.ack_window.specs.Outbound.{OutWindow}
 use Rattle.command_dialog.specs.declared.types.Ask.{Ask}
 use Rattle.command_dialog.specs.declared.types.Grant.{Grant}
 use Rattle.command_dialog.specs.declared.types.Playing.{Playing}
-use Rattle.command_dialog.specs.State.{playing_in}
+use Rattle.command_dialog.specs.State.{State, playing_in}
 use Rattle.stream_model.specs.declared.calls.Call.TheVariants as call
 use Rattle.stream_model.specs.declared.calls.Entry.{Entry}
 use Rattle.stream_model.specs.declared.replies.Reply.{Reply}
@@ -16,7 +16,7 @@ use Rattle.stream_model.specs.declared.replies.Reply.TheVariants as reply
 use Rattle.session_owed.specs.Talk.{Own}
 use Rattle.relay_session.specs.Feeding.{Hears, IsCalled, IsFed, IsOthers, IsSent, IsStopped}
 use Rattle.relay_session.specs.Keeping.{HasEnded, IsOver, IsSteady, StandsBefore}
-use Rattle.relay_session.specs.Owing.{pending}
+use Rattle.relay_session.specs.Owing.{IsUnfinished, pending}
 use Rattle.relay_session.specs.declared.core_fields.Core.{Core}
 use Rattle.relay_session.specs.declared.end.End.{End}
 use Rattle.relay_session.specs.declared.end.End.TheVariants as end
@@ -81,12 +81,13 @@ abbrev pub answer : Bool → Turn
 answer true = Moved
 answer false = Idle
 
--- more of what is pending was encoded: the bytes are the same
+-- more of what is pending was encoded: the bytes are the same, and a unit that was encoded whole was let go of
 pub record IsFilled (old new : Core) : Type 0 where
   pub rest : new ≡ record old { outgoing = new.outgoing }
   pub bytes : pending new.outgoing ≡ pending old.outgoing
   pub writer : new.outgoing.writer ≡ old.outgoing.writer
   pub others : new.outgoing.others ≡ old.outgoing.others
+  pub let_go : IsUnfinished new.outgoing.hand
 
 -- ---- how it ends
 
@@ -101,9 +102,10 @@ pub record Gone : Type 0 where
   pub kept : Option Entry
   pub place : Option ℕ
   pub fed : ℕ
+  pub state : State
 
 abbrev pub gone_of : Core → Gone
-gone_of c = record { who = c.who; window = c.window; max = c.reader.max; x = c.x; calls = c.calls; sent = c.sent; kept = c.kept; place = c.place; fed = c.fed }
+gone_of c = record { who = c.who; window = c.window; max = c.reader.max; x = c.x; calls = c.calls; sent = c.sent; kept = c.kept; place = c.place; fed = c.fed; state = c.dialog }
 
 -- it ended so, and nothing else was received, sent, fed or called
 pub record IsEnded {P S : Type 0} (e : End) (v : Life P S) (a : Turn) (w : Life P S) : Type 0 where
@@ -121,7 +123,7 @@ Lives c (Ended e) = HasEnded c
 abbrev pub Leaves : (Ask → Grant) → Core → Turn → Type 0
 Leaves desk c Moved = StandsBefore desk c
 Leaves desk c Idle = StandsBefore desk c
-Leaves desk c (Ended e) = IsOver desk c
+Leaves desk c (Ended e) = IsOver desk e c
 
 -- the same of a call that was tried: true where it was made
 abbrev pub LivesTried : Core → Result Bool End → Type 0
@@ -130,7 +132,7 @@ LivesTried c (Err e) = HasEnded c
 
 abbrev pub LeavesTried : (Ask → Grant) → Core → Result Bool End → Type 0
 LeavesTried desk c (Ok made) = StandsBefore desk c
-LeavesTried desk c (Err e) = IsOver desk c
+LeavesTried desk c (Err e) = IsOver desk e c
 
 -- what the feeding of a buffer did: it ended no message, or one, or the session
 pub data FedBy : Type 0 where

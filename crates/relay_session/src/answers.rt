@@ -124,6 +124,7 @@ fn answer_command<D: Desk>(
     ensures makes { IfOk result (λ act. act ≡ (dialog_does (D.grants desk.now) dialog.old message).makes) }
     ensures ok { OnOk result (ended_by last (meaning dialog.old message) ≡ None) }
     ensures err { IfErr result (λ e. (e ≡ end.OutOfMemory) ⊎ (ended_by last (meaning dialog.old message) ≡ Some e)) }
+    ensures stays { IfErr result (λ e. (e ≡ end.OutOfMemory) ⊎ (dialog.new ≡ dialog.old)) }
     ensures light { 16 * outgoing.new.others ≤ 16 * outgoing.old.others + 4640 }
     ensures unit { unit_bytes outgoing.new.hand ≤ unit_bytes outgoing.old.hand }
 {
@@ -167,6 +168,7 @@ pub(crate) fn answer<D: Desk>(
     ensures place { IfOk result (λ asked. asked.place ≡ place_by (D.grants desk.now) dialog.old place message) }
     ensures ok { OnOk result (refused last dialog.old message ≡ None) }
     ensures err { IfErr result (λ e. (e ≡ end.OutOfMemory) ⊎ (refused last dialog.old message ≡ Some e)) }
+    ensures stays { IfErr result (λ e. (e ≡ end.OutOfMemory) ⊎ (dialog.new ≡ dialog.old)) }
     ensures light { 16 * outgoing.new.others ≤ 16 * outgoing.old.others + 4640 }
     ensures unit { unit_bytes outgoing.new.hand ≤ unit_bytes outgoing.old.hand }
 {

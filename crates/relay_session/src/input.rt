@@ -5,7 +5,7 @@ use av_unit::{Bytes, OutOfMemory};
 use std::alloc::Global;
 use std::marker::Model;
 
-/// The bytes that were received and not fed yet, at most 4,096. Contracts see their list.
+/// The bytes that were received and not fed yet, at most 4,096. Contracts see their list. Where all were fed none are kept.
 #[derive(Drop)]
 pub(crate) struct Input {
     bytes: Bytes,
@@ -13,13 +13,13 @@ pub(crate) struct Input {
 }
 
 impl Model for Input {
-    ghost use Rattle.std.specs.Prelude.{◌≤◌, List, ℕ, length, drop};
+    ghost use Rattle.std.specs.Prelude.{◌≡◌, ◌≤◌, List, ℕ, length, drop};
 
     ghost Value = { List ℕ };
 
     ghost view = { λ i. drop i.offset i.bytes };
 
-    ghost invariant = { λ i. (i.offset ≤ length i.bytes) × (length i.bytes ≤ 4096) };
+    ghost invariant = { λ i. (i.offset ≤ length i.bytes) × (length i.bytes ≤ 4096) × (i.offset ≡ length i.bytes → i.offset ≡ 0) };
 }
 
 impl Input {

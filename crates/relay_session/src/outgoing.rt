@@ -4,7 +4,7 @@ ghost use Rattle.chunk_writer.specs.Written.{after_all, written};
 ghost use Rattle.command_dialog.specs.Dialog.{unit_message};
 ghost use Rattle.session_owed.specs.Chunks.{rest_by};
 ghost use Rattle.relay_session.specs.Holding.{unit_bytes};
-ghost use Rattle.relay_session.specs.Owing.{AreWritable, IsSayable, IsSized, Says, Shows, cost_of, costs_of, nothing, pending};
+ghost use Rattle.relay_session.specs.Owing.{AreWritable, IsSayable, IsSized, IsUnfinished, Says, Shows, cost_of, costs_of, nothing, pending};
 
 use crate::unit_in_hand::UnitInHand;
 use av_unit::{Bytes, OutOfMemory, UnitArc};
@@ -15,6 +15,9 @@ use std::marker::Model;
 
 /// How many bytes are sent at once, at most.
 pub(crate) const AT_ONCE: usize = 16_384;
+
+// How many bytes of a unit are encoded at the same time, at most: those that are sent at once, and a chunk.
+const READY_MOST: usize = 20_498;
 
 /// What a session is to send: bytes that are encoded, the rest of a unit that is encoded as it is sent, and the bytes
 /// that stand after it.
@@ -161,28 +164,34 @@ impl Outgoing {
             return Err(OutOfMemory);
         }
         let hand = UnitInHand::begin(&mut self.writer, stream, unit)?;
-        self.first = Bytes::new(alloc);
+        self.first.truncate(0);
         self.offset = 0;
         self.item = 0;
+        let _ = self.first.reserve(hand.left_len().min(READY_MOST));
         self.hand = Some(hand);
         self.later = Bytes::new(alloc);
         Ok(())
     }
 
-    /// Encodes more, so that as many bytes as are sent at once are encoded, or all. What is pending stays the same.
+    /// Encodes more, so that as many bytes as are sent at once are encoded, or all. What is pending stays the same. A unit that was
+    /// encoded whole is let go of.
     pub fn fill(&mut self, alloc: Global) -> Result<(), OutOfMemory>
         ensures bytes { OnOk result (pending self.new ≡ pending self.old) }
         ensures writer { OnOk result (self.new.writer ≡ self.old.writer) }
         ensures others { OnOk result (self.new.others ≡ self.old.others) }
         ensures filled { OnOk result ((16384 ≤ length self.new.ready) ⊎ (self.new.rest ≡ [])) }
+        ensures let_go { OnOk result (IsUnfinished self.new.hand) }
         ensures light { self.new.others ≤ self.old.others }
         ensures unit { unit_bytes self.new.hand ≤ unit_bytes self.old.hand }
     {
-        match &mut self.hand {
+        let left = match &mut self.hand {
             None => return Ok(()),
-            Some(hand) => hand.fill(&mut self.first, self.offset, AT_ONCE)?,
-        }
-        if self.first.len() - self.offset < AT_ONCE {
+            Some(hand) => {
+                hand.fill(&mut self.first, self.offset, AT_ONCE)?;
+                hand.left_len()
+            }
+        };
+        if left == 0 {
             self.item = self.first.len();
             let later = std::mem::replace(&mut self.later, Bytes::new(alloc));
             self.first.append(later.as_slice())?;
@@ -248,7 +257,7 @@ impl Outgoing {
         ensures unit { unit_bytes self.new.hand ≤ unit_bytes self.old.hand }
     {
         if count >= self.first.len() - self.offset {
-            self.first = Bytes::new(alloc);
+            self.first.truncate(0);
             self.offset = 0;
             self.item = 0;
             return;

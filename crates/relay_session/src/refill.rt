@@ -4,6 +4,7 @@ ghost use Rattle.command_dialog.specs.declared.types.Grant.{Grant};
 ghost use Rattle.relay_session.specs.Holding.{HandFits};
 ghost use Rattle.relay_session.specs.Keeping.{IsOver, IsSound, StandsBefore};
 ghost use Rattle.relay_session.specs.Turns.{IsFilled, gone_of};
+ghost use Rattle.relay_session.specs.declared.end.End.TheVariants as end;
 
 use crate::Core;
 use av_unit::OutOfMemory;
@@ -20,7 +21,7 @@ pub(crate) fn fill(core: &mut Core, alloc: Global) -> Result<(), OutOfMemory>
     ensures reader { core.new.reader ≡ core.old.reader }
     ensures light { core.new.outgoing.others ≤ core.old.outgoing.others }
     ensures fits { HandFits core.old → HandFits core.new }
-    ensures over { (desk : Ask → Grant) → StandsBefore desk core.old → OnErr result (IsOver desk core.new) }
+    ensures over { (desk : Ask → Grant) → StandsBefore desk core.old → OnErr result (IsOver desk end.OutOfMemory core.new) }
 {
     core.outgoing.fill(alloc)?;
     Ok(())

@@ -1,17 +1,19 @@
-ghost use Rattle.std.specs.Prelude.{◌≡◌, ◌≤◌, ℕ, [], length, true, false, Some, None};
+ghost use Rattle.std.specs.Prelude.{◌≡◌, ◌≢◌, ◌≤◌, ℕ, [], length, true, false, Some, None};
 ghost use Rattle.ack_window.specs.Outbound.{new_out};
 ghost use Rattle.command_dialog.specs.declared.types.Ask.{Ask};
 ghost use Rattle.command_dialog.specs.declared.types.Grant.{Grant};
 ghost use Rattle.session_owed.specs.Standing.{new_past};
 ghost use Rattle.relay_session.specs.Causes.{Did, MayBe};
+ghost use Rattle.relay_session.specs.Coming.{HasCome};
 ghost use Rattle.relay_session.specs.Holding.{IsHolding, most_held};
 ghost use Rattle.relay_session.specs.Keeping.{past_of};
 ghost use Rattle.relay_session.specs.Owing.{nothing};
 ghost use Rattle.relay_session.specs.Onward.{GoesOn};
 ghost use Rattle.relay_session.specs.Places.{Asked, IsAt, IsOffered};
 ghost use Rattle.relay_session.specs.SeatState.{GoOn, HasFit, IsElsewhere, LeaveFails, LeaveTries, LeavesFrom, StandsAt, left_at, place_of};
-ghost use Rattle.relay_session.specs.SessionState.{BeginsOwed, IsUnsent, Publishes, StandsFor, end_or_quit, ended_by, lasting_of, life_at, pending_by};
+ghost use Rattle.relay_session.specs.SessionState.{BeginsOwed, IsUnsent, Publishes, Rises, StandsFor, end_or_quit, ended_by, lasting_of, life_at, pending_by};
 ghost use Rattle.relay_session.specs.Turns.{EndedBy};
+ghost use Rattle.relay_session.specs.declared.seat_answers.Leaving.TheVariants as left;
 
 use crate::body::Body;
 use crate::held::{held_in, pending_in};
@@ -76,6 +78,7 @@ impl<P: StreamPort> Session<P> {
         ensures outgoing { result.parts.outgoing ≡ nothing }
         ensures input { result.input ≡ [] }
         ensures lives { (result.quit ≡ false) × (result.ended ≡ None) }
+        ensures waits { HasCome result.parts result.seat }
         ensures at { (result.parts.place ≡ None) × (result.seat.spot ≡ None) × (result.seat.visits ≡ []) }
     {
         Session {
@@ -110,6 +113,8 @@ impl<P: StreamPort> Session<P> {
         ensures did { Did result (life_at self.old port.old) (life_at self.new port.new) }
         ensures may_be { MayBe result (P.busies port.old) (P.busies port.new) (L.counts link.old) (L.counts link.new) }
         ensures units { StandsFor (D.grants desk.now) self.old → Publishes (D.grants desk.now) self.new.parts }
+        ensures rises { StandsFor (D.grants desk.now) self.old → Rises (D.grants desk.now) self.new.parts }
+        ensures waits { HasCome self.old.parts self.old.seat → HasCome self.new.parts self.new.seat }
     {
         match self.ended {
             Some(end) => Turn::Ended(end),
@@ -140,6 +145,8 @@ impl<P: StreamPort> Session<P> {
         ensures fails { LeaveFails (P.fits port.new) P.count P.wants (place_of self.old.seat.spot) self.old.parts.who self.old.parts.fed
             self.old.parts.kept (P.busies port.old) (P.busies port.new) result }
         ensures tries { LeaveTries (P.busies port.old) (P.busies port.new) result }
+        ensures made { HasCome self.old.parts self.old.seat → result ≡ left.Done → self.new.parts.kept ≡ None }
+        ensures waits { HasCome self.old.parts self.old.seat → result ≢ left.Worn → HasCome self.new.parts self.new.seat }
         ensures stands { StandsAt P.rules P.root P.seen port.old self.old.seat → StandsAt P.rules P.root P.seen port.new self.new.seat }
         ensures roots { GoOn (P.root port.old) (P.root port.new) }
         ensures fixed { P.rules port.new ≡ P.rules port.old }

@@ -12,6 +12,7 @@ ghost use Rattle.relay_session.specs.Feeding.{Hears, IsCalled, IsFed, IsOthers, 
 ghost use Rattle.relay_session.specs.Holding.{HandFits, unit_bytes};
 ghost use Rattle.relay_session.specs.Keeping.{IsOver, IsSound, StandsBefore, past_of, waiting};
 ghost use Rattle.relay_session.specs.Owing.{Says, nothing, pending};
+ghost use Rattle.relay_session.specs.declared.end.End.TheVariants as end;
 
 use crate::answers::{Asked, answer, hear, take_in};
 use crate::{Core, Desk, End, Outgoing};
@@ -103,7 +104,7 @@ pub fn hand_piece(core: &mut Core, alloc: Global, piece: &[u8]) -> Result<usize,
     ensures fed { IfOk result (λ used. IsFed core.old piece.now core.new (drop used piece.now)) }
     ensures heard { OnOk result (heard_of core.new ≡ heard_of core.old) }
     ensures stopped { IfErr result (λ e. IsStopped core.old piece.now e core.new) }
-    ensures over { (desk : Ask → Grant) → StandsBefore desk core.old → OnErr result (IsOver desk core.new) }
+    ensures over { (desk : Ask → Grant) → StandsBefore desk core.old → IfErr result (λ e. IsOver desk e core.new) }
     ensures light { weight core.new.outgoing.others core.new.x core.new.inbound ≤ weight core.old.outgoing.others core.old.x core.old.inbound }
     ensures fits { HandFits core.old → HandFits core.new }
 {
@@ -146,7 +147,7 @@ pub fn chunk_piece<D: Desk>(
     ensures fed { IfOk result (λ p. IsFed core.old piece.now core.new (drop p.used piece.now)) }
     ensures heard { IfOk result (λ p. Hears (D.grants desk.now) core.old core.new p.ended) }
     ensures stopped { IfErr result (λ e. IsStopped core.old piece.now e core.new) }
-    ensures over { StandsBefore (D.grants desk.now) core.old → OnErr result (IsOver (D.grants desk.now) core.new) }
+    ensures over { StandsBefore (D.grants desk.now) core.old → IfErr result (λ e. IsOver (D.grants desk.now) e core.new) }
     ensures quiet { IfOk result (λ p. p.ended ≡ false
         → weight core.new.outgoing.others core.new.x core.new.inbound ≤ weight core.old.outgoing.others core.old.x core.old.inbound + 356 * p.used) }
     ensures light { 16000 * core.new.outgoing.others
@@ -238,7 +239,7 @@ pub fn hear_reply(
     ensures light { 16 * core.new.outgoing.others ≤ 16 * core.old.outgoing.others + 7036 }
     ensures fits { HandFits core.old → HandFits core.new }
     ensures room { HasRoom core.new.reader core.new.kept }
-    ensures over { (desk : Ask → Grant) → StandsBefore desk (waiting core.old asked.value) → OnErr result (IsOver desk core.new) }
+    ensures over { (desk : Ask → Grant) → StandsBefore desk (waiting core.old asked.value) → OnErr result (IsOver desk end.OutOfMemory core.new) }
 {
     core.kept = None;
     core.calls.add(&Pair::of(asked, reply));
@@ -268,7 +269,7 @@ pub fn hear_item(
     ensures light { core.new.outgoing.others ≤ core.old.outgoing.others }
     ensures fits { HandFits core.old → HandFits core.new }
     ensures room { HasRoom core.new.reader core.new.kept }
-    ensures over { (desk : Ask → Grant) → StandsBefore desk core.old → OnErr result (IsOver desk core.new) }
+    ensures over { (desk : Ask → Grant) → StandsBefore desk core.old → OnErr result (IsOver desk end.OutOfMemory core.new) }
 {
     core.calls.add(&Pair::of(asked, &reply));
     take_in(alloc, playing.id, core.longest, reply, &mut core.outgoing)?;

@@ -23,7 +23,7 @@ fn next_piece<D: Desk>(core: &mut Core, alloc: Global, desk: &D, piece: &[u8]) -
     ensures fed { IfOk result (λ p. IsFed core.old piece.now core.new (drop p.used piece.now)) }
     ensures heard { IfOk result (λ p. Hears (D.grants desk.now) core.old core.new p.ended) }
     ensures stopped { IfErr result (λ e. IsStopped core.old piece.now e core.new) }
-    ensures over { StandsBefore (D.grants desk.now) core.old → OnErr result (IsOver (D.grants desk.now) core.new) }
+    ensures over { StandsBefore (D.grants desk.now) core.old → IfErr result (λ e. IsOver (D.grants desk.now) e core.new) }
     ensures quiet { IfOk result (λ p. p.ended ≡ false
         → weight core.new.outgoing.others core.new.x core.new.inbound ≤ weight core.old.outgoing.others core.old.x core.old.inbound + 356 * p.used) }
     ensures light { 16000 * core.new.outgoing.others
@@ -57,7 +57,7 @@ pub(crate) fn feed<D: Desk>(
     ensures all { IfOk result (λ loud. loud ≡ false → input.new ≡ []) }
     ensures grows { IfOk result (λ loud. loud ≡ true → length core.old.x < length core.new.x) }
     ensures stopped { IfErr result (λ e. IsStopped core.old input.old e core.new) }
-    ensures over { StandsBefore (D.grants desk.now) core.old → OnErr result (IsOver (D.grants desk.now) core.new) }
+    ensures over { StandsBefore (D.grants desk.now) core.old → IfErr result (λ e. IsOver (D.grants desk.now) e core.new) }
 {
     while !is_empty(input.left()) {
         match next_piece(core, alloc, desk, input.left()) {

@@ -1,5 +1,5 @@
 -- What a worker's books say, step by step
-use Rattle.std.proofs.Common.{◌≡◌, ◌≢◌, inl, inr, ℕ, zero, suc, ◌+◌, ◌<◌, Bool, true, false, ◌||◌, List, [], ◌∷◌, ◌++◌, length, map, slice_get, Option, Some, None, get_or, nat_eq, count_by, is_some, if◌then◌else◌, refl, sym, ap, ◌∙◌, subst, arith}
+use Rattle.std.proofs.Common.{◌≡◌, ◌≢◌, inl, inr, ℕ, zero, suc, ◌+◌, ◌^◌, ◌<◌, Bool, true, false, ◌&&◌, ◌||◌, nat_lt, List, [], ◌∷◌, ◌++◌, length, map, slice_get, Option, Some, None, get_or, nat_eq, count_by, is_some, if◌then◌else◌, refl, sym, ap, ◌∙◌, subst, arith, append_assoc, append-nil}
 use Rattle.std.specs.Prelude.{All, drop}
 use Rattle.std.proofs.lemmas.Bool.{cases_eq}
 use Rattle.std.proofs.lemmas.Bool.Decides.{nat_tests}
@@ -18,9 +18,10 @@ use Rattle.relay_outside.specs.declared.door.Knock.{Knock}
 use Rattle.relay_outside.specs.declared.door.Knock.TheVariants as knock
 use Rattle.relay_outside.specs.declared.link.Said.{Said}
 use Rattle.media_recorder.specs.declared.turn.RecTurn.{RecTurn}
-use Rattle.session_owed.specs.Owed.{out}
+use Rattle.session_owed.specs.Owed.{count_of, out}
 use Rattle.session_owed.specs.Standing.{Past}
 use Rattle.session_owed.specs.Talk.{Own, hand_bytes}
+use Rattle.session_owed.specs.Talks.{Talks}
 use Rattle.stream_model.specs.declared.calls.Call.{Call}
 use Rattle.stream_model.specs.declared.calls.Entry.{Entry}
 use Rattle.stream_model.specs.declared.calls.StreamLimits.{StreamLimits}
@@ -28,7 +29,7 @@ use Rattle.stream_model.specs.declared.replies.Reply.{Reply}
 use Rattle.stream_registry.specs.Names.{PortRules}
 use Rattle.stream_registry.specs.Told.{Step, Histories}
 use Rattle.turn_gate.specs.Histories.{Begins}
-use Rattle.relay_session.specs.Keeping.{IsOver}
+use Rattle.relay_session.specs.Decided.{IsDecided}
 use Rattle.relay_session.specs.Onward.{GoesOn}
 use Rattle.relay_session.specs.Places.{Asked}
 use Rattle.relay_session.specs.Session.{session}
@@ -47,20 +48,22 @@ use Rattle.relay_session.specs.declared.seat_answers.Made.{Made}
 use Rattle.relay_session.specs.declared.seat_answers.Made.TheVariants as made
 use Rattle.relay_session.specs.declared.turn.Turn.{Turn}
 use Rattle.relay_session.specs.declared.turn.Turn.TheVariants as turn
-use Rattle.relay_session.proofs.SeatStanding.{active_more, all_later, all_more, begins_same, begins_trans, others_later}
+use Rattle.relay_session.proofs.SeatStanding.{active_more, all_later, all_more, begins_same, others_later}
 use Rattle.relay_worker.specs.Benches.{IsNamed, IsSound, WorkerState}
-use Rattle.relay_worker.specs.Books.{Account, Accounted, HasGrant, HasSent, IsCause, IsEndedBy, Lives, Owns, OwesBy, Settled, TiesBy, Works}
+use Rattle.relay_worker.specs.Books.{Account, Accounted, HasGone, HasGrant, HasStopped, IsCause, IsEndedBy, IsParting, IsBackAfter, IsWaited, LeavesBy, Lives, Owns, OwesBy, Settled, TiesBy, WaitsOrMade, Works}
 use Rattle.relay_worker.specs.Rounds.{Admits, AdmitsIf, ClosesAt, ClosesBy, ClosesIf, GoesIf, IsAdmitted, IsGone, IsLeft, IsTurned, Recorded, RecordsAt, RecordsIf, Rounds, TurnsAt, TurnsBy, TurnsIf, Walks, asks_door, begun, has_left}
-use Rattle.relay_worker.specs.Sessions.{Closes, IsNewSession, TakesTurn, is_spent, lacks_memory}
+use Rattle.relay_worker.specs.Running.{IsReadied}
+use Rattle.relay_worker.specs.Sessions.{Closes, IsNewSession, TakesTurn, is_spent, is_worn, lacks_memory, wears_out}
 use Rattle.relay_worker.specs.declared.bench.Bench.{Bench}
 use Rattle.relay_worker.specs.declared.bench.Seated.{Seated}
 use Rattle.relay_worker.specs.declared.bench.Terms.{Terms}
 use Rattle.relay_worker.specs.declared.recorder.Recorder.{Recorder}
 use Rattle.relay_worker.specs.declared.round.Round.{Round}
 use Rattle.relay_worker.proofs.Moving.{moves_turned}
+use Rattle.relay_worker.proofs.Numbered.{each_none, each_push}
 use Rattle.relay_worker.proofs.Slabs.{gone_cases, put_cases}
 use Rattle.relay_worker.proofs.Sounding.{Single, named_more, single_gone, single_more, single_put}
-use Rattle.relay_worker.proofs.Turning.{leaves}
+use Rattle.relay_worker.proofs.Turning.{Deciding, Tied, leaves}
 
 -- ---- what is granted at a place
 
@@ -164,24 +167,106 @@ module _ {P Q : Type 0} (rules : P → PortRules) (root : P → Histories) (seen
 
 -- ---- the calls by which a session leaves
 
+-- one call more
+made_more : (place : ℕ) (e : Entry) (r : Reply) (visits visits' : List Visit) → IsMade place e r visits visits' → calls_of visits' ≡ calls_of visits ++ (e, r) ∷ []
+made_more place e r visits visits' m = ap calls_of m ∙ reverse-append ((e, r) ∷ []) (map (λ (v : Visit). v.1) visits)
+
+-- these calls and those made since, by which it is leaving
+record Since (waited : Option Entry) (calls : List Own) (visits : List Visit) (kept : Option Entry) : Type 0 where
+  left : List Own
+  calls_are : calls_of visits ≡ calls ++ left
+  leaving : WaitsOrMade waited kept left
+
+-- these calls and those by which it has left
+record Went (waited : Option Entry) (calls : List Own) (visits : List Visit) : Type 0 where
+  left : List Own
+  calls_are : calls_of visits ≡ calls ++ left
+  left_by : LeavesBy waited left
+
+abbrev LeftAs : Bool → Option Entry → List Own → List Visit → Option Entry → Type 0
+LeftAs true waited calls visits kept = Went waited calls visits
+LeftAs false waited calls visits kept = Since waited calls visits kept
+
+is_waited : (waited kept : Option Entry) (left : List Own) → WaitsOrMade waited kept left → IsWaited waited left
+is_waited waited kept left (inl t) = inl t.0
+is_waited waited kept left (inr t) = t.0
+
+since_same : (waited : Option Entry) (calls : List Own) (visits visits' : List Visit) (kept kept' : Option Entry) → visits' ≡ visits → kept' ≡ kept → Since waited calls visits kept → Since waited calls visits' kept'
+since_same waited calls visits visits' kept kept' v k s = record {
+  left = s.left;
+  calls_are = ap calls_of v ∙ s.calls_are;
+  leaving = subst (λ (o : Option Entry). WaitsOrMade waited o s.left) (sym k) s.leaving;
+}
+
+-- the call that waited
+since_made : (waited : Option Entry) (calls left : List Own) (place : ℕ) (e : Entry) (r : Reply) (visits visits' : List Visit) → calls_of visits ≡ calls ++ left → WaitsOrMade waited (Some e) left → IsMade place e r visits visits' → Since waited calls visits' None
+since_made waited calls left place e r visits visits' are (inl t) m = record {
+  left = (e, r) ∷ [];
+  calls_are = made_more place e r visits visits' m ∙ ap (λ (l : List Own). l ++ (e, r) ∷ []) (are ∙ (ap (λ (l : List Own). calls ++ l) t.0 ∙ append-nil calls));
+  leaving = inr (inr (e, (r, (sym t.1, refl))), refl);
+}
+since_made waited calls left place e r visits visits' are (inr t) m = absurd (let n : Some e ≡ None = t.1 in cc)
+
+since_kept : (waited kept : Option Entry) (calls : List Own) (place : ℕ) (a : Active) (visits : List Visit) (a' : Active) (visits' : List Visit) → KeptMade place kept a visits a' visits' → Since waited calls visits kept → Since waited calls visits' None
+since_kept waited None calls place a visits a' visits' t s = since_same waited calls visits visits' None None t.1 refl s
+since_kept waited (Some e) calls place a visits a' visits' t s = since_made waited calls s.left place e t.0 visits visits' s.calls_are s.leaving t.2
+
+since_or : (waited kept : Option Entry) (calls : List Own) (place : ℕ) (a : Active) (visits : List Visit) (a' : Active) (visits' : List Visit) (kept' : Option Entry) → KeptOrMade place kept a visits a' visits' kept' → Since waited calls visits kept
+    → Since waited calls visits' kept'
+since_or waited kept calls place a visits a' visits' kept' (inl t) s = since_same waited calls visits visits' kept kept' t.1 t.2 s
+since_or waited kept calls place a visits a' visits' kept' (inr t) s = subst (λ (k : Option Entry). Since waited calls visits' k) (sym t.1) (since_kept waited kept calls place a visits a' visits' t.0 s)
+
+-- it has left
+went_so : (waited kept : Option Entry) (calls : List Own) (visits : List Visit) → Since waited calls visits kept → Went waited calls visits
+went_so waited kept calls visits s = record {
+  left = s.left;
+  calls_are = s.calls_are;
+  left_by = record { first = s.left; last = []; calls_are = sym (append-nil s.left); first_is = is_waited waited kept s.left s.leaving; last_is = inl refl };
+}
+
+-- with one call more
+went_more : (waited kept : Option Entry) (calls : List Own) (place : ℕ) (e : Entry) (r : Reply) (visits visits' : List Visit) → IsParting e.call → IsMade place e r visits visits' → Since waited calls visits kept → Went waited calls visits'
+went_more waited kept calls place e r visits visits' p m s = record {
+  left = s.left ++ (e, r) ∷ [];
+  calls_are = made_more place e r visits visits' m ∙ (ap (λ (l : List Own). l ++ (e, r) ∷ []) s.calls_are ∙ append_assoc calls s.left ((e, r) ∷ []));
+  left_by = record { first = s.left; last = (e, r) ∷ []; calls_are = refl; first_is = is_waited waited kept s.left s.leaving; last_is = inr ((e, r), (p, refl)) };
+}
+
+went_last : (waited kept : Option Entry) (calls : List Own) (place who fed : ℕ) (a : Active) (visits visits' : List Visit) → LastMade place who fed (last_of a) visits visits' → Since waited calls visits kept → Went waited calls visits'
+went_last waited kept calls place who fed active.Nothing visits visits' t s = went_so waited kept calls visits' (since_same waited calls visits visits' kept kept t refl s)
+went_last waited kept calls place who fed active.Publishes visits visits' t s = went_more waited kept calls place _ t.0 visits visits' (inl refl) t.1 s
+went_last waited kept calls place who fed (active.Plays player) visits visits' t s = went_more waited kept calls place _ t.0 visits visits' (inr (player, refl)) t.1 s
+
+left_by : (r : Leaving) (waited kept : Option Entry) (calls : List Own) (who place fed : ℕ) (a : Active) (visits : List Visit) (kept' : Option Entry) (a' : Active) (visits' : List Visit) → Leaves place who fed kept a visits r kept' a' visits'
+    → Since waited calls visits kept → LeftAs (has_left r) waited calls visits' kept'
+left_by leaving.Done waited kept calls who place fed a visits kept' a' visits' t s =
+    let m = t.0 in
+    went_last waited None calls place who fed m.granted m.between visits' m.last_made (since_kept waited kept calls place a visits m.granted m.between m.kept_made s)
+left_by leaving.Worn waited kept calls who place fed a visits kept' a' visits' t s = went_so waited kept' calls visits' (since_or waited kept calls place a visits t.0 visits' kept' t.1 s)
+left_by leaving.Busy waited kept calls who place fed a visits kept' a' visits' t s = since_or waited kept calls place a visits a' visits' kept' t s
+left_by leaving.OutOfMemory waited kept calls who place fed a visits kept' a' visits' t s = since_or waited kept calls place a visits a' visits' kept' t s
+
+left_from : (o : Option ℕ) (r : Leaving) (waited kept : Option Entry) (calls : List Own) (who fed : ℕ) (a : Active) (visits : List Visit) (kept' : Option Entry) (a' : Active) (visits' : List Visit) → LeavesFrom o who fed kept a visits r kept' a' visits'
+    → Since waited calls visits kept → LeftAs (has_left r) waited calls visits' kept'
+left_from None r waited kept calls who fed a visits kept' a' visits' t s =
+    subst (λ (q : Leaving). LeftAs (has_left q) waited calls visits' kept') (sym t.0) (went_so waited kept' calls visits' (since_same waited calls visits visits' kept kept' t.1 t.2 s))
+left_from (Some place) r waited kept calls who fed a visits kept' a' visits' t s = left_by r waited kept calls who place fed a visits kept' a' visits' t s
+
 -- after further calls of its own
 record Grows (who : ℕ) (visits : List Visit) (kept : Option Entry) (visits' : List Visit) (kept' : Option Entry) : Type 0 where
-  calls : Begins (calls_of visits) (calls_of visits')
   owns : Owns who visits kept → Owns who visits' kept'
 
 grows_same : (who : ℕ) (visits : List Visit) (kept : Option Entry) (visits' : List Visit) (kept' : Option Entry) → visits' ≡ visits → kept' ≡ kept → Grows who visits kept visits' kept'
 grows_same who visits kept visits' kept' v k = record {
-  calls = begins_same (calls_of visits) (calls_of visits') (ap calls_of v);
   owns = λ o. subst (λ (l : List Visit). Owns who l kept') (sym v) (subst (λ (e : Option Entry). Owns who visits e) (sym k) o);
 }
 
 grows_then : (who : ℕ) (u : List Visit) (i : Option Entry) (v : List Visit) (j : Option Entry) (w : List Visit) (k : Option Entry) → Grows who u i v j → Grows who v j w k → Grows who u i w k
-grows_then who u i v j w k a b = record { calls = begins_trans (calls_of u) (calls_of v) (calls_of w) a.calls b.calls; owns = λ o. b.owns (a.owns o) }
+grows_then who u i v j w k a b = record { owns = λ o. b.owns (a.owns o) }
 
 -- one call
 grows_made : (who place : ℕ) (e : Entry) (r : Reply) (visits visits' : List Visit) (kept : Option Entry) → (Owns who visits kept → e.who ≡ who) → IsMade place e r visits visits' → Grows who visits kept visits' None
 grows_made who place e r visits visits' kept named m = record {
-  calls = ((e, r) ∷ [], sym (ap calls_of m ∙ reverse-append ((e, r) ∷ []) (map (λ (v : Visit). v.1) visits)));
   owns = λ o. subst (λ (l : List Visit). Owns who l None) (sym m) (record {
     made = All-cons (λ (v : Visit). v.1.0.who ≡ who) (place, (e, r)) visits (named o) o.made;
     waits = λ f is. absurd (let n : None ≡ Some f = is in cc);
@@ -254,17 +339,17 @@ told_of : Option LinkTold → LinkCounts → List ℕ → List ℕ → Returned
 told_of None counts gave sent = record { gave = gave; took = sent; counts = counts }
 told_of (Some t) counts gave sent = record { gave = t.gave; took = t.took; counts = counts }
 
-record IsTold (max : ℕ) (e : End) (x sent : List ℕ) (r : Returned) : Type 0 where
+record IsTold (Decided : List ℕ → ℕ → End → Type 0) (e : End) (x sent : List ℕ) (r : Returned) : Type 0 where
   fed : Begins x r.gave
-  cause : IsCause max r.counts r.gave (length x) e
+  cause : IsCause Decided r.counts r.gave (length x) e
   took : r.took ≡ sent
 
-is_told_of : (max : ℕ) (o : Option LinkTold) (counts : LinkCounts) (e : End) (x sent : List ℕ) → (k : IsEndedBy max e o counts x sent) → IsTold max e x sent (told_of o counts k.y sent)
+is_told_of : (Decided : List ℕ → ℕ → End → Type 0) (o : Option LinkTold) (counts : LinkCounts) (e : End) (x sent : List ℕ) → (k : IsEndedBy Decided e o counts x sent) → IsTold Decided e x sent (told_of o counts k.y sent)
 unfolding told_of
-is_told_of max None counts e x sent k = record { fed = k.fed; cause = k.cause; took = refl }
-is_told_of max (Some t) counts e x sent k =
+is_told_of Decided None counts e x sent k = record { fed = k.fed; cause = k.cause; took = refl }
+is_told_of Decided (Some t) counts e x sent k =
     let p = k.told_is t refl in
-    record { fed = subst (Begins x) (sym p.0) k.fed; cause = subst (λ (y : List ℕ). IsCause max counts y (length x) e) (sym p.0) k.cause; took = p.1 }
+    record { fed = subst (Begins x) (sym p.0) k.fed; cause = subst (λ (y : List ℕ). IsCause Decided counts y (length x) e) (sym p.0) k.cause; took = p.1 }
 
 -- the door has one link more back
 one_back : (back : Option (List Returned)) (o : Option LinkTold) (counts : LinkCounts) (x sent : List ℕ) (accounts : List Account) (a : Account) → a.link ≡ told_of o counts x sent
@@ -279,15 +364,32 @@ one_back (Some xs) (Some t) counts x sent accounts a link was list is =
 
 -- ---- what a session has sent
 
-sent_over : (desk : Ask → Grant) (c : Core) → IsOver desk c → HasSent desk (gone_but_kept c)
-sent_over desk c o = record { ms = o.ms; read = o.read; owed = (o.more, o.owes) }
+owes_by : (told : Option LinkTold) (counts : LinkCounts) (desk : Ask → Grant) (o : Option End) (c : Core) (visits : List Visit) (input : List ℕ) → calls_of visits ≡ c.calls → StandsBy o desk c → Tied desk o told counts c input
+    → OwesBy told counts desk o c visits
+owes_by told counts desk None c visits input e s t = (s, e)
+owes_by told counts desk (Some q) c visits input e s t = record {
+  waited = c.kept;
+  gone = record {
+    sent = record { ms = s.ms; read = s.read; talks = s.talks; owed = (s.more, s.owes) };
+    ending = record { y = t.y; fed = t.fed; cause = t.cause s; told_is = t.told_is };
+  };
+  left = [];
+  calls_are = e ∙ sym (append-nil c.calls);
+  leaving = inl (refl, refl);
+}
 
-owes_by : (o : Option End) (desk : Ask → Grant) (c : Core) → StandsBy o desk c → OwesBy o desk c
-owes_by None desk c s = s
-owes_by (Some e) desk c s = sent_over desk c s
+-- one that lives is tied to its link
+ties_by : (told : Option LinkTold) (counts : LinkCounts) (desk : Ask → Grant) (o : Option End) (c : Core) (input : List ℕ) → Tied desk o told counts c input → TiesBy o told c.x input c.sent
+ties_by told counts desk None c input t = t
+ties_by told counts desk (Some e) c input t = tt
 
-owes_over : (o : Option End) (e : End) (desk : Ask → Grant) (c : Core) → o ≡ Some e → OwesBy o desk c → HasSent desk (gone_but_kept c)
-owes_over o e desk c is k = subst (λ (q : Option End). OwesBy q desk c) is k
+-- one that lives
+owes_living : (told : Option LinkTold) (counts : LinkCounts) (desk : Ask → Grant) (o : Option End) (c : Core) (visits : List Visit) → o ≡ None → OwesBy told counts desk o c visits → StandsBy o desk c
+owes_living told counts desk None c visits n w = w.0
+owes_living told counts desk (Some e) c visits n w = absurd (let f : Some e ≡ None = n in cc)
+
+owes_over : (told : Option LinkTold) (counts : LinkCounts) (desk : Ask → Grant) (o : Option End) (e : End) (c : Core) (visits : List Visit) → o ≡ Some e → OwesBy told counts desk o c visits → HasStopped told counts desk e c visits
+owes_over told counts desk o e c visits is k = subst (λ (q : Option End). OwesBy told counts desk q c visits) is k
 
 or_first : (a b : Bool) → (a || b) ≡ false → a ≡ false
 or_first true b e = e
@@ -297,6 +399,10 @@ or_last : (a b : Bool) → (a || b) ≡ false → b ≡ false
 or_last true b e = absurd (let n : true ≡ false = e in cc)
 or_last false b e = e
 
+and_first : (a b : Bool) → (a && b) ≡ true → a ≡ true
+and_first true b e = refl
+and_first false b e = e
+
 -- a turn by which no session lacked memory
 unspent_by : (a : Turn) → is_spent a ≡ false → ended_by a ≢ Some end.OutOfMemory
 unspent_by turn.Moved e = λ is. let n : None ≡ Some end.OutOfMemory = is in cc
@@ -304,6 +410,18 @@ unspent_by turn.Idle e = λ is. let n : None ≡ Some end.OutOfMemory = is in cc
 unspent_by (turn.Ended q) e = λ is.
     let n : q ≡ end.OutOfMemory = let m : Some q ≡ Some end.OutOfMemory = is in cc in
     let f : false ≡ true = sym e ∙ ap lacks_memory n in cc
+
+-- and one by which none found a history full
+unfilled_by : (a : Turn) → is_worn a ≡ false → ended_by a ≢ Some end.Worn
+unfilled_by turn.Moved e = λ is. let n : None ≡ Some end.Worn = is in cc
+unfilled_by turn.Idle e = λ is. let n : None ≡ Some end.Worn = is in cc
+unfilled_by (turn.Ended q) e = λ is.
+    let n : q ≡ end.Worn = let m : Some q ≡ Some end.Worn = is in cc in
+    let f : false ≡ true = sym e ∙ ap wears_out n in cc
+
+-- a link place is free
+has_room : (n m : ℕ) (b : Bool) → (nat_lt n m && b) ≡ true → n < m
+has_room n m b e = let f : nat_lt n m ≡ true = and_first (nat_lt n m) b e in grind arith
 
 -- what each step keeps, a walk keeps
 walked : {B : Type 0} (step : ℕ → B → B → Type 0) (K : B → Type 0) → ((key : ℕ) (b b' : B) → step key b b' → K b → K b') → (n : ℕ) (b b' : B) → Walks step n b b' → K b → K b'
@@ -327,7 +445,6 @@ module _ {P Q L : Type 0} (rules : P → PortRules) (root : P → Histories) (se
     owes = w.owes;
     calls = calls_on rules root seen x y s.session.seat same g w.calls;
     granted = w.granted;
-    first_calls = w.first_calls;
     own = w.own;
     ties = w.ties;
     fresh = w.fresh;
@@ -342,7 +459,6 @@ module _ {P Q L : Type 0} (rules : P → PortRules) (root : P → Histories) (se
     owes = w.owes;
     calls = w.calls;
     granted = w.granted;
-    first_calls = w.first_calls;
     own = w.own;
     ties = w.ties;
     fresh = All-push (λ (b : Account). b.who ≢ s.session.parts.who) accounts a w.fresh other;
@@ -357,15 +473,15 @@ module _ {P Q L : Type 0} (rules : P → PortRules) (root : P → Histories) (se
       record {
         window = n.window;
         max = n.max;
-        owes = owes_by s.session.ended desk s.session.parts stands;
+        owes = subst (λ (o : Option End). OwesBy (told s.link) (counts s.link) desk o s.session.parts s.session.seat.visits) (sym n.lives)
+            (subst (λ (o : Option End). StandsBy o desk s.session.parts) n.lives stands, ap calls_of none ∙ sym (ap (λ (p : Past). p.calls) n.past));
         calls = subst (λ (v : List Visit). AllStand (rules x).limits (known root seen x s.session.seat) v) (sym none) (record { at_each = λ q. tt });
         granted = subst (λ (o : Option (ℕ × Q)). HasGrant o s.session.seat.active s.session.seat.visits) (sym n.nowhere.0) tt;
-        first_calls = begins_same s.session.parts.calls (calls_of s.session.seat.visits) (ap calls_of none ∙ sym (ap (λ (p : Past). p.calls) n.past));
         own = record {
           made = subst (λ (v : List Visit). All (λ (w : Visit). w.1.0.who ≡ s.session.parts.who) v) (sym none) (All-nil (λ (w : Visit). w.1.0.who ≡ s.session.parts.who));
           waits = λ e is. absurd (let k : s.session.parts.kept ≡ None = ap (λ (p : Past). p.kept) n.past in let m : None ≡ Some e = sym k ∙ is in cc);
         };
-        ties = subst (λ (o : Option End). TiesBy t.limits.max_message o (told s.link) (counts s.link) s.session.parts.x s.session.input s.session.parts.sent) (sym n.lives) (λ u is.
+        ties = subst (λ (o : Option End). TiesBy o (told s.link) s.session.parts.x s.session.input s.session.parts.sent) (sym n.lives) (λ u is.
             let b = l.blank u is in
             let x_is : s.session.parts.x ≡ [] = ap (λ (p : Past). p.x) n.past in
             let sent_is : s.session.parts.sent ≡ [] = ap (λ (p : Past). p.sent) n.past in
@@ -378,26 +494,27 @@ module _ {P Q L : Type 0} (rules : P → PortRules) (root : P → Histories) (se
 
   module _ (fits : P → ℕ → Q → Type 0) (count : Q → ℕ) (wants : Entry → Type 0) (busies : P → ℕ) (goes : P → SeatState Q → P → SeatState Q → Type 0)
       (hears : L → ℕ → Came → L → Type 0) (hears_mean : (l : L) (room : ℕ) (answer : Came) (m : L) → 0 < room → hears l room answer m → HearStep room (told l) (told m) (counts l) (counts m) answer)
-      (says : L → List ℕ → Said → L → Type 0) (says_mean : (l : L) (piece : List ℕ) (answer : Said) (m : L) → 0 < length piece → says l piece answer m → SayStep piece (told l) (told m) (counts l) (counts m) answer) where
+      (says : L → List ℕ → Said → L → Type 0) (says_mean : (l : L) (piece : List ℕ) (answer : Said) (m : L) → 0 < length piece → says l piece answer m → SayStep piece (told l) (told m) (counts l) (counts m) answer) (decided : Deciding) where
     abbrev Asks : P → SeatState Q → ℕ → Entry → Made → P → SeatState Q → Type 0
     Asks = Asked fits rules root seen count wants busies
 
     lives_turned : (x y : P) (accounts : List Account) (s s' : Seated P L Q) (a : Turn) → s.session.ended ≡ None → TakesTurn Asks goes desk hears says x s a y s' → Here x accounts s → Here y accounts s'
     lives_turned x y accounts s s' a n u w =
-        let l = leaves told counts (λ (z : SeatState Q). z.visits) s.session.quit Asks (λ z v place e r z' v' k. k.makes) desk hears hears_mean says says_mean s.session.ended (life_at s.session x) s.link a (life_at s'.session y) s'.link n u.turn in
+        let l = leaves told counts (λ (z : SeatState Q). z.visits) s.session.quit desk decided Asks (λ z v place e r z' v' k. k.makes) hears hears_mean says says_mean s.session.ended (life_at s.session x) s.link a (life_at s'.session y) s'.link n u.turn in
         let h = moves_turned (On rules root seen) (on_stays rules root seen) (on_chain rules root seen) Asks (on_asked rules root seen fits count wants busies) desk hears says s.session.ended s.session.quit
         (life_at s.session x) s.link a (life_at s'.session y) s'.link u.turn (holds_of x accounts s w) in
+        let tied : Tied desk s'.session.ended (told s'.link) (counts s'.link) s'.session.parts s'.session.input =
+        subst (λ (o : Option End). Tied desk o (told s'.link) (counts s'.link) s'.session.parts s'.session.input) (sym u.ended)
+        (l.ties (w.unasked n) (subst (λ (o : Option End). TiesBy o (told s.link) s.session.parts.x s.session.input s.session.parts.sent) n w.ties)) in
         record {
           window = l.firm.window ∙ w.window;
           max = l.firm.max ∙ w.max;
-          owes = owes_by s'.session.ended desk s'.session.parts (u.stands (subst (λ (o : Option End). StandsBy o desk s.session.parts) (sym n) (subst (λ (o : Option End). OwesBy o desk s.session.parts) n w.owes)));
+          owes = owes_by (told s'.link) (counts s'.link) desk s'.session.ended s'.session.parts s'.session.seat.visits s'.session.input (sym u.calls)
+              (u.stands (owes_living (told s.link) (counts s.link) desk s.session.ended s.session.parts s.session.seat.visits n w.owes)) tied;
           calls = h.calls;
           granted = h.granted;
-          first_calls = begins_same s'.session.parts.calls (calls_of s'.session.seat.visits) (sym u.calls);
           own = l.owns w.own;
-          ties = subst (λ (o : Option End). TiesBy t.limits.max_message o (told s'.link) (counts s'.link) s'.session.parts.x s'.session.input s'.session.parts.sent) (sym u.ended)
-              (subst (λ (max : ℕ). TiesBy max (ended_by a) (told s'.link) (counts s'.link) s'.session.parts.x s'.session.input s'.session.parts.sent) w.max
-              (l.ties (w.unasked n) (subst (λ (o : Option End). TiesBy t.limits.max_message o (told s.link) (counts s.link) s.session.parts.x s.session.input s.session.parts.sent) n w.ties)));
+          ties = ties_by (told s'.link) (counts s'.link) desk s'.session.ended s'.session.parts s'.session.input tied;
           fresh = subst (λ (who : ℕ). All (λ (b : Account). b.who ≢ who) accounts) (sym u.who) w.fresh;
           unasked = λ o. u.quit ∙ w.unasked n;
         }
@@ -409,51 +526,45 @@ module _ {P Q L : Type 0} (rules : P → PortRules) (root : P → Histories) (se
     Close = Closes fits rules root seen count wants busies
 
     -- what a close leaves of it
-    record IsLeaving (y : P) (e : End) (accounts : List Account) (link : L) (now : SessionState Q) : Type 0 where
+    record IsLeaving (left : Bool) (y : P) (e : End) (accounts : List Account) (link : L) (now : SessionState Q) : Type 0 where
       window : now.parts.window ≡ t.limits.window
       max : now.parts.reader.max ≡ t.limits.max_message
-      sent : HasSent desk (gone_but_kept now.parts)
+      waited : Option Entry
+      gone : HasGone (told link) (counts link) desk e waited (gone_but_kept now.parts)
       holds : Holds rules root seen y now.seat
-      first_calls : Begins now.parts.calls (calls_of now.seat.visits)
+      calls : LeftAs left waited now.parts.calls now.seat.visits now.parts.kept
       own : Owns now.parts.who now.seat.visits now.parts.kept
-      ties : TiesBy t.limits.max_message (Some e) (told link) (counts link) now.parts.x now.input now.parts.sent
       fresh : All (λ (a : Account). a.who ≢ now.parts.who) accounts
 
-    leaving_of : (x y : P) (e : End) (accounts : List Account) (s : Seated P L Q) (answer : Leaving) (now : SessionState Q) → s.session.ended ≡ Some e → Close x s.session answer y now → Here x accounts s → IsLeaving y e accounts s.link now
+    leaving_of : (x y : P) (e : End) (accounts : List Account) (s : Seated P L Q) (answer : Leaving) (now : SessionState Q) → s.session.ended ≡ Some e → Close x s.session answer y now → Here x accounts s → IsLeaving (has_left answer) y e accounts s.link now
     leaving_of x y e accounts s answer now is c w =
         let who_is : now.parts.who ≡ s.session.parts.who = ap (λ (g : Gone). g.who) (ap gone_but_kept c.parts) in
         let grown = grows_from (place_of s.session.seat.spot) s.session.parts.who s.session.parts.fed s.session.parts.kept s.session.seat.active s.session.seat.visits answer now.parts.kept now.seat.active now.seat.visits c.leaves in
-        let max = t.limits.max_message in
-        let tied : TiesBy max (Some e) (told s.link) (counts s.link) s.session.parts.x s.session.input s.session.parts.sent = subst (λ (o : Option End). TiesBy max o (told s.link) (counts s.link) s.session.parts.x s.session.input s.session.parts.sent) is w.ties in
-        let x_is : now.parts.x ≡ s.session.parts.x = ap (λ (g : Gone). g.x) (ap gone_but_kept c.parts) in
+        let stopped = owes_over (told s.link) (counts s.link) desk s.session.ended e s.session.parts s.session.seat.visits is w.owes in
         record {
           window = ap (λ (g : Gone). g.window) (ap gone_but_kept c.parts) ∙ w.window;
           max = ap (λ (g : Gone). g.max) (ap gone_but_kept c.parts) ∙ w.max;
-          sent = subst (HasSent desk) (sym (ap gone_but_kept c.parts)) (owes_over s.session.ended e desk s.session.parts is w.owes);
+          waited = stopped.waited;
+          gone = subst (HasGone (told s.link) (counts s.link) desk e stopped.waited) (sym (ap gone_but_kept c.parts)) stopped.gone;
           holds = holds_closed fits rules root seen count wants busies (place_of s.session.seat.spot) x y s.session now answer refl c (holds_of x accounts s w);
-          first_calls = subst (λ (l : List Own). Begins l (calls_of now.seat.visits)) (sym (ap (λ (g : Gone). g.calls) (ap gone_but_kept c.parts)))
-              (begins_trans s.session.parts.calls (calls_of s.session.seat.visits) (calls_of now.seat.visits) w.first_calls grown.calls);
+          calls = subst (λ (l : List Own). LeftAs (has_left answer) stopped.waited l now.seat.visits now.parts.kept) (sym (ap (λ (g : Gone). g.calls) (ap gone_but_kept c.parts)))
+              (left_from (place_of s.session.seat.spot) answer stopped.waited s.session.parts.kept s.session.parts.calls s.session.parts.who s.session.parts.fed s.session.seat.active s.session.seat.visits now.parts.kept now.seat.active now.seat.visits c.leaves
+              (record { left = stopped.left; calls_are = stopped.calls_are; leaving = stopped.leaving }));
           own = subst (λ (n : ℕ). Owns n now.seat.visits now.parts.kept) (sym who_is) (grown.owns w.own);
-          ties = record {
-            y = tied.y;
-            fed = subst (λ (l : List ℕ). Begins l tied.y) (sym x_is) tied.fed;
-            cause = subst (λ (l : List ℕ). IsCause max (counts s.link) tied.y (length l) e) (sym x_is) tied.cause;
-            told_is = λ u told_is. let p = tied.told_is u told_is in (p.0, p.1 ∙ sym (ap (λ (g : Gone). g.sent) (ap gone_but_kept c.parts)));
-          };
           fresh = subst (λ (n : ℕ). All (λ (a : Account). a.who ≢ n) accounts) (sym who_is) w.fresh;
         }
 
     -- it is still there
-    lives_left : (y : P) (e : End) (accounts : List Account) (s' : Seated P L Q) → s'.session.ended ≡ Some e → IsLeaving y e accounts s'.link s'.session → Here y accounts s'
+    lives_left : (y : P) (e : End) (accounts : List Account) (s' : Seated P L Q) → s'.session.ended ≡ Some e → IsLeaving false y e accounts s'.link s'.session → Here y accounts s'
     lives_left y e accounts s' is l = record {
       window = l.window;
       max = l.max;
-      owes = subst (λ (o : Option End). OwesBy o desk s'.session.parts) (sym is) l.sent;
+      owes = subst (λ (o : Option End). OwesBy (told s'.link) (counts s'.link) desk o s'.session.parts s'.session.seat.visits) (sym is)
+          (record { waited = l.waited; gone = l.gone; left = l.calls.left; calls_are = l.calls.calls_are; leaving = l.calls.leaving });
       calls = l.holds.calls;
       granted = l.holds.granted;
-      first_calls = l.first_calls;
       own = l.own;
-      ties = subst (λ (o : Option End). TiesBy t.limits.max_message o (told s'.link) (counts s'.link) s'.session.parts.x s'.session.input s'.session.parts.sent) (sym is) l.ties;
+      ties = subst (λ (o : Option End). TiesBy o (told s'.link) s'.session.parts.x s'.session.input s'.session.parts.sent) (sym is) tt;
       fresh = l.fresh;
       unasked = λ o. absurd (let n : Some e ≡ None = sym is ∙ o in cc);
     }
@@ -462,23 +573,31 @@ module _ {P Q L : Type 0} (rules : P → PortRules) (root : P → Histories) (se
     account_of e y now link = record { who = now.parts.who; end = e; link = told_of (told link) (counts link) y now.parts.sent }
 
     -- it has left, and this is its account
-    accounted_of : (y : P) (e : End) (accounts : List Account) (link : L) (now : SessionState Q) → now.seat.spot ≡ None → (l : IsLeaving y e accounts link now) → Accounted desk t (rules y).limits (root y) (account_of e l.ties.y now link)
+    accounted_of : (y : P) (e : End) (accounts : List Account) (link : L) (now : SessionState Q) → now.seat.spot ≡ None → (l : IsLeaving true y e accounts link now) → Accounted desk t (rules y).limits (root y) (account_of e l.gone.ending.y now link)
     accounted_of y e accounts link now away l =
-        let i = is_told_of t.limits.max_message (told link) (counts link) e now.parts.x now.parts.sent l.ties in
+        let sent = l.gone.sent in
+        let by : ℕ → ℕ → List ℕ → ℕ → End → Type 0 = λ window max. IsDecided now.parts.who window desk sent.ms now.parts.calls max in
+        let i = is_told_of (by now.parts.window now.parts.reader.max) (told link) (counts link) e now.parts.x now.parts.sent l.gone.ending in
+        let link_is = told_of (told link) (counts link) l.gone.ending.y now.parts.sent in
         let here : known root seen y now.seat ≡ root y = ap (λ (o : Option (ℕ × Q)). known root seen y (record { spot = o; active = now.seat.active; visits = now.seat.visits })) away in
         record {
           x = now.parts.x;
           fed = i.fed;
-          ms = l.sent.ms;
-          read = subst (λ (m : ℕ). IsRead m (drop hand_bytes now.parts.x) l.sent.ms) l.max l.sent.read;
+          ms = sent.ms;
+          read = subst (λ (m : ℕ). IsRead m (drop hand_bytes now.parts.x) sent.ms) l.max sent.read;
           visits = now.seat.visits;
           stand = subst (λ (h : Histories). AllStand (rules y).limits h now.seat.visits) here l.holds.calls;
           own = l.own.made;
           calls = now.parts.calls;
-          first_calls = l.first_calls;
-          owed = subst (λ (b : List ℕ). Begins b (out (session now.parts.who t.limits.window desk) now.parts.x l.sent.ms now.parts.calls)) (sym i.took)
-              (subst (λ (k : ℕ). Begins now.parts.sent (out (session now.parts.who k desk) now.parts.x l.sent.ms now.parts.calls)) l.window l.sent.owed);
-          cause = i.cause;
+          waited = l.waited;
+          talks = subst (λ (k : ℕ). Talks (session now.parts.who k desk) (count_of (session now.parts.who k desk) now.parts.x) sent.ms now.parts.calls l.waited) l.window sent.talks;
+          left = l.calls.left;
+          calls_are = l.calls.calls_are;
+          left_by = l.calls.left_by;
+          owed = subst (λ (b : List ℕ). Begins b (out (session now.parts.who t.limits.window desk) now.parts.x sent.ms now.parts.calls)) (sym i.took)
+              (subst (λ (k : ℕ). Begins now.parts.sent (out (session now.parts.who k desk) now.parts.x sent.ms now.parts.calls)) l.window sent.owed);
+          cause = subst (λ (m : ℕ). IsCause (by t.limits.window m) link_is.counts link_is.gave (length now.parts.x) e) l.max
+              (subst (λ (k : ℕ). IsCause (by k now.parts.reader.max) link_is.counts link_is.gave (length now.parts.x) e) l.window i.cause);
         }
 
 accounted_on : (desk : Ask → Grant) (t : Terms) (limits limits' : ℕ → StreamLimits) (h h' : Histories) (a : Account) → limits' ≡ limits → GoOn h h' → Accounted desk t limits h a → Accounted desk t limits' h' a
@@ -491,21 +610,27 @@ accounted_on desk t limits limits' h h' a same g w = record {
   stand = subst (λ (l : ℕ → StreamLimits). AllStand l h' w.visits) (sym same) (all_later limits h h' w.visits g w.stand);
   own = w.own;
   calls = w.calls;
-  first_calls = w.first_calls;
+  waited = w.waited;
+  talks = w.talks;
+  left = w.left;
+  calls_are = w.calls_are;
+  left_by = w.left_by;
   owed = w.owed;
   cause = w.cause;
 }
 
 -- what is left of the books, where the histories went on
-pub settled_later : (desk : Ask → Grant) (t : Terms) (limits : ℕ → StreamLimits) (h h' : Histories) (door : DoorTold) (refused : Bool) → GoOn h h' → Settled desk t limits h door refused → Settled desk t limits h' door refused
-settled_later desk t limits h h' door refused g w = record {
+pub settled_later : (desk : Ask → Grant) (t : Terms) (limits : ℕ → StreamLimits) (h h' : Histories) (door : DoorTold) (refused worn : Bool) → GoOn h h' → Settled desk t limits h door refused worn → Settled desk t limits h' door refused worn
+settled_later desk t limits h h' door refused worn g w = record {
   accounts = w.accounts;
   back_is = w.back_is;
   accounted = λ i d le. accounted_on desk t limits limits h h' (get_or w.accounts i d) refl g (w.accounted i d le);
   named = w.named;
   apart = w.apart;
   counted = w.counted;
+  few = w.few;
   spared = w.spared;
+  unworn = w.unworn;
 }
 
 -- ---- the whole
@@ -525,8 +650,8 @@ module _ {P D Q L : Type 0} (rules : P → PortRules) (root : P → Histories) (
     pub single : Single b.sessions
 
   -- the port alone, or what the books say nothing of
-  kept_same : (b b' : Bench P D Q L) → b'.sessions ≡ b.sessions → (doors b'.door).back ≡ (doors b.door).back → b'.had ≡ b.had → (b'.refused ≡ false → b.refused ≡ false) → rules b'.port ≡ rules b.port → GoOn (root b.port) (root b'.port) → Kept b → Kept b'
-  kept_same b b' same back had spared fixed g k =
+  kept_same : (b b' : Bench P D Q L) → b'.sessions ≡ b.sessions → (doors b'.door).back ≡ (doors b.door).back → b'.had ≡ b.had → (b'.refused ≡ false → b.refused ≡ false) → b'.worn ≡ b.worn → rules b'.port ≡ rules b.port → GoOn (root b.port) (root b'.port) → Kept b → Kept b'
+  kept_same b b' same back had spared worn fixed g k =
       let w = k.works in
       record {
         works = record {
@@ -537,8 +662,12 @@ module _ {P D Q L : Type 0} (rules : P → PortRules) (root : P → Histories) (
           apart = w.apart;
           lives = λ key s at. lives_on rules root seen told counts desk t b.port b'.port w.accounts s fixed g (w.lives key s (sym (ap (λ (l : Slab (Seated P L Q)). get l key) same) ∙ at));
           counted = λ r. ap (λ (l : Slab (Seated P L Q)). slab_len l + length w.accounts) same ∙ (w.counted (spared r) ∙ sym had);
+          few = λ r. w.few (spared r);
+          near = λ r key s at. w.near (spared r) key s (sym (ap (λ (l : Slab (Seated P L Q)). get l key) same) ∙ at);
           spared = λ r. w.spared (spared r);
           unspent = λ r key s at. w.unspent (spared r) key s (sym (ap (λ (l : Slab (Seated P L Q)). get l key) same) ∙ at);
+          unworn = λ r. w.unworn (sym worn ∙ r);
+          unfilled = λ r key s at. w.unfilled (sym worn ∙ r) key s (sym (ap (λ (l : Slab (Seated P L Q)). get l key) same) ∙ at);
         };
         named = λ key s at. subst (λ (n : ℕ). IsNamed t.number n s.session.parts.who) (sym had) (k.named key s (sym (ap (λ (l : Slab (Seated P L Q)). get l key) same) ∙ at));
         single = subst Single (sym same) k.single;
@@ -546,8 +675,8 @@ module _ {P D Q L : Type 0} (rules : P → PortRules) (root : P → Histories) (
 
   -- a link came
   kept_more : (b b' : Bench P D Q L) (key : ℕ) (s' : Seated P L Q) → IsNewSession t b.had s'.session → IsNewLink (told s'.link) (counts s'.link) → Updates b.sessions b'.sessions key (Some s') → slab_len b'.sessions ≡ slab_len b.sessions + 1
-      → (doors b'.door).back ≡ (doors b.door).back → b'.had ≡ b.had + 1 → b'.refused ≡ b.refused → b'.port ≡ b.port → Kept b → Kept b'
-  kept_more b b' key s' n l u len back had refused port k =
+      → (doors b'.door).back ≡ (doors b.door).back → b'.had ≡ b.had + 1 → b'.refused ≡ b.refused → b'.worn ≡ b.worn → b'.port ≡ b.port → slab_len b.sessions < t.links → Kept b → Kept b'
+  kept_more b b' key s' n l u len back had refused worn port room k =
       let w = k.works in
       let at_port : (s : Seated P L Q) → Lives rules root seen told counts desk t b.port w.accounts s → Lives rules root seen told counts desk t b'.port w.accounts s = λ s. subst (λ (p : P). Lives rules root seen told counts desk t p w.accounts s) (sym port) in
       record {
@@ -562,10 +691,20 @@ module _ {P D Q L : Type 0} (rules : P → PortRules) (root : P → Histories) (
             | inr e ↦ at_port s (w.lives j s e.1)
           ];
           counted = λ r. let c = w.counted (sym refused ∙ r) in omega (arith, c, len, had);
+          few = λ r. w.few (sym refused ∙ r);
+          near = λ r j s at. elim (put_cases b.sessions b'.sessions key s' u j s at) [
+            | inl e ↦ subst (λ (x : Seated P L Q). IsBackAfter t (length w.accounts) x.session.parts.who) (sym e.1) (let c = w.counted (sym refused ∙ r) in let m = n.who in omega (arith, c, m, room))
+            | inr e ↦ w.near (sym refused ∙ r) j s e.1
+          ];
           spared = λ r. w.spared (sym refused ∙ r);
           unspent = λ r j s at. elim (put_cases b.sessions b'.sessions key s' u j s at) [
             | inl e ↦ λ is. let m : None ≡ Some end.OutOfMemory = sym n.lives ∙ (ap (λ (x : Seated P L Q). x.session.ended) (sym e.1) ∙ is) in cc
             | inr e ↦ w.unspent (sym refused ∙ r) j s e.1
+          ];
+          unworn = λ r. w.unworn (sym worn ∙ r);
+          unfilled = λ r j s at. elim (put_cases b.sessions b'.sessions key s' u j s at) [
+            | inl e ↦ λ is. let m : None ≡ Some end.Worn = sym n.lives ∙ (ap (λ (x : Seated P L Q). x.session.ended) (sym e.1) ∙ is) in cc
+            | inr e ↦ w.unfilled (sym worn ∙ r) j s e.1
           ];
         };
         named = λ j s at. subst (λ (m : ℕ). IsNamed t.number m s.session.parts.who) (sym had) (elim (put_cases b.sessions b'.sessions key s' u j s at) [
@@ -577,9 +716,9 @@ module _ {P D Q L : Type 0} (rules : P → PortRules) (root : P → Histories) (
 
   -- a session at its key is another, of the same name
   kept_put : (b b' : Bench P D Q L) (key : ℕ) (s s' : Seated P L Q) → get b.sessions key ≡ Some s → Updates b.sessions b'.sessions key (Some s') → slab_len b'.sessions ≡ slab_len b.sessions → (doors b'.door).back ≡ (doors b.door).back → b'.had ≡ b.had
-      → (b'.refused ≡ false → b.refused ≡ false) → rules b'.port ≡ rules b.port → GoOn (root b.port) (root b'.port) → s'.session.parts.who ≡ s.session.parts.who → (k : Kept b) → Lives rules root seen told counts desk t b'.port k.works.accounts s'
-      → (b'.refused ≡ false → s'.session.ended ≢ Some end.OutOfMemory) → Kept b'
-  kept_put b b' key s s' here u len back had spared fixed g who k there unspent =
+      → (b'.refused ≡ false → b.refused ≡ false) → (b'.worn ≡ false → b.worn ≡ false) → rules b'.port ≡ rules b.port → GoOn (root b.port) (root b'.port) → s'.session.parts.who ≡ s.session.parts.who → (k : Kept b) → Lives rules root seen told counts desk t b'.port k.works.accounts s'
+      → (b'.refused ≡ false → s'.session.ended ≢ Some end.OutOfMemory) → (b'.worn ≡ false → s'.session.ended ≢ Some end.Worn) → Kept b'
+  kept_put b b' key s s' here u len back had spared worn fixed g who k there unspent unfilled =
       let w = k.works in
       record {
         works = record {
@@ -593,10 +732,20 @@ module _ {P D Q L : Type 0} (rules : P → PortRules) (root : P → Histories) (
             | inr e ↦ lives_on rules root seen told counts desk t b.port b'.port w.accounts x fixed g (w.lives j x e.1)
           ];
           counted = λ r. ap (λ (n : ℕ). n + length w.accounts) len ∙ (w.counted (spared r) ∙ sym had);
+          few = λ r. w.few (spared r);
+          near = λ r j x at. elim (put_cases b.sessions b'.sessions key s' u j x at) [
+            | inl e ↦ subst (λ (y : Seated P L Q). IsBackAfter t (length w.accounts) y.session.parts.who) (sym e.1) (subst (IsBackAfter t (length w.accounts)) (sym who) (w.near (spared r) key s here))
+            | inr e ↦ w.near (spared r) j x e.1
+          ];
           spared = λ r. w.spared (spared r);
           unspent = λ r j x at. elim (put_cases b.sessions b'.sessions key s' u j x at) [
             | inl e ↦ subst (λ (y : Seated P L Q). y.session.ended ≢ Some end.OutOfMemory) (sym e.1) (unspent r)
             | inr e ↦ w.unspent (spared r) j x e.1
+          ];
+          unworn = λ r. w.unworn (worn r);
+          unfilled = λ r j x at. elim (put_cases b.sessions b'.sessions key s' u j x at) [
+            | inl e ↦ subst (λ (y : Seated P L Q). y.session.ended ≢ Some end.Worn) (sym e.1) (unfilled r)
+            | inr e ↦ w.unfilled (worn r) j x e.1
           ];
         };
         named = λ j x at. subst (λ (n : ℕ). IsNamed t.number n x.session.parts.who) (sym had) (elim (put_cases b.sessions b'.sessions key s' u j x at) [
@@ -607,7 +756,7 @@ module _ {P D Q L : Type 0} (rules : P → PortRules) (root : P → Histories) (
       }
 
   -- the sessions that are left where one is gone
-  module _ (b b' : Bench P D Q L) (key : ℕ) (s : Seated P L Q) (here : get b.sessions key ≡ Some s) (u : Updates b.sessions b'.sessions key None) (fixed : rules b'.port ≡ rules b.port) (g : GoOn (root b.port) (root b'.port)) (had : b'.had ≡ b.had) (k : Kept b) where
+  module _ (b b' : Bench P D Q L) (key : ℕ) (s : Seated P L Q) (here : get b.sessions key ≡ Some s) (u : Updates b.sessions b'.sessions key None) (fixed : rules b'.port ≡ rules b.port) (g : GoOn (root b.port) (root b'.port)) (had : b'.had ≡ b.had) (worn : b'.worn ≡ b.worn) (k : Kept b) where
     lives_else : (j : ℕ) (x : Seated P L Q) → get b'.sessions j ≡ Some x → Lives rules root seen told counts desk t b'.port k.works.accounts x
     lives_else j x at = lives_on rules root seen told counts desk t b.port b'.port k.works.accounts x fixed g (k.works.lives j x (gone_cases b.sessions b'.sessions key u j x at).1)
 
@@ -633,8 +782,12 @@ module _ {P D Q L : Type 0} (rules : P → PortRules) (root : P → Histories) (
             apart = w.apart;
             lives = lives_else;
             counted = λ r. absurd (let n : true ≡ false = sym refused ∙ r in cc);
+            few = λ r. absurd (let n : true ≡ false = sym refused ∙ r in cc);
+            near = λ r. absurd (let n : true ≡ false = sym refused ∙ r in cc);
             spared = λ r. absurd (let n : true ≡ false = sym refused ∙ r in cc);
             unspent = λ r. absurd (let n : true ≡ false = sym refused ∙ r in cc);
+            unworn = λ r. w.unworn (sym worn ∙ r);
+            unfilled = λ r j y at. w.unfilled (sym worn ∙ r) j y (gone_cases b.sessions b'.sessions key u j y at).1;
           };
           named = named_else;
           single = single_gone b.sessions b'.sessions key u k.single;
@@ -656,9 +809,14 @@ module _ {P D Q L : Type 0} (rules : P → PortRules) (root : P → Histories) (
             apart = all_pairs_push (λ (c d : Account). c.who ≢ d.who) w.accounts a w.apart (λ i d le. fresh i d le);
             lives = λ j y at. lives_more rules root seen told counts desk t b'.port w.accounts a y (subst (λ (n : ℕ). n ≢ y.session.parts.who) (sym who) (name_else j y at)) (lives_else j y at);
             counted = λ r. let c = w.counted (spared r) in let p = length_push w.accounts a in omega (arith, c, p, len, had);
+            few = λ r. each_push (λ i (c : Account). IsBackAfter t i c.who) w.accounts a (w.few (spared r)) (subst (IsBackAfter t (length w.accounts)) (sym who) (w.near (spared r) key s here));
+            near = λ r j y at. let c = w.near (spared r) j y (gone_cases b.sessions b'.sessions key u j y at).1 in let p = length_push w.accounts a in omega (arith, c, p);
             spared = λ r. All-push (λ (c : Account). c.end ≢ end.OutOfMemory) w.accounts a (w.spared (spared r))
                 (λ is. w.unspent (spared r) key s here (ended ∙ ap (λ (e : End). Some e) is));
             unspent = λ r j y at. w.unspent (spared r) j y (gone_cases b.sessions b'.sessions key u j y at).1;
+            unworn = λ r. All-push (λ (c : Account). c.end ≢ end.Worn) w.accounts a (w.unworn (sym worn ∙ r))
+                (λ is. w.unfilled (sym worn ∙ r) key s here (ended ∙ ap (λ (e : End). Some e) is));
+            unfilled = λ r j y at. w.unfilled (sym worn ∙ r) j y (gone_cases b.sessions b'.sessions key u j y at).1;
           };
           named = named_else;
           single = single_gone b.sessions b'.sessions key u k.single;
@@ -675,11 +833,15 @@ module _ {P D Q L : Type 0} (rules : P → PortRules) (root : P → Histories) (
     apart = λ i j x lt le. absurd (omega (arith, le));
     lives = λ key s at. absurd (let n : None ≡ Some s = sym (ap (λ (l : List (Option (Seated P L Q))). get_or l key None) empty) ∙ at in cc);
     counted = λ r. let z : slab_len b.sessions ≡ 0 = ap (count_by is_some) empty in omega (arith, z, had);
+    few = λ r. each_none (λ i (c : Account). IsBackAfter t i c.who);
+    near = λ r key s at. absurd (let n : None ≡ Some s = sym (ap (λ (l : List (Option (Seated P L Q))). get_or l key None) empty) ∙ at in cc);
     spared = λ r i x le. absurd (omega (arith, le));
     unspent = λ r key s at. absurd (let n : None ≡ Some s = sym (ap (λ (l : List (Option (Seated P L Q))). get_or l key None) empty) ∙ at in cc);
+    unworn = λ r i x le. absurd (omega (arith, le));
+    unfilled = λ r key s at. absurd (let n : None ≡ Some s = sym (ap (λ (l : List (Option (Seated P L Q))). get_or l key None) empty) ∙ at in cc);
   }
 
-  pub settles : (fits : P → ℕ → Q → Type 0) (b : Bench P D Q L) → IsSound fits rules doors t b → slab_len b.sessions ≡ 0 → Keeps b → Settled desk t (rules b.port).limits (root b.port) (doors b.door) b.refused
+  pub settles : (fits : P → ℕ → Q → Type 0) (b : Bench P D Q L) → IsSound fits rules doors t b → slab_len b.sessions ≡ 0 → Keeps b → Settled desk t (rules b.port).limits (root b.port) (doors b.door) b.refused b.worn
   settles fits b s none w = record {
     accounts = w.accounts;
     back_is = w.back_is;
@@ -687,46 +849,55 @@ module _ {P D Q L : Type 0} (rules : P → PortRules) (root : P → Histories) (
     named = subst (λ (n : ℕ). All (λ (a : Account). IsNamed t.number n a.who) w.accounts) (sym s.given) w.named;
     apart = w.apart;
     counted = λ r. let c = w.counted r in let e = s.given in omega (arith, c, none, e);
+    few = w.few;
     spared = w.spared;
+    unworn = w.unworn;
   }
+
+  -- the recorders alone have made calls
+  pub readied_works : (fits : P → ℕ → Q → Type 0) (b b' : Bench P D Q L) → IsSound fits rules doors t b → IsReadied b b' → rules b'.port ≡ rules b.port → GoOn (root b.port) (root b'.port) → Keeps b → Keeps b'
+  readied_works fits b b' s i fixed g works =
+      (kept_same b b' (ap (λ (x : Bench P D Q L). x.sessions) i.same) (ap (λ (x : Bench P D Q L). (doors x.door).back) i.same) (ap (λ (x : Bench P D Q L). x.had) i.same) i.refused (ap (λ (x : Bench P D Q L). x.worn) i.same) fixed g
+      (record { works = works; named = λ key u at. (s.seated key u at).named; single = s.single })).works
 
   -- ---- the door
 
-  kept_admitted : (link : L) (b b' : Bench P D Q L) → IsNewLink (told link) (counts link) → (doors b'.door).back ≡ (doors b.door).back → IsAdmitted t link b b' → Kept b → Kept b'
-  kept_admitted link b b' new back a k =
-      kept_more b b' a.key (record { session = a.came; link = link; over = false }) a.new new a.there a.count back (ap (λ (x : Bench P D Q L). x.had) a.same) (ap (λ (x : Bench P D Q L). x.refused) a.same) (ap (λ (x : Bench P D Q L). x.port) a.same) k
+  kept_admitted : (link : L) (b b' : Bench P D Q L) → IsNewLink (told link) (counts link) → (doors b'.door).back ≡ (doors b.door).back → IsAdmitted t link b b' → slab_len b.sessions < t.links → Kept b → Kept b'
+  kept_admitted link b b' new back a room k =
+      kept_more b b' a.key (record { session = a.came; link = link; over = false }) a.new new a.there a.count back (ap (λ (x : Bench P D Q L). x.had) a.same) (ap (λ (x : Bench P D Q L). x.refused) a.same) (ap (λ (x : Bench P D Q L). x.worn) a.same) (ap (λ (x : Bench P D Q L). x.port) a.same) room k
 
-  kept_at : (b b' : Bench P D Q L) → b'.sessions ≡ b.sessions → (doors b'.door).back ≡ (doors b.door).back → b'.had ≡ b.had → b'.refused ≡ b.refused → b'.port ≡ b.port → Kept b → Kept b'
-  kept_at b b' same back had refused port k =
-      kept_same b b' same back had (λ r. sym refused ∙ r) (ap rules port) (subst (λ (p : P). GoOn (root b.port) (root p)) (sym port) (record { at_each = λ q. begins_same (root b.port q) (root b.port q) refl })) k
+  kept_at : (b b' : Bench P D Q L) → b'.sessions ≡ b.sessions → (doors b'.door).back ≡ (doors b.door).back → b'.had ≡ b.had → b'.refused ≡ b.refused → b'.worn ≡ b.worn → b'.port ≡ b.port → Kept b → Kept b'
+  kept_at b b' same back had refused worn port k =
+      kept_same b b' same back had (λ r. sym refused ∙ r) worn (ap rules port) (subst (λ (p : P). GoOn (root b.port) (root p)) (sym port) (record { at_each = λ q. begins_same (root b.port q) (root b.port q) refl })) k
 
   kept_door : (b b' : Bench P D Q L) (c : Bool) → (doors b'.door).back ≡ (doors b.door).back → b' ≡ record b { door = b'.door; closed = c } → Kept b → Kept b'
-  kept_door b b' c back same k = kept_at b b' (ap (λ (x : Bench P D Q L). x.sessions) same) back (ap (λ (x : Bench P D Q L). x.had) same) (ap (λ (x : Bench P D Q L). x.refused) same) (ap (λ (x : Bench P D Q L). x.port) same) k
+  kept_door b b' c back same k = kept_at b b' (ap (λ (x : Bench P D Q L). x.sessions) same) back (ap (λ (x : Bench P D Q L). x.had) same) (ap (λ (x : Bench P D Q L). x.refused) same) (ap (λ (x : Bench P D Q L). x.worn) same) (ap (λ (x : Bench P D Q L). x.port) same) k
 
-  kept_admits : (n : Knock L) (b b' : Bench P D Q L) → Knocks told counts (doors b.door) (doors b'.door) n → Admits t n b b' → Kept b → Kept b'
-  kept_admits (knock.Link link) b b' d a k = kept_admitted link b b' d.2 (ap (λ (x : DoorTold). x.back) d.1) a k
-  kept_admits knock.NotYet b b' d a k = kept_door b b' b.closed (ap (λ (x : DoorTold). x.back) d.1) a k
-  kept_admits knock.Closed b b' d a k = kept_door b b' true (ap (λ (x : DoorTold). x.back) d) a k
-  kept_admits knock.Failed b b' d a k = kept_door b b' b.closed (ap (λ (x : DoorTold). x.back) d.1) a k
+  kept_admits : (n : Knock L) (b b' : Bench P D Q L) → Knocks told counts (doors b.door) (doors b'.door) n → Admits t n b b' → slab_len b.sessions < t.links → Kept b → Kept b'
+  kept_admits (knock.Link link) b b' d a room k = kept_admitted link b b' d.2 (ap (λ (x : DoorTold). x.back) d.1) a room k
+  kept_admits knock.NotYet b b' d a room k = kept_door b b' b.closed (ap (λ (x : DoorTold). x.back) d.1) a k
+  kept_admits knock.Closed b b' d a room k = kept_door b b' true (ap (λ (x : DoorTold). x.back) d) a k
+  kept_admits knock.Failed b b' d a room k = kept_door b b' b.closed (ap (λ (x : DoorTold). x.back) d.1) a k
 
-  kept_admits_if : (asked : Bool) (b b' : Bench P D Q L) → AdmitsIf told counts doors t asked b b' → Kept b → Kept b'
-  kept_admits_if false b b' a k = subst Kept (sym a) k
-  kept_admits_if true b b' a k = kept_admits a.0 b b' a.1.0 a.1.1 k
+  kept_admits_if : (asked : Bool) (b b' : Bench P D Q L) → AdmitsIf told counts doors t asked b b' → (asked ≡ true → slab_len b.sessions < t.links) → Kept b → Kept b'
+  kept_admits_if false b b' a room k = subst Kept (sym a) k
+  kept_admits_if true b b' a room k = kept_admits a.0 b b' a.1.0 a.1.1 (room refl) k
 
   -- ---- turns and closes
 
   module _ (fits : P → ℕ → Q → Type 0) (count : Q → ℕ) (wants : Entry → Type 0) (busies : P → ℕ) where
     module _ (hears : L → ℕ → Came → L → Type 0) (hears_mean : (l : L) (room : ℕ) (answer : Came) (m : L) → 0 < room → hears l room answer m → HearStep room (told l) (told m) (counts l) (counts m) answer)
-        (says : L → List ℕ → Said → L → Type 0) (says_mean : (l : L) (piece : List ℕ) (answer : Said) (m : L) → 0 < length piece → says l piece answer m → SayStep piece (told l) (told m) (counts l) (counts m) answer) where
+        (says : L → List ℕ → Said → L → Type 0) (says_mean : (l : L) (piece : List ℕ) (answer : Said) (m : L) → 0 < length piece → says l piece answer m → SayStep piece (told l) (told m) (counts l) (counts m) answer) (decided : Deciding) where
       abbrev Turned : P → Seated P L Q → Turn → P → Seated P L Q → Type 0
       Turned = TakesTurn (Asked fits rules root seen count wants busies) (GoesOn fits rules root seen busies) desk hears says
 
       kept_turned : (key : ℕ) (s : Seated P L Q) (b b' : Bench P D Q L) → get b.sessions key ≡ Some s → s.session.ended ≡ None → IsTurned Turned key s b b' → Kept b → Kept b'
       kept_turned key s b b' here n i k =
           kept_put b b' key s i.now here i.there i.count (ap (λ (x : Bench P D Q L). (doors x.door).back) i.same) (ap (λ (x : Bench P D Q L). x.had) i.same)
-          (λ r. or_first b.refused _ (sym (ap (λ (x : Bench P D Q L). x.refused) i.same) ∙ r)) i.turn.goes_on.fixed i.turn.goes_on.roots i.turn.who k
-          (lives_turned rules root seen told counts desk t fits count wants busies (GoesOn fits rules root seen busies) hears hears_mean says says_mean b.port b'.port k.works.accounts s i.now i.answer n i.turn (k.works.lives key s here))
+          (λ r. or_first b.refused _ (sym (ap (λ (x : Bench P D Q L). x.refused) i.same) ∙ r)) (λ r. or_first b.worn _ (sym (ap (λ (x : Bench P D Q L). x.worn) i.same) ∙ r)) i.turn.goes_on.fixed i.turn.goes_on.roots i.turn.who k
+          (lives_turned rules root seen told counts desk t fits count wants busies (GoesOn fits rules root seen busies) hears hears_mean says says_mean decided b.port b'.port k.works.accounts s i.now i.answer n i.turn (k.works.lives key s here))
           (λ r. subst (λ (o : Option End). o ≢ Some end.OutOfMemory) (sym i.turn.ended) (unspent_by i.answer (or_last b.refused _ (sym (ap (λ (x : Bench P D Q L). x.refused) i.same) ∙ r))))
+          (λ r. subst (λ (o : Option End). o ≢ Some end.Worn) (sym i.turn.ended) (unfilled_by i.answer (or_last b.worn _ (sym (ap (λ (x : Bench P D Q L). x.worn) i.same) ∙ r))))
 
       kept_turns_by : (o : Option End) (key : ℕ) (s : Seated P L Q) (b b' : Bench P D Q L) → get b.sessions key ≡ Some s → s.session.ended ≡ o → TurnsBy Turned o key s b b' → Kept b → Kept b'
       kept_turns_by None key s b b' here n i k = kept_turned key s b b' here n i k
@@ -746,30 +917,34 @@ module _ {P D Q L : Type 0} (rules : P → PortRules) (root : P → Histories) (
         → IsGone told counts doors key s b b' → Kept b → Kept b'
     kept_gone key s e answer now b b' here n left c i k =
         let w = k.works in
-        let l = leaving_of rules root seen told counts desk t fits count wants busies b.port b'.port e w.accounts s answer now n c (w.lives key s here) in
+        let l = subst (λ (x : Bool). IsLeaving rules root seen told counts desk t fits count wants busies x b'.port e w.accounts s.link now) left
+        (leaving_of rules root seen told counts desk t fits count wants busies b.port b'.port e w.accounts s answer now n c (w.lives key s here)) in
         let away = nowhere now.seat.spot (c.spot ∙ left_nowhere answer (place_of s.session.seat.spot) left) in
         elim i.back [
-          | inl h ↦ kept_back b b' key s here i.gone c.fixed c.roots (ap (λ (x : Bench P D Q L). x.had) h.1) k (record { who = now.parts.who; end = e; link = told_of (told s.link) (counts s.link) l.ties.y now.parts.sent }) l.ties.y now.parts.sent
+          | inl h ↦ kept_back b b' key s here i.gone c.fixed c.roots (ap (λ (x : Bench P D Q L). x.had) h.1) (ap (λ (x : Bench P D Q L). x.worn) h.1) k (record { who = now.parts.who; end = e; link = told_of (told s.link) (counts s.link) l.gone.ending.y now.parts.sent }) l.gone.ending.y now.parts.sent
               (ap (λ (g : Gone). g.who) (ap gone_but_kept c.parts)) refl (accounted_of rules root seen told counts desk t fits count wants busies b'.port e w.accounts s.link now away l) i.count (ap (λ (x : DoorTold). x.back) h.0)
               (λ r. sym (ap (λ (x : Bench P D Q L). x.refused) h.1) ∙ r) l.fresh n
-          | inr h ↦ kept_dropped b b' key s here i.gone c.fixed c.roots (ap (λ (x : Bench P D Q L). x.had) h.1) k (ap (λ (x : DoorTold). x.back) h.0) (ap (λ (x : Bench P D Q L). x.refused) h.1)
+          | inr h ↦ kept_dropped b b' key s here i.gone c.fixed c.roots (ap (λ (x : Bench P D Q L). x.had) h.1) (ap (λ (x : Bench P D Q L). x.worn) h.1) k (ap (λ (x : DoorTold). x.back) h.0) (ap (λ (x : Bench P D Q L). x.refused) h.1)
         ]
 
-    kept_left : (key : ℕ) (s : Seated P L Q) (e : End) (answer : Leaving) (now : SessionState Q) (b b' : Bench P D Q L) → get b.sessions key ≡ Some s → s.session.ended ≡ Some e → Ends b.port s.session answer b'.port now
+    kept_left : (key : ℕ) (s : Seated P L Q) (e : End) (answer : Leaving) (now : SessionState Q) (b b' : Bench P D Q L) → get b.sessions key ≡ Some s → s.session.ended ≡ Some e → has_left answer ≡ false → Ends b.port s.session answer b'.port now
         → IsLeft told counts doors key s now b b' → Kept b → Kept b'
-    kept_left key s e answer now b b' here n c i k =
+    kept_left key s e answer now b b' here n stays c i k =
         let w = k.works in
-        let l = leaving_of rules root seen told counts desk t fits count wants busies b.port b'.port e w.accounts s answer now n c (w.lives key s here) in
+        let l = subst (λ (x : Bool). IsLeaving rules root seen told counts desk t fits count wants busies x b'.port e w.accounts s.link now) stays
+        (leaving_of rules root seen told counts desk t fits count wants busies b.port b'.port e w.accounts s answer now n c (w.lives key s here)) in
         kept_put b b' key s (record { session = now; link = s.link; over = true }) here i.there i.count (ap (λ (x : Bench P D Q L). (doors x.door).back) i.same) (ap (λ (x : Bench P D Q L). x.had) i.same)
-        (λ r. sym (ap (λ (x : Bench P D Q L). x.refused) i.same) ∙ r) c.fixed c.roots (ap (λ (g : Gone). g.who) (ap gone_but_kept c.parts)) k
+        (λ r. sym (ap (λ (x : Bench P D Q L). x.refused) i.same) ∙ r) (λ r. sym (ap (λ (x : Bench P D Q L). x.worn) i.same) ∙ r) c.fixed c.roots (ap (λ (g : Gone). g.who) (ap gone_but_kept c.parts)) k
         (lives_left rules root seen told counts desk t fits count wants busies b'.port e w.accounts (record { session = now; link = s.link; over = true }) (c.ended ∙ ap (λ (o : Option End). Some (end_or_quit o)) n) l)
         (λ r. subst (λ (o : Option End). o ≢ Some end.OutOfMemory) (n ∙ sym (c.ended ∙ ap (λ (o : Option End). Some (end_or_quit o)) n))
         (w.unspent (sym (ap (λ (x : Bench P D Q L). x.refused) i.same) ∙ r) key s here))
+        (λ r. subst (λ (o : Option End). o ≢ Some end.Worn) (n ∙ sym (c.ended ∙ ap (λ (o : Option End). Some (end_or_quit o)) n))
+        (w.unfilled (sym (ap (λ (x : Bench P D Q L). x.worn) i.same) ∙ r) key s here))
 
     kept_goes : (x : Bool) (key : ℕ) (s : Seated P L Q) (e : End) (answer : Leaving) (now : SessionState Q) (b b' : Bench P D Q L) → has_left answer ≡ x → get b.sessions key ≡ Some s → s.session.ended ≡ Some e → Ends b.port s.session answer b'.port now
         → GoesIf told counts doors x key s now b b' → Kept b → Kept b'
     kept_goes true key s e answer now b b' is here n c i k = kept_gone key s e answer now b b' here n is c i k
-    kept_goes false key s e answer now b b' is here n c i k = kept_left key s e answer now b b' here n c i k
+    kept_goes false key s e answer now b b' is here n c i k = kept_left key s e answer now b b' here n is c i k
 
     kept_closes_by : (o : Option End) (key : ℕ) (s : Seated P L Q) (b b' : Bench P D Q L) → get b.sessions key ≡ Some s → s.session.ended ≡ o → ClosesBy told counts doors Ends o key s b b' → Kept b → Kept b'
     kept_closes_by None key s b b' here n i k = subst Kept (sym i) k
@@ -789,7 +964,7 @@ module _ {P D Q L : Type 0} (rules : P → PortRules) (root : P → Histories) (
       kept_recorded r r' b b' i k =
           let g = serves b.port r i.answer b'.port r' i.turn in
           kept_same b b' (ap (λ (x : Bench P D Q L). x.sessions) i.same) (ap (λ (x : Bench P D Q L). (doors x.door).back) i.same) (ap (λ (x : Bench P D Q L). x.had) i.same)
-          (λ e. or_first b.refused _ (sym (ap (λ (x : Bench P D Q L). x.refused) i.same) ∙ e)) g.0 g.1 k
+          (λ e. or_first b.refused _ (sym (ap (λ (x : Bench P D Q L). x.refused) i.same) ∙ e)) (ap (λ (x : Bench P D Q L). x.worn) i.same) g.0 g.1 k
 
       kept_records_if : (o : Option (Recorder P K Q)) (i : ℕ) (x x' : Bench P D Q L × List (Recorder P K Q)) → RecordsIf files o i x x' → Kept x.0 → Kept x'.0
       kept_records_if None i x x' e k = subst (λ (y : Bench P D Q L × List (Recorder P K Q)). Kept y.0) (sym e) k
@@ -799,15 +974,16 @@ module _ {P D Q L : Type 0} (rules : P → PortRules) (root : P → Histories) (
       kept_records_at i x x' e k = kept_records_if (slice_get x.1 i) i x x' e k
 
       module _ (hears : L → ℕ → Came → L → Type 0) (hears_mean : (l : L) (room : ℕ) (answer : Came) (m : L) → 0 < room → hears l room answer m → HearStep room (told l) (told m) (counts l) (counts m) answer)
-          (says : L → List ℕ → Said → L → Type 0) (says_mean : (l : L) (piece : List ℕ) (answer : Said) (m : L) → 0 < length piece → says l piece answer m → SayStep piece (told l) (told m) (counts l) (counts m) answer) where
+          (says : L → List ℕ → Said → L → Type 0) (says_mean : (l : L) (piece : List ℕ) (answer : Said) (m : L) → 0 < length piece → says l piece answer m → SayStep piece (told l) (told m) (counts l) (counts m) answer) (decided : Deciding) where
         abbrev OneRound : WorkerState P D K Q L → Round → WorkerState P D K Q L → Type 0
-        OneRound = Rounds told counts doors (Turned hears hears_mean says says_mean) Ends files
+        OneRound = Rounds told counts doors (Turned hears hears_mean says says_mean decided) Ends files
 
         kept_round : (w w' : WorkerState P D K Q L) (answer : Round) → w.terms ≡ t → OneRound w answer w' → Kept w.bench → Kept w'.bench
         kept_round w w' answer terms r k =
-            let begins = kept_at w.bench (begun w.bench) refl refl refl refl refl k in
-            let admitted = kept_admits_if (asks_door w.terms w.bench) (begun w.bench) r.admitted (subst (λ (u : Terms). AdmitsIf told counts doors u (asks_door w.terms w.bench) (begun w.bench) r.admitted) terms r.admits) begins in
-            let turned = walked (TurnsAt (Turned hears hears_mean says says_mean)) Kept (kept_turns_at hears hears_mean says says_mean) r.turns.last r.admitted r.turned r.turns.walk admitted in
+            let begins = kept_at w.bench (begun w.bench) refl refl refl refl refl refl k in
+            let admitted = kept_admits_if (asks_door w.terms w.bench) (begun w.bench) r.admitted (subst (λ (u : Terms). AdmitsIf told counts doors u (asks_door w.terms w.bench) (begun w.bench) r.admitted) terms r.admits)
+            (λ e. subst (λ (u : Terms). slab_len w.bench.sessions < u.links) terms (has_room (slab_len w.bench.sessions) w.terms.links (nat_lt w.bench.had (2 ^ 40)) e)) begins in
+            let turned = walked (TurnsAt (Turned hears hears_mean says says_mean decided)) Kept (kept_turns_at hears hears_mean says says_mean decided) r.turns.last r.admitted r.turned r.turns.walk admitted in
             let closed = walked (ClosesAt told counts doors Ends) Kept kept_closes_at r.closings.last r.turned r.closed r.closings.walk turned in
             walked (RecordsAt files) (λ (x : Bench P D Q L × List (Recorder P K Q)). Kept x.0) kept_records_at (length w.recorders) (r.closed, w.recorders) (w'.bench, w'.recorders) r.records closed
 

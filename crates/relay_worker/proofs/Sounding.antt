@@ -22,11 +22,16 @@ use Rattle.relay_session.proofs.SeatStanding.{go_on_same, go_on_trans, one_goes_
 use Rattle.relay_session.specs.SeatVisits.{Visit, calls_of}
 use Rattle.relay_session.specs.SessionState.{SessionState}
 use Rattle.relay_worker.specs.Benches.{AreFiled, IsFiled, IsNamed, IsSeated, IsSound, WorkerState, who_of}
+use Rattle.media_recorder.specs.Joined.{joined_from}
+use Rattle.media_recorder.specs.Says.{Says}
+use Rattle.media_recorder.specs.declared.turn.RecEnd.{RecEnd}
 use Rattle.media_recorder.specs.declared.turn.RecTurn.{RecTurn}
-use Rattle.relay_worker.specs.Filed.{form_of, state_of}
+use Rattle.media_recorder.specs.declared.turn.RecTurn.TheVariants as turn
+use Rattle.stream_registry.specs.Told.{Step}
+use Rattle.relay_worker.specs.Filed.{form_of, is_ready, state_of}
 use Rattle.relay_worker.specs.declared.recorder.Form.{Form}
 use Rattle.relay_worker.specs.Rounds.{ClosesAt, ClosesBy, ClosesIf, GoesIf, HandsBack, IsClosed, IsGone, IsLeft, IsTurned, Recorded, RecordsAt, RecordsIf, Rounds, TurnsAt, TurnsBy, TurnsIf, Walks}
-use Rattle.relay_worker.specs.Running.{GoesAhead, HasRun, KeepsOn, Label, label_of}
+use Rattle.relay_worker.specs.Running.{GoesAhead, HasRun, IsReadied, KeepsOn, Label, label_of}
 use Rattle.relay_worker.specs.Sessions.{IsNewSession}
 use Rattle.relay_worker.specs.declared.bench.Bench.{Bench}
 use Rattle.relay_worker.specs.declared.bench.Seated.{Seated}
@@ -421,3 +426,34 @@ module _ {P D K Q L : Type 0} where
       done_if : (c : Bool) (n : ℕ) → n ≤ 2 ^ 40 → (c || nat_le (2 ^ 40) n) ≡ true → (c ≡ true) ⊎ (n ≡ 2 ^ 40)
       done_if true n le e = inl refl
       done_if false n le e = inr (let f : 2 ^ 40 ≤ n = grind arith in omega (arith, f, le))
+
+-- ---- recorders that get ready
+
+module _ {P D Q L : Type 0} where
+  pub readied_same : (b : Bench P D Q L) → IsReadied b b
+  readied_same b = record { same = refl; refused = λ r. r }
+
+  pub readied_then : (a b c : Bench P D Q L) → IsReadied a b → IsReadied b c → IsReadied a c
+  readied_then a b c x y = record {
+    same = y.same ∙ ap (λ (z : Bench P D Q L). record z { port = c.port; refused = c.refused }) x.same;
+    refused = λ r. x.refused (y.refused r);
+  }
+
+-- where it is one of two
+pub or_not : (a b : Bool) → (a || b) ≡ false → a ≡ false
+or_not true b e = e
+or_not false b e = refl
+
+pub or_true : (a b : Bool) → b ≡ true → (a || b) ≡ true
+or_true true b e = refl
+or_true false b e = e
+
+-- the answer of its last turn, by which it has ended
+pub ended_says : {P K Q : Type 0} (mine : Q → List ℕ) (root : List Step) (busies busies' : ℕ) (answer : RecTurn) (r : Recorder P K Q) (e : RecEnd) → answer ≡ turn.Ended e
+    → Says mine root busies busies' answer (state_of r) → is_ready r ≡ true
+ended_says mine root busies busies' answer r e is says =
+    let end : (state_of r).end ≡ Some e = subst (λ (a : RecTurn). Says mine root busies busies' a (state_of r)) is says in
+    or_true (is_some (joined_from (state_of r).seat.calls)) (is_some (state_of r).end) (ap is_some end)
+
+pub joined_says : {P K Q : Type 0} (r : Recorder P K Q) → is_some (joined_from (state_of r).seat.calls) ≡ true → is_ready r ≡ true
+joined_says r e = ap (λ (b : Bool). b || is_some (state_of r).end) e

@@ -1,5 +1,5 @@
 -- WHAT A WORKER'S BOOKS SAY: of each link that was handed back, and of each session that is there
-use Rattle.std.specs.Prelude.{◌≡◌, ◌≢◌, ◌+◌, ℕ, Bool, false, List, ◌++◌, length, drop, map, Option, Some, None, All, AllPairs}
+use Rattle.std.specs.Prelude.{◌≡◌, ◌≢◌, ◌⊎◌, ◌<◌, ◌+◌, ℕ, Bool, false, List, [], ◌∷◌, ◌++◌, length, drop, map, Option, Some, None, All, AllPairs}
 use Rattle.slab.specs.Slab.{get, slab_len}
 use Rattle.chunk_reader.specs.Sound.{IsRead}
 use Rattle.chunk_wire.specs.declared.message.Message.{Message}
@@ -7,14 +7,18 @@ use Rattle.command_dialog.specs.declared.types.Ask.{Ask}
 use Rattle.command_dialog.specs.declared.types.Grant.{Grant}
 use Rattle.relay_outside.specs.Doors.{DoorTold, Returned}
 use Rattle.relay_outside.specs.Told.{LinkCounts, LinkTold}
-use Rattle.session_owed.specs.Owed.{out}
+use Rattle.session_owed.specs.Owed.{count_of, out}
 use Rattle.session_owed.specs.Talk.{Own, hand_bytes}
+use Rattle.session_owed.specs.Talks.{Talks}
+use Rattle.stream_model.specs.declared.calls.Call.{Call}
+use Rattle.stream_model.specs.declared.calls.Call.TheVariants as call
 use Rattle.stream_model.specs.declared.calls.Entry.{Entry}
+use Rattle.stream_model.specs.declared.replies.Reply.{Reply}
 use Rattle.stream_model.specs.declared.calls.StreamLimits.{StreamLimits}
 use Rattle.stream_registry.specs.Names.{PortRules}
 use Rattle.stream_registry.specs.Told.{Step, Histories}
 use Rattle.turn_gate.specs.Histories.{Begins}
-use Rattle.relay_session.specs.Feeding.{Decides, Heard}
+use Rattle.relay_session.specs.Decided.{IsDecided}
 use Rattle.relay_session.specs.Session.{session}
 use Rattle.relay_session.specs.SeatState.{IsGranted, known}
 use Rattle.relay_session.specs.SeatVisits.{AllStand, Visit, calls_at, calls_of}
@@ -25,48 +29,74 @@ use Rattle.relay_session.specs.declared.core_fields.Core.{Core}
 use Rattle.relay_session.specs.declared.end.End.{End}
 use Rattle.relay_session.specs.declared.end.End.TheVariants as end
 use Rattle.relay_session.specs.declared.seat_answers.Active.{Active}
-use Rattle.relay_worker.specs.Benches.{IsNamed, WorkerState}
+use Rattle.relay_worker.specs.Benches.{IsNamed, WorkerState, who_of}
+use Rattle.relay_worker.specs.Running.{EachAt}
 use Rattle.relay_worker.specs.declared.bench.Bench.{Bench}
 use Rattle.relay_worker.specs.declared.bench.Seated.{Seated}
 use Rattle.relay_worker.specs.declared.bench.Terms.{Terms}
 
 -- ---- why a session has ended
 
--- n bytes of y were fed, and the next one ends a session, what it has heard being this
-abbrev pub IsDecided : ℕ → List ℕ → ℕ → End → Type 0
-IsDecided max y n e = (h : Heard) × Decides max h y n e
-
--- WHY A SESSION HAS ENDED whose link has these counts and gave the bytes y, of which n were fed. Nothing tells it to end
-abbrev pub IsCause : ℕ → LinkCounts → List ℕ → ℕ → End → Type 0
-IsCause max counts y n end.PeerClosed = counts.ends ≢ 0
-IsCause max counts y n end.LinkFault = counts.faults ≢ 0
-IsCause max counts y n (end.BadVersion at) = IsDecided max y n (end.BadVersion at)
-IsCause max counts y n (end.BadChunk cause at) = IsDecided max y n (end.BadChunk cause at)
-IsCause max counts y n (end.BadControl at) = IsDecided max y n (end.BadControl at)
-IsCause max counts y n (end.BadCommand at) = IsDecided max y n (end.BadCommand at)
-IsCause max counts y n (end.TooManyStreams at) = IsDecided max y n (end.TooManyStreams at)
-IsCause max counts y n end.Quit = ⊥
-IsCause max counts y n end.Worn = Unit {0}
-IsCause max counts y n end.OutOfMemory = Unit {0}
+-- WHY A SESSION HAS ENDED whose link has these counts and gave the bytes y, of which n were fed, where the byte behind these decides
+-- so. Nothing tells it to end. A session whose peer has closed was fed all that the link gave. A full history and want of memory are
+-- no matter of the link: the books tell of them apart
+abbrev pub IsCause : (List ℕ → ℕ → End → Type 0) → LinkCounts → List ℕ → ℕ → End → Type 0
+IsCause Decided counts y n end.PeerClosed = (counts.ends ≢ 0) × (n ≡ length y)
+IsCause Decided counts y n end.LinkFault = counts.faults ≢ 0
+IsCause Decided counts y n (end.BadVersion at) = Decided y n (end.BadVersion at)
+IsCause Decided counts y n (end.BadChunk cause at) = Decided y n (end.BadChunk cause at)
+IsCause Decided counts y n (end.BadControl at) = Decided y n (end.BadControl at)
+IsCause Decided counts y n (end.BadCommand at) = Decided y n (end.BadCommand at)
+IsCause Decided counts y n (end.TooManyStreams at) = Decided y n (end.TooManyStreams at)
+IsCause Decided counts y n end.Quit = ⊥
+IsCause Decided counts y n end.Worn = Unit {0}
+IsCause Decided counts y n end.OutOfMemory = Unit {0}
 
 -- ---- a link and its session
 
 -- what was fed begins what the link gave, which was the cause of the end, and what the link took was sent
-pub record IsEndedBy (max : ℕ) (e : End) (told : Option LinkTold) (counts : LinkCounts) (x sent : List ℕ) : Type 0 where
+pub record IsEndedBy (Decided : List ℕ → ℕ → End → Type 0) (e : End) (told : Option LinkTold) (counts : LinkCounts) (x sent : List ℕ) : Type 0 where
   pub y : List ℕ
   pub fed : Begins x y
-  pub cause : IsCause max counts y (length x) e
+  pub cause : IsCause Decided counts y (length x) e
   pub told_is : (t : LinkTold) → told ≡ Some t → (t.gave ≡ y) × (t.took ≡ sent)
 
--- what the link gave was fed or is yet to be, and what it took was sent
-abbrev pub TiesBy : ℕ → Option End → Option LinkTold → LinkCounts → List ℕ → List ℕ → List ℕ → Type 0
-TiesBy max None told counts x input sent = (t : LinkTold) → told ≡ Some t → (t.gave ≡ x ++ input) × (t.took ≡ sent)
-TiesBy max (Some e) told counts x input sent = IsEndedBy max e told counts x sent
+-- of one that lives: what the link gave was fed or is yet to be, and what it took was sent
+abbrev pub TiesBy : Option End → Option LinkTold → List ℕ → List ℕ → List ℕ → Type 0
+TiesBy None told x input sent = (t : LinkTold) → told ≡ Some t → (t.gave ≡ x ++ input) × (t.took ≡ sent)
+TiesBy (Some e) told x input sent = Unit {0}
 
 -- all these calls bear the name, and so does the one that waits
 pub record Owns (who : ℕ) (visits : List Visit) (kept : Option Entry) : Type 0 where
   pub made : All (λ v. v.1.0.who ≡ who) visits
   pub waits : (e : Entry) → kept ≡ Some e → e.who ≡ who
+
+-- ---- the calls by which a session leaves
+
+-- the call that waited as the session ended, with its reply, or none
+abbrev pub IsWaited : Option Entry → List Own → Type 0
+IsWaited waited calls = (calls ≡ []) ⊎ ((e : Entry) × ((r : Reply) × ((waited ≡ Some e) × (calls ≡ (e, r) ∷ []))))
+
+-- a call that ends what was granted
+abbrev pub IsParting : Call → Type 0
+IsParting c = (c ≡ call.End) ⊎ ((player : ℕ) × (c ≡ call.Leave player))
+
+-- one such call, or none
+abbrev pub IsParted : List Own → Type 0
+IsParted calls = (calls ≡ []) ⊎ ((c : Own) × (IsParting c.0.call × (calls ≡ c ∷ [])))
+
+-- THE CALLS BY WHICH A SESSION LEAVES: the one that waited as it ended, if it was made, and then at most one that ends what it was
+-- granted
+pub record LeavesBy (waited : Option Entry) (calls : List Own) : Type 0 where
+  pub first : List Own
+  pub last : List Own
+  pub calls_are : calls ≡ first ++ last
+  pub first_is : IsWaited waited first
+  pub last_is : IsParted last
+
+-- of one that is still to leave: the call that waited waits on, or it was made
+abbrev pub WaitsOrMade : Option Entry → Option Entry → List Own → Type 0
+WaitsOrMade waited kept calls = ((calls ≡ []) × (kept ≡ waited)) ⊎ (IsWaited waited calls × (kept ≡ None))
 
 -- ---- a link that was handed back
 
@@ -77,9 +107,10 @@ pub record Account : Type 0 where
   pub link : Returned
 
 -- ITS SESSION was fed the first bytes that the link gave. Its calls bear its name and stand in the histories of their streams,
--- each once and in their order, answered by the rules. What the link took begins what is owed before this desk for these bytes
--- and for the first of the calls, which are all but those by which it left. The bytes that the link gave
--- are the cause of its end
+-- each once and in their order, answered by the rules. They are those that the messages of these bytes ask for and its Takes, and
+-- then those by which it left: so each unit that it pushed is one that its messages publish. What the link took begins what is
+-- owed before this desk for these bytes and the first of these calls. The bytes that the link gave are the cause of its end, where
+-- these messages and calls had left its dialogue
 pub record Accounted (desk : Ask → Grant) (t : Terms) (limits : ℕ → StreamLimits) (histories : Histories) (a : Account) : Type 0 where
   pub x : List ℕ
   pub fed : Begins x a.link.gave
@@ -89,22 +120,47 @@ pub record Accounted (desk : Ask → Grant) (t : Terms) (limits : ℕ → Stream
   pub stand : AllStand limits histories visits
   pub own : All (λ v. v.1.0.who ≡ a.who) visits
   pub calls : List Own
-  pub first_calls : Begins calls (calls_of visits)
+  -- the call that waited as it ended
+  pub waited : Option Entry
+  pub talks : Talks (session a.who t.limits.window desk) (count_of (session a.who t.limits.window desk) x) ms calls waited
+  pub left : List Own
+  pub calls_are : calls_of visits ≡ calls ++ left
+  pub left_by : LeavesBy waited left
   pub owed : Begins a.link.took (out (session a.who t.limits.window desk) x ms calls)
-  pub cause : IsCause t.limits.max_message a.link.counts a.link.gave (length x) a.end
+  pub cause : IsCause (IsDecided a.who t.limits.window desk ms calls t.limits.max_message) a.link.counts a.link.gave (length x) a.end
+
+-- LINKS THAT WERE OUT AT A TIME: so many had come back when one did whose session has this name. By its name it came after
+-- `who - who_of t.number 0` others, and no more of them, and it, were out than the worker has link places
+abbrev pub IsBackAfter : Terms → ℕ → ℕ → Type 0
+IsBackAfter t back who = who < who_of t.number (back + t.links)
 
 -- ---- a session that is there
 
--- what was sent is what it owes before this desk for the bytes fed and its calls, or begins it
-pub record HasSent (desk : Ask → Grant) (g : Gone) : Type 0 where
+-- what was sent is what it owes before this desk for the bytes fed and its calls, or begins it, and these calls and the one that
+-- waited are those that the messages of these bytes ask for
+pub record HasSent (desk : Ask → Grant) (waited : Option Entry) (g : Gone) : Type 0 where
   pub ms : List (ℕ × Message)
   pub read : IsRead g.max (drop hand_bytes g.x) ms
+  pub talks : Talks (session g.who g.window desk) (count_of (session g.who g.window desk) g.x) ms g.calls waited
   pub owed : Begins g.sent (out (session g.who g.window desk) g.x ms g.calls)
 
--- of one that has ended that is all, and a call that waits is made when it is closed
-abbrev pub OwesBy : Option End → (Ask → Grant) → Core → Type 0
-OwesBy None desk c = StandsBefore desk c
-OwesBy (Some e) desk c = HasSent desk (gone_but_kept c)
+-- of one that has ended so that is all, and its link told the cause
+pub record HasGone (told : Option LinkTold) (counts : LinkCounts) (desk : Ask → Grant) (e : End) (waited : Option Entry) (g : Gone) : Type 0 where
+  pub sent : HasSent desk waited g
+  pub ending : IsEndedBy (IsDecided g.who g.window desk sent.ms g.calls g.max) e told counts g.x g.sent
+
+-- and a call that waits is made when it is closed
+pub record HasStopped (told : Option LinkTold) (counts : LinkCounts) (desk : Ask → Grant) (e : End) (c : Core) (visits : List Visit) : Type 0 where
+  pub waited : Option Entry
+  pub gone : HasGone told counts desk e waited (gone_but_kept c)
+  pub left : List Own
+  pub calls_are : calls_of visits ≡ c.calls ++ left
+  pub leaving : WaitsOrMade waited c.kept left
+
+-- one that lives has made these calls and no other
+abbrev pub OwesBy : Option LinkTold → LinkCounts → (Ask → Grant) → Option End → Core → List Visit → Type 0
+OwesBy told counts desk None c visits = StandsBefore desk c × (calls_of visits ≡ c.calls)
+OwesBy told counts desk (Some e) c visits = HasStopped told counts desk e c visits
 
 -- it is granted what its calls say, where it has a pass
 abbrev pub HasGrant : {Q : Type 0} → Option (ℕ × Q) → Active → List Visit → Type 0
@@ -118,12 +174,11 @@ module _ {P Q L : Type 0} (rules : P → PortRules) (root : P → Histories) (se
   pub record Lives (accounts : List Account) (s : Seated P L Q) : Type 0 where
     pub window : s.session.parts.window ≡ t.limits.window
     pub max : s.session.parts.reader.max ≡ t.limits.max_message
-    pub owes : OwesBy s.session.ended desk s.session.parts
+    pub owes : OwesBy (told s.link) (counts s.link) desk s.session.ended s.session.parts s.session.seat.visits
     pub calls : AllStand (rules port).limits (known root seen port s.session.seat) s.session.seat.visits
     pub granted : HasGrant s.session.seat.spot s.session.seat.active s.session.seat.visits
-    pub first_calls : Begins s.session.parts.calls (calls_of s.session.seat.visits)
     pub own : Owns s.session.parts.who s.session.seat.visits s.session.parts.kept
-    pub ties : TiesBy t.limits.max_message s.session.ended (told s.link) (counts s.link) s.session.parts.x s.session.input s.session.parts.sent
+    pub ties : TiesBy s.session.ended (told s.link) s.session.parts.x s.session.input s.session.parts.sent
     pub fresh : All (λ a. a.who ≢ s.session.parts.who) accounts
     pub unasked : s.session.ended ≡ None → s.session.quit ≡ false
 
@@ -132,7 +187,8 @@ module _ {P Q L : Type 0} (rules : P → PortRules) (root : P → Histories) (se
 module _ {P D Q L : Type 0} (rules : P → PortRules) (root : P → Histories) (seen : Q → List Step)
     (told : L → Option LinkTold) (counts : L → LinkCounts) (doors : D → DoorTold) (desk : Ask → Grant) where
   -- THE BOOKS: the links that the door has back are those of these accounts, each of a session of its own. Where nothing was
-  -- refused for want of memory, each link that the door gave is there or back, and no session has ended by want of memory
+  -- refused for want of memory, each link that the door gave is there or back, no more were out at a time than there are link
+  -- places, and no session has ended by want of memory. Where no history was found full, no session has ended by that
   pub record Works (t : Terms) (b : Bench P D Q L) : Type 0 where
     pub accounts : List Account
     pub back_is : (list : List Returned) → (doors b.door).back ≡ Some list → list ≡ map (λ a. a.link) accounts
@@ -141,22 +197,32 @@ module _ {P D Q L : Type 0} (rules : P → PortRules) (root : P → Histories) (
     pub apart : AllPairs (λ a c. a.who ≢ c.who) accounts
     pub lives : (key : ℕ) (s : Seated P L Q) → get b.sessions key ≡ Some s → Lives rules root seen told counts desk t b.port accounts s
     pub counted : b.refused ≡ false → slab_len b.sessions + length accounts ≡ b.had
+    pub few : b.refused ≡ false → EachAt (λ i a. IsBackAfter t i a.who) accounts
+    pub near : b.refused ≡ false → (key : ℕ) (s : Seated P L Q) → get b.sessions key ≡ Some s
+        → IsBackAfter t (length accounts) s.session.parts.who
     pub spared : b.refused ≡ false → All (λ a. a.end ≢ end.OutOfMemory) accounts
     pub unspent : b.refused ≡ false → (key : ℕ) (s : Seated P L Q) → get b.sessions key ≡ Some s
         → s.session.ended ≢ Some end.OutOfMemory
+    pub unworn : b.worn ≡ false → All (λ a. a.end ≢ end.Worn) accounts
+    pub unfilled : b.worn ≡ false → (key : ℕ) (s : Seated P L Q) → get b.sessions key ≡ Some s
+        → s.session.ended ≢ Some end.Worn
 
   -- the same of a worker
   abbrev pub HasBooks : {K : Type 0} → WorkerState P D K Q L → Type 0
   HasBooks w = Works w.terms w.bench
 
 -- WHAT IS LEFT OF THEM, where no session lives: the links that the door has back are those of these accounts, each of a session
--- of its own. Where nothing was refused for want of memory, they are as many as the door gave, and no session ended by that
+-- of its own. Where nothing was refused for want of memory, they are as many as the door gave, they came back in an order in which
+-- no more were out at a time than there are link places, and no session ended by that. Where no session found a history full, none
+-- ended by that
 pub record Settled (desk : Ask → Grant) (t : Terms) (limits : ℕ → StreamLimits) (histories : Histories)
-    (door : DoorTold) (refused : Bool) : Type 0 where
+    (door : DoorTold) (refused worn : Bool) : Type 0 where
   pub accounts : List Account
   pub back_is : (list : List Returned) → door.back ≡ Some list → list ≡ map (λ a. a.link) accounts
   pub accounted : All (Accounted desk t limits histories) accounts
   pub named : All (λ a. IsNamed t.number door.given a.who) accounts
   pub apart : AllPairs (λ a c. a.who ≢ c.who) accounts
   pub counted : refused ≡ false → length accounts ≡ door.given
+  pub few : refused ≡ false → EachAt (λ i a. IsBackAfter t i a.who) accounts
   pub spared : refused ≡ false → All (λ a. a.end ≢ end.OutOfMemory) accounts
+  pub unworn : worn ≡ false → All (λ a. a.end ≢ end.Worn) accounts

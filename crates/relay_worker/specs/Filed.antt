@@ -1,5 +1,5 @@
 -- A recorder with its file
-use Rattle.std.specs.Prelude.{◌≡◌, ℕ, List, Option, Some}
+use Rattle.std.specs.Prelude.{◌≡◌, ◌||◌, ℕ, Bool, List, Option, Some, is_some}
 use Rattle.av_unit.specs.declared.item.Item.{Item}
 use Rattle.flv_tags.specs.Text.{flv_text}
 use Rattle.stream_registry.specs.Names.{PortRules}
@@ -8,6 +8,7 @@ use Rattle.relay_outside.specs.declared.sink.Put.{Put}
 use Rattle.media_recorder.specs.declared.turn.RecTurn.{RecTurn}
 use Rattle.media_recorder.specs.declared.turn.Leaving.{Leaving}
 use Rattle.media_recorder.specs.declared.turn.Leaving.TheVariants as leaving
+use Rattle.media_recorder.specs.Joined.{joined_from}
 use Rattle.media_recorder.specs.Leaves.{Goes}
 use Rattle.media_recorder.specs.Ports.{Serves}
 use Rattle.media_recorder.specs.Says.{Says}
@@ -40,6 +41,10 @@ text_in form.Ts items = recorded_text items
 
 abbrev pub text_of : {P K Q : Type 0} → Recorder P K Q → List Item → List ℕ
 text_of r = text_in (form_of r)
+
+-- it has joined its stream, or has ended
+abbrev pub is_ready : {P K Q : Type 0} → Recorder P K Q → Bool
+is_ready r = is_some (joined_from (state_of r).seat.calls) || is_some (state_of r).end
 
 -- its file tells what was sent to it, and where it ended early, that has its cause: in the file's faults, in the answer of its
 -- Join, or in all the calls that its pass has seen

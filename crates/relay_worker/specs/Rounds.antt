@@ -16,7 +16,7 @@ use Rattle.relay_session.specs.declared.seat_answers.Leaving.{Leaving}
 use Rattle.relay_session.specs.declared.seat_answers.Leaving.TheVariants as leaving
 use Rattle.relay_session.specs.declared.turn.Turn.{Turn}
 use Rattle.relay_worker.specs.Benches.{WorkerState, is_done}
-use Rattle.relay_worker.specs.Sessions.{IsNewSession, is_moved, is_spent}
+use Rattle.relay_worker.specs.Sessions.{IsNewSession, is_moved, is_spent, is_worn}
 use Rattle.relay_worker.specs.declared.bench.Bench.{Bench}
 use Rattle.relay_worker.specs.declared.bench.Seated.{Seated}
 use Rattle.relay_worker.specs.declared.bench.Terms.{Terms}
@@ -80,7 +80,13 @@ module _ {P D Q L : Type 0} (takes : P → Seated P L Q → Turn → P → Seate
     pub turn : takes b.port s answer b'.port now
     pub there : Updates b.sessions b'.sessions key (Some now)
     pub count : slab_len b'.sessions ≡ slab_len b.sessions
-    pub same : b' ≡ record b { port = b'.port; sessions = b'.sessions; moved = b.moved || is_moved answer; refused = b.refused || is_spent answer }
+    pub same : b' ≡ record b {
+      port = b'.port;
+      sessions = b'.sessions;
+      moved = b.moved || is_moved answer;
+      refused = b.refused || is_spent answer;
+      worn = b.worn || is_worn answer;
+    }
 
   -- one that has ended does nothing
   abbrev pub TurnsBy : Option End → ℕ → Seated P L Q → Bench P D Q L → Bench P D Q L → Type 0

@@ -1,5 +1,5 @@
 -- Workers that run
-use Rattle.std.specs.Prelude.{◌≡◌, ◌<◌, ℕ, List, length, map, slice_index_or}
+use Rattle.std.specs.Prelude.{◌≡◌, ◌<◌, ℕ, false, List, length, map, slice_index_or}
 use Rattle.slab.specs.Slab.{slab_len}
 use Rattle.relay_outside.specs.Doors.{DoorTold, IsDone}
 use Rattle.stream_registry.specs.Names.{PortRules}
@@ -7,6 +7,7 @@ use Rattle.stream_registry.specs.Told.{Histories}
 use Rattle.relay_session.specs.SeatState.{GoOn}
 use Rattle.relay_worker.specs.Benches.{WorkerState}
 use Rattle.relay_worker.specs.Filed.{form_of, state_of}
+use Rattle.relay_worker.specs.declared.bench.Bench.{Bench}
 use Rattle.relay_worker.specs.declared.recorder.Form.{Form}
 use Rattle.relay_worker.specs.declared.recorder.Recorder.{Recorder}
 
@@ -34,6 +35,11 @@ pub record KeepsOn {P D K Q L : Type 0} (fits : P → ℕ → Q → Type 0) (rul
   pub port : GoesAhead fits rules root w.bench.port w'.bench.port
   pub labels : map label_of w'.recorders ≡ map label_of w.recorders
 
+-- nothing but the port has changed, and want of memory may have been found
+pub record IsReadied {P D Q L : Type 0} (b b' : Bench P D Q L) : Type 0 where
+  pub same : b' ≡ record b { port = b'.port; refused = b'.refused }
+  pub refused : b'.refused ≡ false → b.refused ≡ false
+
 -- no session lives, and the door needn't be asked again
 pub record HasRun {P D K Q L : Type 0} (doors : D → DoorTold) (w : WorkerState P D K Q L) : Type 0 where
   pub none : slab_len w.bench.sessions ≡ 0
@@ -42,3 +48,7 @@ pub record HasRun {P D K Q L : Type 0} (doors : D → DoorTold) (w : WorkerState
 -- each element of a list, as a loop over it reads it
 abbrev pub Each : {X : Type 0} → (X → Type 0) → List X → Type 0
 Each {X} P xs = (i : ℕ) (x : X) → i < length xs → x ≡ slice_index_or xs i x → P x
+
+-- each member of a list, by its place there
+abbrev pub EachAt : {X : Type 0} → (ℕ → X → Type 0) → List X → Type 0
+EachAt {X} P xs = (i : ℕ) (d : X) → i < length xs → P i (slice_index_or xs i d)

@@ -50,6 +50,25 @@ is_spent turn.Moved = false
 is_spent turn.Idle = false
 is_spent (turn.Ended e) = lacks_memory e
 
+-- an end as the history of a stream was full
+abbrev pub wears_out : End → Bool
+wears_out end.PeerClosed = false
+wears_out end.LinkFault = false
+wears_out (end.BadVersion at) = false
+wears_out (end.BadChunk cause at) = false
+wears_out (end.BadControl at) = false
+wears_out (end.BadCommand at) = false
+wears_out (end.TooManyStreams at) = false
+wears_out end.Quit = false
+wears_out end.Worn = true
+wears_out end.OutOfMemory = false
+
+-- a turn by which the session ended so
+abbrev pub is_worn : Turn → Bool
+is_worn turn.Moved = false
+is_worn turn.Idle = false
+is_worn (turn.Ended e) = wears_out e
+
 -- a session of a new link: it has its name, and was fed nothing
 pub record IsNewSession {Q : Type 0} (t : Terms) (had : ℕ) (s : SessionState Q) : Type 0 where
   pub who : s.parts.who ≡ who_of t.number had

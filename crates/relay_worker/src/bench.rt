@@ -5,20 +5,21 @@ ghost use Rattle.relay_session.specs.Places.{Asked, IsAt, IsOffered};
 ghost use Rattle.relay_session.specs.SeatState.{HasFit};
 ghost use Rattle.relay_session.specs.SessionState.{ended_by};
 ghost use Rattle.relay_worker.specs.Benches.{AreFiled, IsFiled, IsSound};
-ghost use Rattle.relay_worker.specs.Filed.{TakesTurn as FileTurn, Tallies};
+ghost use Rattle.relay_worker.specs.Filed.{TakesTurn as FileTurn, Tallies, is_ready};
 ghost use Rattle.relay_worker.specs.Rounds.{AdmitsIf, ClosesAt, HandsBack, Recorded, RecordsAt, TurnsAt, Walks, WalksAll};
 ghost use Rattle.relay_worker.specs.Rounds.{answered, asks_door, has_left, is_starved, is_written, starves};
-ghost use Rattle.relay_worker.specs.Running.{GoesAhead, label_of};
-ghost use Rattle.relay_worker.specs.Sessions.{Closes, TakesTurn, is_moved, is_spent, lacks_memory};
+ghost use Rattle.relay_worker.specs.Running.{GoesAhead, IsReadied, label_of};
+ghost use Rattle.relay_worker.specs.Sessions.{Closes, TakesTurn, is_moved, is_spent, is_worn, lacks_memory, wears_out};
 
 use crate::recorder::Recorder;
 use crate::round::Round;
 use media_recorder::{RecEnd, RecTurn};
 use relay_base::Limits;
 use relay_outside::{Door, Knock, Link, Rest, Sink};
-use relay_session::{Desk, End, Leaving, Session, Turn};
+use relay_session::{Desk, End, Leaving, Session, Turn, decided_law};
 use slab::Slab;
 use std::alloc::Global;
+use std::sync::Wait;
 use stream_registry::StreamPort;
 
 /// The number of a worker, how many links it has at most at a time, and the limits of its sessions.
@@ -49,6 +50,7 @@ impl<P: StreamPort, L: Link> Seated<P, L> {
         ensures turn { TakesTurn (Asked P.fits P.rules P.root P.seen P.count P.wants P.busies) (GoesOn P.fits P.rules P.root P.seen P.busies)
             (G.grants desk.now) L.hears L.says port.old self.old result port.new self.new }
     {
+        decided_law();
         let answer = self.session.turn(alloc, port, &mut self.link, desk);
         self.over = is_over(answer);
         answer
@@ -113,6 +115,17 @@ fn is_spent(answer: Turn) -> bool
     }
 }
 
+// Whether the session has ended as the history of a stream was full.
+fn is_worn(answer: Turn) -> bool
+    ensures { result ≡ is_worn answer }
+{
+    match answer {
+        Turn::Moved => false,
+        Turn::Idle => false,
+        Turn::Ended(end) => wears_out(end),
+    }
+}
+
 // Whether the recorder moved something.
 fn is_written(answer: RecTurn) -> bool
     ensures { result ≡ is_written answer }
@@ -146,7 +159,8 @@ fn wake<R: Rest>(rest: &mut R, moved: bool) {
 
 /// The port of a worker, its door and its sessions, each under a key. `had` is how many links it has had, and `closed` says
 /// that the door has closed. `refused` says that a link was dropped, or that a session or recorder has ended, for want of
-/// memory. `moved` and `dropped` speak of this round: something moved, or a link was dropped.
+/// memory, and `worn` that a session has ended as the history of a stream was full. `moved` and `dropped` speak of this round:
+/// something moved, or a link was dropped.
 #[derive(Drop)]
 pub struct Bench<P: StreamPort, D: Door> {
     pub port: P,
@@ -155,6 +169,7 @@ pub struct Bench<P: StreamPort, D: Door> {
     pub had: u64,
     pub closed: bool,
     pub refused: bool,
+    pub worn: bool,
     pub moved: bool,
     pub dropped: bool,
 }
@@ -225,6 +240,7 @@ impl<P: StreamPort, D: Door> Bench<P, D> {
         let answer = seated.turn(alloc, &mut self.port, desk);
         self.moved |= is_moved(answer);
         self.refused |= is_spent(answer);
+        self.worn |= is_worn(answer);
         wake(rest, is_moved(answer));
     }
 
@@ -347,6 +363,45 @@ impl<P: StreamPort, D: Door> Bench<P, D> {
         }
     }
 
+    // The recorder takes turns until it has joined its stream, or has ended.
+    fn ready<W: Wait, K: Sink>(&mut self, rt: &W, recorder: &mut Recorder<P, K>, terms: &Terms)
+        requires sound { IsSound P.fits P.rules D.told terms.now self.old }
+        requires filed { IsFiled (P.fits self.old.port) (length (P.rules self.old.port).names) recorder.old }
+        ensures sound { IsSound P.fits P.rules D.told terms.now self.new }
+        ensures ahead { GoesAhead P.fits P.rules P.root self.old.port self.new.port }
+        ensures filed { IsFiled (P.fits self.new.port) (length (P.rules self.new.port).names) recorder.new }
+        ensures label { label_of recorder.new ≡ label_of recorder.old }
+        ensures tallies { Tallies P.count K.holds K.faults recorder.old → Tallies P.count K.holds K.faults recorder.new }
+        ensures ready { is_ready recorder.new ≡ true }
+        ensures readied { IsReadied self.old self.new }
+    {
+        let _ = terms;
+        let answer = recorder.ready(rt, &mut self.port);
+        self.refused |= is_starved(answer);
+    }
+
+    // The same of each recorder, in order.
+    pub(crate) fn ready_all<W: Wait, K: Sink>(
+        &mut self,
+        rt: &W,
+        recorders: &mut [Recorder<P, K>],
+        terms: &Terms,
+    )
+        requires sound { IsSound P.fits P.rules D.told terms.now self.old }
+        requires filed { AreFiled P.fits P.rules self.old.port recorders.old }
+        ensures sound { IsSound P.fits P.rules D.told terms.now self.new }
+        ensures ahead { GoesAhead P.fits P.rules P.root self.old.port self.new.port }
+        ensures filed { AreFiled P.fits P.rules self.new.port recorders.new }
+        ensures labels { map label_of recorders.new ≡ map label_of recorders.old }
+        ensures tallies { All (Tallies P.count K.holds K.faults) recorders.old → All (Tallies P.count K.holds K.faults) recorders.new }
+        ensures ready { All (λ r. is_ready r ≡ true) recorders.new }
+        ensures readied { IsReadied self.old self.new }
+    {
+        for recorder in recorders.iter_mut() {
+            self.ready(rt, recorder, terms);
+        }
+    }
+
     // What this round did.
     pub(crate) fn round(&self, terms: &Terms) -> Round
         requires { IsSound P.fits P.rules D.told terms.now self.now }
@@ -378,6 +433,24 @@ fn lacks_memory(end: End) -> bool
         End::Quit => false,
         End::Worn => false,
         End::OutOfMemory => true,
+    }
+}
+
+// Whether a session that ended so found the history of a stream full.
+fn wears_out(end: End) -> bool
+    ensures { result ≡ wears_out end }
+{
+    match end {
+        End::PeerClosed => false,
+        End::LinkFault => false,
+        End::BadVersion { .. } => false,
+        End::BadChunk { .. } => false,
+        End::BadControl { .. } => false,
+        End::BadCommand { .. } => false,
+        End::TooManyStreams { .. } => false,
+        End::Quit => false,
+        End::Worn => true,
+        End::OutOfMemory => false,
     }
 }
 

@@ -10,7 +10,7 @@ mod running;
 mod worker;
 
 pub use bench::{Bench, Seated, Terms};
-pub use laws::settled_law;
+pub use laws::{published_law, settled_law};
 pub use recorder::{Form, Parted, Recorder};
 pub use round::Round;
 pub use running::run_all;

@@ -1,15 +1,19 @@
 //! A recorder with its file.
-ghost use Rattle.std.specs.Prelude.{◌≡◌, ◌≢◌, ◌<◌, ◌++◌, length, Some};
+ghost use Rattle.std.specs.Prelude.{◌≡◌, ◌≢◌, ◌<◌, ◌++◌, length, true, Some};
 ghost use Rattle.turn_gate.specs.Histories.{Begins};
+ghost use Rattle.media_recorder.specs.Joined.{joined_from};
 ghost use Rattle.media_recorder.specs.Ports.{FitsIf, Serves};
 ghost use Rattle.media_recorder.specs.Says.{Says};
 ghost use Rattle.media_recorder.specs.Seats.{StandIf};
 ghost use Rattle.media_recorder.specs.Taken.{taken};
 ghost use Rattle.media_recorder.specs.Turns.{Turns};
-ghost use Rattle.relay_worker.specs.Filed.{Leaves, Tallies, form_of, sink_of, state_of, text_of};
+ghost use Rattle.relay_worker.specs.Benches.{IsFiled};
+ghost use Rattle.relay_worker.specs.Filed.{Leaves, Tallies, form_of, is_ready, sink_of, state_of, text_of};
+ghost use Rattle.relay_worker.specs.Running.{GoesAhead, label_of};
 
 use media_recorder::{FlvRecorder, Leaving, RecEnd, RecTurn, TsRecorder};
 use relay_outside::Sink;
+use std::sync::Wait;
 use stream_registry::StreamPort;
 
 /// How a recording is written.
@@ -49,6 +53,16 @@ impl<P: StreamPort, K: Sink> Recorder<P, K> {
         match self {
             Recorder::Flv(recorder, _) => recorder.place(),
             Recorder::Ts(recorder, _) => recorder.place(),
+        }
+    }
+
+    /// The number of the item from which it joined its stream, if it has joined.
+    pub fn joined_from(&self) -> Option<u64>
+        ensures { result ≡ joined_from (state_of self.now).seat.calls }
+    {
+        match self {
+            Recorder::Flv(recorder, _) => recorder.joined_from(),
+            Recorder::Ts(recorder, _) => recorder.joined_from(),
         }
     }
 
@@ -102,6 +116,28 @@ impl<P: StreamPort, K: Sink> Recorder<P, K> {
             Recorder::Flv(recorder, sink) => recorder.turn(port, sink),
             Recorder::Ts(recorder, sink) => recorder.turn(port, sink),
         }
+    }
+
+    /// Turns until it has joined its stream, or has ended. The answer of its last turn, or Moved where it took none.
+    pub fn ready<W: Wait>(&mut self, rt: &W, port: &mut P) -> RecTurn
+        requires place { (state_of self.old).seat.place < length (P.rules port.old).names }
+        requires fits { FitsIf (P.fits port.old (state_of self.old).seat.place) (state_of self.old).seat.pass }
+        ensures filed { IsFiled (P.fits port.new) (length (P.rules port.new).names) self.new }
+        ensures label { label_of self.new ≡ label_of self.old }
+        ensures ahead { GoesAhead P.fits P.rules P.root port.old port.new }
+        ensures tallies { Tallies P.count K.holds K.faults self.old → Tallies P.count K.holds K.faults self.new }
+        ensures ready { is_ready self.new ≡ true }
+    {
+        for _ in rt.forever() {
+            if self.joined_from().is_some() {
+                return RecTurn::Moved;
+            }
+            let answer = self.turn(port);
+            if let RecTurn::Ended(_) = answer {
+                return answer;
+            }
+        }
+        unreachable!()
     }
 
     /// Makes its Leave, if it has joined, and detaches its pass. Where the port is busy or has no memory for the call, the

@@ -1,5 +1,5 @@
 //! A worker.
-ghost use Rattle.std.specs.Prelude.{◌≡◌, ◌≤◌, ◌<◌, ◌^◌, [], ◌∷◌, ◌++◌, ℕ, List, All, length, false, IfOk, OnOk, OnErr};
+ghost use Rattle.std.specs.Prelude.{◌≡◌, ◌≤◌, ◌<◌, ◌^◌, [], ◌∷◌, ◌++◌, ℕ, List, All, length, true, false, IfOk, OnOk, OnErr};
 ghost use Rattle.command_dialog.specs.declared.types.Ask.{Ask};
 ghost use Rattle.command_dialog.specs.declared.types.Grant.{Grant};
 ghost use Rattle.slab.specs.Slab.{slab_len};
@@ -11,9 +11,9 @@ ghost use Rattle.relay_session.specs.Onward.{GoesOn};
 ghost use Rattle.relay_session.specs.Places.{Asked, IsOffered};
 ghost use Rattle.relay_worker.specs.Benches.{AreFiled, IsFiled, IsSound};
 ghost use Rattle.relay_worker.specs.Books.{HasBooks, Settled};
-ghost use Rattle.relay_worker.specs.Filed.{TakesTurn as FileTurn, Tallies};
+ghost use Rattle.relay_worker.specs.Filed.{TakesTurn as FileTurn, Tallies, is_ready};
 ghost use Rattle.relay_worker.specs.Rounds.{Rounds};
-ghost use Rattle.relay_worker.specs.Running.{HasRun, KeepsOn};
+ghost use Rattle.relay_worker.specs.Running.{HasRun, IsReadied, KeepsOn};
 ghost use Rattle.relay_worker.specs.Sessions.{Closes, TakesTurn};
 
 use crate::bench::{Bench, Terms};
@@ -22,7 +22,7 @@ use crate::round::Round;
 use av_unit::OutOfMemory;
 use relay_base::Limits;
 use relay_outside::{Door, Link, Rest, Sink};
-use relay_session::Desk;
+use relay_session::{Desk, decided_law};
 use slab::Slab;
 use std::alloc::Global;
 use std::marker::Model;
@@ -51,13 +51,14 @@ impl<P: StreamPort, D: Door, R: Rest, K: Sink> Model for Worker<P, D, R, K> {
 }
 
 /// What is left of a worker: its port, its door, its recorders, and whether a link was dropped, or a session or recorder has
-/// ended, for want of memory.
+/// ended, for want of memory. `worn` says that a session has ended as the history of a stream was full.
 #[derive(Drop)]
 pub struct Finished<P: StreamPort, D: Door, K: Sink> {
     pub port: P,
     pub door: D,
     pub recorders: Vec<Recorder<P, K>>,
     pub refused: bool,
+    pub worn: bool,
 }
 
 impl<P: StreamPort, D: Door, R: Rest, K: Sink> Worker<P, D, R, K> {
@@ -79,7 +80,7 @@ impl<P: StreamPort, D: Door, R: Rest, K: Sink> Worker<P, D, R, K> {
         ensures port { IfOk result (λ w. w.bench.port ≡ port) }
         ensures door { IfOk result (λ w. w.bench.door ≡ door) }
         ensures none { IfOk result (λ w. (slab_len w.bench.sessions ≡ 0) × (w.recorders ≡ [])) }
-        ensures whole { IfOk result (λ w. w.bench.refused ≡ false) }
+        ensures whole { IfOk result (λ w. (w.bench.refused ≡ false) × (w.bench.worn ≡ false)) }
         ensures books { IfOk result (λ w. (desk : Ask → Grant) → HasBooks P.rules P.root P.seen D.Link.told D.Link.counts D.told desk w) }
     {
         let Ok(sessions) = Slab::with_capacity(alloc, links as usize) else {
@@ -99,6 +100,7 @@ impl<P: StreamPort, D: Door, R: Rest, K: Sink> Worker<P, D, R, K> {
                 had: 0,
                 closed: false,
                 refused: false,
+                worn: false,
                 moved: false,
                 dropped: false,
             },
@@ -129,6 +131,20 @@ impl<P: StreamPort, D: Door, R: Rest, K: Sink> Worker<P, D, R, K> {
         Ok(())
     }
 
+    /// Each recorder takes turns until it has joined its stream, or has ended: what is published from then on it takes from the
+    /// first item on.
+    pub fn ready<W: Wait>(&mut self, rt: &W)
+        ensures keeps { KeepsOn P.fits P.rules P.root self.old self.new }
+        ensures ready { All (λ r. is_ready r ≡ true) self.new.recorders }
+        ensures readied { IsReadied self.old.bench self.new.bench }
+        ensures tallies { All (Tallies P.count K.holds K.faults) self.old.recorders → All (Tallies P.count K.holds K.faults) self.new.recorders }
+        ensures books { (desk : Ask → Grant) → HasBooks P.rules P.root P.seen D.Link.told D.Link.counts D.told desk self.old
+            → HasBooks P.rules P.root P.seen D.Link.told D.Link.counts D.told desk self.new }
+    {
+        self.bench
+            .ready_all(rt, self.recorders.as_mut_slice(), &self.terms);
+    }
+
     // Waits until there is something to do.
     fn pause(&mut self)
         ensures { self.new ≡ self.old }
@@ -151,6 +167,7 @@ impl<P: StreamPort, D: Door, R: Rest, K: Sink> Worker<P, D, R, K> {
             → HasBooks P.rules P.root P.seen D.Link.told D.Link.counts D.told (G.grants desk.now) self.new }
     {
         link_law::<D::Link>();
+        decided_law();
         self.bench.moved = false;
         self.bench.dropped = false;
         self.bench.admit(self.alloc, &self.terms);
@@ -191,9 +208,9 @@ impl<P: StreamPort, D: Door, R: Rest, K: Sink> Worker<P, D, R, K> {
         ensures door { result.door ≡ self.bench.door }
         ensures recorders { result.recorders.items ≡ self.recorders }
         ensures filed { AreFiled P.fits P.rules result.port result.recorders.items }
-        ensures refused { result.refused ≡ self.bench.refused }
+        ensures refused { (result.refused ≡ self.bench.refused) × (result.worn ≡ self.bench.worn) }
         ensures books { (desk : Ask → Grant) → HasBooks P.rules P.root P.seen D.Link.told D.Link.counts D.told desk self
-            → Settled desk self.terms (P.rules result.port).limits (P.root result.port) (D.told result.door) result.refused }
+            → Settled desk self.terms (P.rules result.port).limits (P.root result.port) (D.told result.door) result.refused result.worn }
     {
         let Worker {
             alloc: _,
@@ -210,6 +227,7 @@ impl<P: StreamPort, D: Door, R: Rest, K: Sink> Worker<P, D, R, K> {
             had: _,
             closed: _,
             refused,
+            worn,
             moved: _,
             dropped: _,
         } = bench;
@@ -219,6 +237,7 @@ impl<P: StreamPort, D: Door, R: Rest, K: Sink> Worker<P, D, R, K> {
             door,
             recorders,
             refused,
+            worn,
         }
     }
 }

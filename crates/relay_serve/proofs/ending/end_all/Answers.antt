@@ -9,7 +9,7 @@ use Rattle.relay_serve.specs.Recorded.{IsRecorded}
 use Rattle.relay_serve.specs.Recordings.{recordings_of, recordings_upto}
 use Rattle.relay_serve.specs.Settling.{IsBalanced, IsLeft, IsShut, TellsMore}
 use Rattle.relay_serve.proofs.Counted.{later_then}
-use Rattle.relay_serve.proofs.Numbered.{each_pop}
+use Rattle.relay_worker.proofs.Numbered.{each_pop}
 use Rattle.relay_serve.proofs.Recording.{recorded_then}
 use Rattle.relay_serve.proofs.Ruled.{popped}
 use Rattle.relay_serve.proofs.Settling.{and_true, left_as, range_more, recordings_more, shut_is}
@@ -48,8 +48,9 @@ loop-left-preserved g c =
       grown = later_then first h k i.grown e.grown;
       faults = e.faults ∙ i.faults;
       asked = e.asked ∙ i.asked;
+      named = e.named ∙ i.named;
       fewer = omega (arith, shorter, i.fewer);
-      rest = λ a. (All-pop (λ x. IsBalanced config streams first x.number (g.H.Door.Door.told x.door)) xs ys (Some x) c.in-Some.ensures.items (i.rest a)).0;
+      rest = λ worn a. (All-pop (λ x. IsBalanced config streams first worn x.number (g.H.Door.Door.told x.door)) xs ys (Some x) c.in-Some.ensures.items (i.rest worn a)).0;
       kept = λ w.
           let both = and_true c.loop-left.whole c.end_left-whole.result w in
           let R = IsRecorded streams first k (Contains c.end_left-whole.new.full.items) config.places in
@@ -60,17 +61,17 @@ loop-left-preserved g c =
           (recorded_then (shared_rules c.args.port.now) (shared_rules c.loop-left.port) first h k (Contains c.loop-left.full.items) (Contains c.end_left-whole.new.full.items) config.places (recordings_upto config n) (recordings_of config x.number)
           (g.H.House.told c.args.house.now).kept (g.H.House.told c.loop-left.house).kept (g.H.House.told c.end_left-whole.new.house).kept i.rules i.grown e.grown
           e.noted (i.kept both.0) (e.kept both.1));
-      shut = λ w a.
+      shut = λ w worn a.
           let both = and_true c.loop-left.whole c.end_left-whole.result w in
-          let R = IsShut config streams first in
+          let R = IsShut config streams first worn in
           let before = (g.H.House.told c.args.house.now).shut in
           let mid = (g.H.House.told c.loop-left.house).shut in
           let now = (g.H.House.told c.end_left-whole.new.house).shut in
-          let b = (All-pop (λ x. IsBalanced config streams first x.number (g.H.Door.Door.told x.door)) xs ys (Some x) c.in-Some.ensures.items (i.rest a)).1 in
+          let b = (All-pop (λ x. IsBalanced config streams first worn x.number (g.H.Door.Door.told x.door)) xs ys (Some x) c.in-Some.ensures.items (i.rest worn a)).1 in
           let last = one_more R n mid now (shut_door x.number (g.H.Door.Door.told x.door)) (e.shut both.1)
-          (shut_is config streams first n x.number (g.H.Door.Door.told x.door) number b) in
+          (shut_is config streams first worn n x.number (g.H.Door.Door.told x.door) number b) in
           more_same R (range_with_len 0 n ++ n ∷ []) _ before before now (range_more n ∙ ap (range_with_len 0) one) refl
-          (more_then R (range_with_len 0 n) (n ∷ []) before mid now (i.shut both.0 a) last);
+          (more_then R (range_with_len 0 n) (n ∷ []) before mid now (i.shut both.0 worn a) last);
     }
 
 pub returns-clause-kept : goal.returns-clause-kept
@@ -81,8 +82,8 @@ returns-clause-kept g c = λ w.
     c.args.config.now.places) (recordings_upto c.args.config.now m) (g.H.House.told c.args.house.now).kept (g.H.House.told c.loop-left.house).kept) all (c.loop-left.invariant.kept w)
 
 pub returns-clause-shut : goal.returns-clause-shut
-returns-clause-shut g c = λ w a.
+returns-clause-shut g c = λ w worn a.
     let zero : length c.loop-left.list.items ≡ 0 = omega (arith, c.in_default.ensures.cases.0, c.loop-left.list.ok.0) in
     let all : length c.args.list.items - length c.loop-left.list.items ≡ c.args.list.len = omega (arith, zero, c.args.list.ok.0) in
-    subst (λ (m : ℕ). TellsMore (IsShut c.args.config.now (shared_rules c.args.port.now).limits (told_at c.args.port.now.roots)) (range_with_len 0 m)
-    (g.H.House.told c.args.house.now).shut (g.H.House.told c.loop-left.house).shut) all (c.loop-left.invariant.shut w a)
+    subst (λ (m : ℕ). TellsMore (IsShut c.args.config.now (shared_rules c.args.port.now).limits (told_at c.args.port.now.roots) worn) (range_with_len 0 m)
+    (g.H.House.told c.args.house.now).shut (g.H.House.told c.loop-left.house).shut) all (c.loop-left.invariant.shut w worn a)

@@ -1,12 +1,13 @@
-use Rattle.std.proofs.Common.{◌≡◌, ◌≤◌, ◌+◌, ◌-◌, true, length}
+use Rattle.std.proofs.Common.{◌≡◌, ◌≤◌, ◌+◌, ◌-◌, Bool, true, length}
 use Rattle.std.specs.List.{range_with_len}
 use Rattle.std.specs.Prelude.{All, Contains}
 use Rattle.stream_registry.specs.Gates.{told_at}
 use Rattle.stream_registry.specs.Roots.{Later}
 use Rattle.stream_registry.specs.SharedState.{shared_rules}
+use Rattle.relay_worker.specs.Running.{EachAt}
 use Rattle.relay_serve.specs.Recorded.{IsRecorded}
 use Rattle.relay_serve.specs.Recordings.{recordings_upto}
-use Rattle.relay_serve.specs.Settling.{EachAt, IsBalanced, IsLeft, IsShut, TellsMore}
+use Rattle.relay_serve.specs.Settling.{IsBalanced, IsLeft, IsShut, TellsMore}
 use Rattle.relay_serve.proofs.ending.end_all.Given as goal
 
 abbrev pub invariant-loop-left : goal.invariant-loop-left
@@ -17,14 +18,15 @@ invariant-loop-left g l = record {
   grown : Later (told_at l.fn.port.roots) (told_at l.port.roots);
   faults : (g.H.House.told l.house).faults ≡ (g.H.House.told l.fn.house).faults;
   asked : g.H.House.asked l.house ≡ g.H.House.asked l.fn.house;
+  named : g.H.House.named l.house ≡ g.H.House.named l.fn.house;
   fewer : length l.list.items ≤ length l.fn.list.items;
-  rest : All (λ x. IsBalanced l.config (shared_rules l.fn.port).limits (told_at l.fn.port.roots) x.number (g.H.Door.Door.told x.door)) l.fn.list.items
-      → All (λ x. IsBalanced l.config (shared_rules l.fn.port).limits (told_at l.fn.port.roots) x.number (g.H.Door.Door.told x.door)) l.list.items;
+  rest : (worn : Bool) → All (λ x. IsBalanced l.config (shared_rules l.fn.port).limits (told_at l.fn.port.roots) worn x.number (g.H.Door.Door.told x.door)) l.fn.list.items
+      → All (λ x. IsBalanced l.config (shared_rules l.fn.port).limits (told_at l.fn.port.roots) worn x.number (g.H.Door.Door.told x.door)) l.list.items;
   kept : l.whole ≡ true → TellsMore (IsRecorded (shared_rules l.fn.port).limits (told_at l.fn.port.roots) (told_at l.port.roots) (Contains l.full.items) l.config.places)
       (recordings_upto l.config (length l.fn.list.items - length l.list.items)) (g.H.House.told l.fn.house).kept (g.H.House.told l.house).kept;
-  shut : l.whole ≡ true
-      → All (λ x. IsBalanced l.config (shared_rules l.fn.port).limits (told_at l.fn.port.roots) x.number (g.H.Door.Door.told x.door)) l.fn.list.items
-      → TellsMore (IsShut l.config (shared_rules l.fn.port).limits (told_at l.fn.port.roots)) (range_with_len 0 (length l.fn.list.items - length l.list.items))
+  shut : l.whole ≡ true → (worn : Bool)
+      → All (λ x. IsBalanced l.config (shared_rules l.fn.port).limits (told_at l.fn.port.roots) worn x.number (g.H.Door.Door.told x.door)) l.fn.list.items
+      → TellsMore (IsShut l.config (shared_rules l.fn.port).limits (told_at l.fn.port.roots) worn) (range_with_len 0 (length l.fn.list.items - length l.list.items))
       (g.H.House.told l.fn.house).shut (g.H.House.told l.house).shut;
 }
 

@@ -17,6 +17,7 @@ invariant-loop-recorder g l = record {
   grown : Later (told_at l.fn.port.roots) (told_at l.port.roots);
   faults : (g.H.House.told l.house).faults ≡ (g.H.House.told l.fn.house).faults;
   asked : g.H.House.asked l.house ≡ g.H.House.asked l.fn.house;
+  named : g.H.House.named l.house ≡ g.H.House.named l.fn.house;
   shut : (g.H.House.told l.house).shut ≡ (g.H.House.told l.fn.house).shut;
   noted : (q : ℕ) → Contains l.fn.full.items q → Contains l.full.items q;
   done : List Label;

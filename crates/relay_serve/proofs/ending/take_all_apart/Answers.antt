@@ -1,14 +1,14 @@
-use Rattle.std.proofs.Common.{◌≡◌, ◌+◌, ap, refl, subst, ◌∙◌, sym, Some, arith, length}
+use Rattle.std.proofs.Common.{◌≡◌, ◌+◌, ◌||◌, false, ap, refl, subst, ◌∙◌, sym, Some, arith, length}
 use Rattle.std.proofs.lemmas.List.Elements.{All-nil, All-pop, All-push, All-same, All-weaker}
 use Rattle.std.specs.Prelude.{All}
-use Rattle.relay_worker.specs.Running.{HasRun}
+use Rattle.relay_worker.specs.Running.{EachAt, HasRun}
 use Rattle.stream_registry.specs.SharedState.{shared_rules}
 use Rattle.stream_registry.specs.Gates.{told_at}
-use Rattle.relay_serve.specs.Settling.{EachAt, IsBalanced, IsLeft, IsServing}
+use Rattle.relay_serve.specs.Settling.{IsBalanced, IsLeft, IsServing}
 use Rattle.relay_serve.specs.Starts.{HasRules}
 use Rattle.relay_serve.proofs.Counted.{later_same, later_then}
-use Rattle.relay_serve.proofs.Numbered.{each_none, each_pop, each_push}
-use Rattle.relay_serve.proofs.Settling.{balanced_as, balanced_later, left_as, or_false}
+use Rattle.relay_worker.proofs.Numbered.{each_none, each_pop, each_push}
+use Rattle.relay_serve.proofs.Settling.{balanced_as, balanced_later, balanced_worn, left_as, or_false, or_false_first, or_false_last}
 use Rattle.relay_serve.proofs.Ruled.{popped}
 use Rattle.relay_serve.proofs.ending.take_all_apart.Goals as goal
 
@@ -57,12 +57,16 @@ loop-worker-preserved g c =
           (g.D.Door.told c.take_apart-left.result.0.door) c.take_apart-left.result.0.recorders.items i.rules (sym e.number) e.left));
       balanced = λ r.
           let both = or_false c.loop-worker.refused c.take_apart-left.result.1 r in
-          All-same (λ x. IsBalanced c.args.config.now streams k x.number (g.D.Door.told x.door)) _ _ pushed
-          (All-push (λ x. IsBalanced c.args.config.now streams k x.number (g.D.Door.told x.door)) c.loop-worker.list.items c.take_apart-left.result.0
-          (All-weaker (λ x. IsBalanced c.args.config.now streams h x.number (g.D.Door.told x.door)) (λ x. IsBalanced c.args.config.now streams k x.number (g.D.Door.told x.door))
-          (λ x b. balanced_later c.args.config.now streams h k e.grown x.number (g.D.Door.told x.door) b) c.loop-worker.list.items (i.balanced both.0))
-          (balanced_as c.args.config.now (shared_rules c.loop-worker.first) (shared_rules c.args.first.now) k c.take_apart-left.result.0.number _
-          (g.D.Door.told c.take_apart-left.result.0.door) i.rules (sym e.number) (e.balanced both.1)));
+          let old = c.loop-worker.worn in
+          let one = c.take_apart-left.result.2 in
+          All-same (λ x. IsBalanced c.args.config.now streams k (old || one) x.number (g.D.Door.told x.door)) _ _ pushed
+          (All-push (λ x. IsBalanced c.args.config.now streams k (old || one) x.number (g.D.Door.told x.door)) c.loop-worker.list.items c.take_apart-left.result.0
+          (All-weaker (λ x. IsBalanced c.args.config.now streams h old x.number (g.D.Door.told x.door)) (λ x. IsBalanced c.args.config.now streams k (old || one) x.number (g.D.Door.told x.door))
+          (λ x b. balanced_worn c.args.config.now streams k old (old || one) (or_false_first old one) x.number (g.D.Door.told x.door)
+          (balanced_later c.args.config.now streams h k e.grown old x.number (g.D.Door.told x.door) b)) c.loop-worker.list.items (i.balanced both.0))
+          (balanced_worn c.args.config.now streams k one (old || one) (or_false_last old one) c.take_apart-left.result.0.number (g.D.Door.told c.take_apart-left.result.0.door)
+          (balanced_as c.args.config.now (shared_rules c.loop-worker.first) (shared_rules c.args.first.now) k one c.take_apart-left.result.0.number _
+          (g.D.Door.told c.take_apart-left.result.0.door) i.rules (sym e.number) (e.balanced both.1))));
     }
 
 pub returns-then-is_err-clause-grown : goal.returns-then-is_err-clause-grown
@@ -86,8 +90,8 @@ loop-worker-init g c =
           (λ l. All (λ x. IsLeft c.args.config.now g.K.Sink.holds g.K.Sink.faults (shared_rules c.args.first.now) x.number (g.D.Door.told x.door) x.recorders.items) l)
           none (All-nil (λ x. IsLeft c.args.config.now g.K.Sink.holds g.K.Sink.faults (shared_rules c.args.first.now) x.number (g.D.Door.told x.door) x.recorders.items));
       balanced = λ r. subst
-          (λ l. All (λ x. IsBalanced c.args.config.now (shared_rules c.args.first.now).limits (told_at c.args.first.now.roots) x.number (g.D.Door.told x.door)) l)
-          none (All-nil (λ x. IsBalanced c.args.config.now (shared_rules c.args.first.now).limits (told_at c.args.first.now.roots) x.number (g.D.Door.told x.door)));
+          (λ l. All (λ x. IsBalanced c.args.config.now (shared_rules c.args.first.now).limits (told_at c.args.first.now.roots) false x.number (g.D.Door.told x.door)) l)
+          none (All-nil (λ x. IsBalanced c.args.config.now (shared_rules c.args.first.now).limits (told_at c.args.first.now.roots) false x.number (g.D.Door.told x.door)));
     }
 
 pub returns-clause-numbered : goal.returns-clause-numbered

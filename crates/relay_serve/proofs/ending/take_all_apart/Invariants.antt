@@ -1,10 +1,10 @@
 use Rattle.std.proofs.Common.{◌≡◌, ◌≤◌, ◌+◌, false, length}
 use Rattle.std.specs.Prelude.{All}
-use Rattle.relay_worker.specs.Running.{HasRun}
+use Rattle.relay_worker.specs.Running.{EachAt, HasRun}
 use Rattle.stream_registry.specs.Gates.{told_at}
 use Rattle.stream_registry.specs.Roots.{Later}
 use Rattle.stream_registry.specs.SharedState.{shared_rules}
-use Rattle.relay_serve.specs.Settling.{EachAt, IsBalanced, IsLeft, IsServing}
+use Rattle.relay_serve.specs.Settling.{IsBalanced, IsLeft, IsServing}
 use Rattle.relay_serve.specs.Starts.{HasRules}
 use Rattle.relay_serve.proofs.ending.take_all_apart.Given as goal
 
@@ -20,7 +20,7 @@ invariant-loop-worker g l = record {
   numbered : EachAt (λ i x. x.number + i + 1 ≡ length l.fn.workers.items) l.list.items;
   left : All (λ x. IsLeft l.config g.K.Sink.holds g.K.Sink.faults (shared_rules l.fn.first) x.number (g.D.Door.told x.door) x.recorders.items) l.list.items;
   balanced : l.refused ≡ false
-      → All (λ x. IsBalanced l.config (shared_rules l.fn.first).limits (told_at l.first.roots) x.number (g.D.Door.told x.door)) l.list.items;
+      → All (λ x. IsBalanced l.config (shared_rules l.fn.first).limits (told_at l.first.roots) l.worn x.number (g.D.Door.told x.door)) l.list.items;
 }
 
 abbrev pub decreases-loop-worker : goal.decreases-loop-worker

@@ -27,5 +27,5 @@ returns-clause-balanced g c = λ r.
     let same : HasRules (shared_rules c.args.first.now) c.finish-finished.result.port = search rules in
     let s = c.requires.serving in
     balanced_from c.args.config.now (shared_rules c.args.first.now).limits (told_at c.finish-finished.result.port.roots) (told_at c.gather.new.self.roots)
-    (shared_rules c.finish-finished.result.port).limits c.args.worker.terms c.args.number (g.D.Door.told c.finish-finished.result.door) c.finish-finished.result.refused
-    (c.finish-finished.ensures.books _ s.books) r (ap (λ (q : PortRules). q.limits) same) c.gather.ensures.later s.number_is s.limited
+    (shared_rules c.finish-finished.result.port).limits c.args.worker.terms c.args.number (g.D.Door.told c.finish-finished.result.door) c.finish-finished.result.refused c.finish-finished.result.worn
+    (c.finish-finished.ensures.books _ s.books) r (ap (λ (q : PortRules). q.limits) same) c.gather.ensures.later s.number_is s.limited s.links_are

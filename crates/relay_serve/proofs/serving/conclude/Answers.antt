@@ -1,6 +1,6 @@
 use Rattle.std.proofs.Common.{rules, ℕ, List, Option, ◌≡◌, ◌∙◌, refl, sym, ap, subst, arith, length}
 use Rattle.std.specs.List.{range_with_len}
-use Rattle.std.specs.Prelude.{All, Contains}
+use Rattle.std.specs.Prelude.{All, Contains, slice_get}
 use Rattle.relay_outside.specs.Houses.{Asked}
 use Rattle.stream_registry.specs.Names.{PortRules}
 use Rattle.stream_registry.specs.Gates.{told_at}
@@ -13,7 +13,7 @@ use Rattle.relay_serve.specs.Recordings.{recordings_upto}
 use Rattle.relay_serve.specs.Settling.{AsksFor, IsBalanced, IsLeft, IsShut, TellsMore}
 use Rattle.relay_serve.proofs.Counted.{later_same, later_then}
 use Rattle.relay_serve.proofs.Recording.{recorded_later}
-use Rattle.relay_serve.proofs.Settling.{not_true}
+use Rattle.relay_serve.proofs.Settling.{not_true, told_or}
 use Rattle.relay_serve.proofs.Telling.{more_same, more_weaker}
 use Rattle.relay_serve.proofs.serving.conclude.Goals as goal
 
@@ -26,7 +26,7 @@ end_all-whole-requires-clause-left g c κs within =
     (sym c.take_all_apart.ensures.rules) c.in-Ok.ensures.left
 
 pub returns-in-Ok-put_all : goal.returns-in-Ok-put_all
-returns-in-Ok-put_all g c = λ before_asked all.
+returns-in-Ok-put_all g c = λ before_asked all before_named names.
     let config = c.args.config.now in
     let streams = (shared_rules c.args.port.now).limits in
     let joined = told_at c.take_all_apart.new.first.roots in
@@ -38,17 +38,18 @@ returns-in-Ok-put_all g c = λ before_asked all.
     let same : shared_rules c.take_all_apart.new.first ≡ shared_rules c.args.port.now = c.take_all_apart.ensures.rules in
     let count : c.in-Ok.left.list.len ≡ config.workers = c.in-Ok.ensures.each ∙ c.requires.each in
     let whole = not_true c.in-Ok.left.refused c.if-not-left.true in
-    let balanced = subst (λ (q : PortRules). All (λ x. IsBalanced config q.limits joined x.number (g.H.Door.Door.told x.door)) c.in-Ok.left.list.items)
+    let worn = c.in-Ok.left.worn in
+    let balanced = subst (λ (q : PortRules). All (λ x. IsBalanced config q.limits joined worn x.number (g.H.Door.Door.told x.door)) c.in-Ok.left.list.items)
     (sym same) (c.in-Ok.ensures.balanced whole) in
-    let shut = subst (λ (q : PortRules). TellsMore (IsShut config q.limits joined) (range_with_len 0 c.in-Ok.left.list.len) before.shut now.shut) same
-    (c.end_all-whole.ensures.shut c.if-whole.true balanced) in
+    let shut = subst (λ (q : PortRules). TellsMore (IsShut config q.limits joined worn) (range_with_len 0 c.in-Ok.left.list.len) before.shut now.shut) same
+    (c.end_all-whole.ensures.shut c.if-whole.true worn balanced) in
     let full = Contains c.end_all-whole.new.full.items in
     let kept = subst (λ (q : PortRules). TellsMore (IsRecorded q.limits joined h full config.places) (recordings_upto config c.in-Ok.left.list.len) before.kept now.kept) same
     (c.end_all-whole.ensures.kept c.if-whole.true) in
     let each : length c.in-Ok-count_all.counts.items ≡ length config.places = search rules in
     let slice : c.as_slice.result.now ≡ c.end_all-whole.new.full.items = search rules in
-    let reports : Reports config attempts (seen (g.K.Sink.holds c.args.out.now) (g.K.Sink.faults c.args.out.now) before before_asked)
-    (seen (g.K.Sink.holds c.put_all.new.out) (g.K.Sink.faults c.put_all.new.out) now (g.H.House.asked c.end_all-whole.new.house)) = record {
+    let reports : Reports config attempts (seen (g.K.Sink.holds c.args.out.now) (g.K.Sink.faults c.args.out.now) before before_asked before_named)
+    (seen (g.K.Sink.holds c.put_all.new.out) (g.K.Sink.faults c.put_all.new.out) now (g.H.House.asked c.end_all-whole.new.house) (g.H.House.named c.end_all-whole.new.house)) = record {
       counts = c.in-Ok-count_all.counts.items;
       each = each;
       written = search rules;
@@ -58,7 +59,13 @@ returns-in-Ok-put_all g c = λ before_asked all.
       asked = subst (λ (o : Option (List Asked)). TellsMore (AsksFor config) (range_with_len 0 config.workers) before_asked o) (sym c.end_all-whole.ensures.asked) all;
       joined = joined;
       later = later_then joined h k c.end_all-whole.ensures.grown c.count_all.ensures.grown;
-      shut = more_same (IsShut config streams joined) (range_with_len 0 c.in-Ok.left.list.len) (range_with_len 0 config.workers) before.shut before.shut now.shut
+      named = c.end_all-whole.ensures.named ∙ names;
+      worn = worn;
+      full = λ w.
+          let told = c.has_worn.ensures (told_or c.has_worn.result worn c.if-agreed.true w) in
+          let list : c.as_slice-3.result.now ≡ c.in-Ok-count_all.counts.items = search rules in
+          (told.0, ap (λ l. slice_get l told.0) (sym list) ∙ told.1);
+      shut = more_same (IsShut config streams joined worn) (range_with_len 0 c.in-Ok.left.list.len) (range_with_len 0 config.workers) before.shut before.shut now.shut
           (ap (range_with_len 0) count) refl shut;
       kept = more_weaker (IsRecorded streams joined h full config.places) (IsRecorded streams joined k (IsWorn c.in-Ok-count_all.counts.items) config.places)
           (recorded_later streams joined joined h k (later_same joined) c.count_all.ensures.grown full (IsWorn c.in-Ok-count_all.counts.items) config.places

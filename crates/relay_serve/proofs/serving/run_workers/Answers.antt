@@ -4,13 +4,13 @@ use Rattle.command_dialog.specs.declared.types.Ask.{Ask}
 use Rattle.command_dialog.specs.declared.types.Grant.{Grant}
 use Rattle.relay_worker.specs.Books.{HasBooks}
 use Rattle.relay_worker.specs.declared.bench.Terms.{Terms}
-use Rattle.relay_serve.specs.Settling.{EachAt, IsServing}
+use Rattle.relay_serve.specs.Settling.{IsServing}
 use Rattle.stream_registry.specs.Gates.{told, told_at}
 use denote.Exit.{yes}
 use denote.Param.Send.{arg_send, param_send}
 use Rattle.stream_registry.specs.Names.{PortRules}
 use Rattle.stream_registry.specs.SharedState.{shared_rules}
-use Rattle.relay_worker.specs.Running.{HasRun}
+use Rattle.relay_worker.specs.Running.{EachAt, HasRun}
 use Rattle.relay_serve.specs.Starts.{HasRules}
 use Rattle.relay_session.specs.Grants.{granted_from}
 use Rattle.relay_session.specs.Places.{IsGrantThere}
@@ -65,6 +65,7 @@ returns-clause-serving g c =
     record {
       number_is = ap (λ (t : Terms). t.number) k.terms ∙ o.number_is;
       limited = ap (λ (t : Terms). t.limits) k.terms ∙ o.limited;
+      links_are = ap (λ (t : Terms). t.links) k.terms ∙ o.links_are;
       books = subst (λ (f : Ask → Grant). HasBooks shared_rules (λ s. told_at s.roots) (λ p. told p.seen) g.D.Link.Link.told g.D.Link.Link.counts g.D.Door.told f (slice_index_or xs i d)) desk
           (c.run_all.ensures.books i d m
           (subst (λ (f : Ask → Grant). HasBooks shared_rules (λ s. told_at s.roots) (λ p. told p.seen) g.D.Link.Link.told g.D.Link.Link.counts g.D.Door.told f (slice_index_or c.as_mut_slice.result.now i d))

@@ -4,9 +4,12 @@ use Rattle.std.proofs.lemmas.List.Elements.{All-nil, All-pop, All-push, All-same
 use Rattle.stream_registry.specs.Names.{PortRules}
 use Rattle.stream_registry.specs.SharedState.{Streams, shared_rules}
 use Rattle.relay_outside.specs.Houses.{asked_door}
-use Rattle.relay_serve.specs.Settling.{AsksFor, EachAt, IsServing, TellsMore}
+use Rattle.relay_worker.specs.Running.{EachAt}
+use Rattle.relay_serve.specs.Settling.{AsksFor, IsServing, TellsMore}
+use Rattle.relay_serve.specs.Recordings.{names_of, names_upto, with_names}
 use Rattle.relay_serve.specs.Starts.{HasRules}
-use Rattle.relay_serve.proofs.Numbered.{each_push}
+use Rattle.relay_serve.proofs.Naming.{named_then, upto_more, with_none}
+use Rattle.relay_worker.proofs.Numbered.{each_push}
 use Rattle.relay_serve.proofs.Ruled.{popped}
 use Rattle.relay_serve.proofs.Settling.{asks_for, range_more}
 use Rattle.relay_serve.proofs.Telling.{more_same, more_then, none_more, one_more}
@@ -30,6 +33,9 @@ loop-port-init g c =
       serving = subst (λ l. EachAt P l) (sym none) (λ i d lt. absurd (omega (arith, lt)));
       house = refl;
       asked = subst (λ (n : ℕ). TellsMore (AsksFor c.args.config.now) (range_with_len 0 n) before before) (sym (ap length none)) (none_more (AsksFor c.args.config.now) before);
+      named =
+          let names = g.H.House.named c.args.house.now in
+          sym (ap (λ (n : ℕ). with_names names (names_upto c.args.config.now n)) (ap length none) ∙ with_none names);
     }
 
 pub loop-port-preserved : goal.loop-port-preserved
@@ -58,6 +64,14 @@ loop-port-preserved g c =
           (asks_for c.args.config.now n c.len-number.result number) in
           more_same R (range_with_len 0 n ++ n ∷ []) _ before before now (range_more n ∙ ap (range_with_len 0) (sym (popped _ _ _ pushed))) refl
           (more_then R (range_with_len 0 n) (n ∷ []) before mid now i.asked last);
+      named =
+          let config = c.args.config.now in
+          let n : ℕ = length c.loop-port.workers.items in
+          let before = g.H.House.named c.args.house.now in
+          let all : names_upto config n ++ names_of config c.len-number.result ≡ names_upto config (length c.push.new.self.items) =
+          ap (λ (m : ℕ). names_upto config n ++ names_of config m) number ∙ (upto_more config n ∙ ap (names_upto config) (sym (popped _ _ _ pushed))) in
+          named_then before (g.H.House.named c.loop-port.house) (g.H.House.named c.open_worker.new.house) (names_upto config n) (names_of config c.len-number.result) i.named c.in_ok-worker.ensures.named
+          ∙ ap (with_names before) all;
     }
 
 pub returns-clause-asked : goal.returns-clause-asked
@@ -65,3 +79,8 @@ returns-clause-asked g c =
     let all : length c.loop-port.workers.items ≡ c.loop-port.workers.len = omega (arith, c.loop-port.workers.ok.0) in
     subst (λ (n : ℕ). TellsMore (AsksFor c.args.config.now) (range_with_len 0 n) (g.H.House.asked c.args.house.now) (g.H.House.asked c.loop-port.house)) all
     c.loop-port.invariant.asked
+
+pub returns-clause-named : goal.returns-clause-named
+returns-clause-named g c =
+    let all : length c.loop-port.workers.items ≡ c.loop-port.workers.len = omega (arith, c.loop-port.workers.ok.0) in
+    c.loop-port.invariant.named ∙ ap (λ (n : ℕ). with_names (g.H.House.named c.args.house.now) (names_upto c.args.config.now n)) all

@@ -49,10 +49,10 @@ pub returns-in-Worn-clause-stands : goal.returns-in-Worn-clause-stands
 returns-in-Worn-clause-stands g c = λ desk st. (
     let b = c.args.body.now in
     let w = waiting b.core c.args.entry in
-    subst (λ (d : Core). IsOver desk d) (sym (c.keep-in-Worn.ensures ∙ ap (waiting b.core) c.in-Worn.ensures.makes.0)) (over_here desk w w.hand w.outgoing c.requires.sound.sound st))
+    subst (λ (d : Core). IsOver desk end.Worn d) (sym (c.keep-in-Worn.ensures ∙ ap (waiting b.core) c.in-Worn.ensures.makes.0)) (over_here desk end.Worn w w.hand w.outgoing c.requires.sound.sound st))
 
 pub returns-clause-stands : goal.returns-clause-stands
 returns-clause-stands g c = λ desk st. (
     let b = c.args.body.now in
     let w = waiting b.core c.args.entry in
-    subst (λ (d : Core). IsOver desk d) (sym (c.keep-in-OutOfMemory.ensures ∙ ap (waiting b.core) c.in-OutOfMemory.ensures.makes.0)) (over_here desk w w.hand w.outgoing c.requires.sound.sound st))
+    subst (λ (d : Core). IsOver desk end.OutOfMemory d) (sym (c.keep-in-OutOfMemory.ensures ∙ ap (waiting b.core) c.in-OutOfMemory.ensures.makes.0)) (over_here desk end.OutOfMemory w w.hand w.outgoing c.requires.sound.sound st))

@@ -1,4 +1,6 @@
-use Rattle.std.proofs.Common.{rules, refl, ap, Ok, Err}
+use Rattle.std.proofs.Common.{◌≡◌, rules, refl, ap, subst, Option, Some, Ok, Err}
+use Rattle.stream_model.specs.declared.calls.Entry.{Entry}
+use Rattle.relay_session.specs.Keeping.{StandsBefore}
 use Rattle.relay_session.specs.Places.{Asked}
 use Rattle.relay_session.specs.Turns.{life}
 use Rattle.relay_session.specs.declared.turn.Turn.TheVariants.{Ended, Idle}
@@ -21,6 +23,13 @@ returns-in-Ok-true-clause-turn g c =
     let r = c.in-Ok-true.field-0 in
     kept_made (Asked P.fits P.rules P.root P.seen P.count P.wants P.busies) (g.D.Desk.grants c.args.desk.now) L.hears L.says c.args.quit (life b.core b.input c.args.port.now b.seat) (life m.body.core m.body.input m.port m.body.seat) (life c.quit_on-in-Ok-true.new.body.core c.quit_on-in-Ok-true.new.body.input c.quit_on-in-Ok-true.new.port c.quit_on-in-Ok-true.new.body.seat) c.args.link.now c.quit_on-in-Ok-true.new.link c.in-Some.entry (Ok r) c.quit_on-in-Ok-true.result (search rules)
     c.in-Ok-true.ensures.tried (ap Ok c.in-Ok-true.field-0-test) c.quit_on-in-Ok-true.ensures.turn
+
+pub returns-in-Ok-false-clause-stands : goal.returns-in-Ok-false-clause-stands
+returns-in-Ok-false-clause-stands g c = λ st. (
+    let desk = g.D.Desk.grants c.args.desk.now in
+    let b = c.args.body.now.core in
+    let is : b.kept ≡ Some c.in-Some.entry = search rules in
+    c.in-Ok-false.ensures.stands desk (subst (λ (k : Option Entry). StandsBefore desk (record b { kept = k })) is st))
 
 pub returns-in-Ok-false-clause-turn : goal.returns-in-Ok-false-clause-turn
 returns-in-Ok-false-clause-turn g c =

@@ -35,7 +35,7 @@ returns-in-Err-clause-stopped g c =
 pub returns-in-Err-clause-over : goal.returns-in-Err-clause-over
 returns-in-Err-clause-over g c = λ st. (
     let d = c.args.core.now in
-    over_reader (g.D.Desk.grants c.args.desk.now) d c.args.piece.now c.first-part.result.now c.add_all.new.self c.min-count.result c.saturating_add-at.result c.saturating_sub-before.result c.in-Err.fail c.feed.new.self
+    over_reader (g.D.Desk.grants c.args.desk.now) c.chunk_end.result d c.args.piece.now c.first-part.result.now c.add_all.new.self c.min-count.result c.saturating_add-at.result c.saturating_sub-before.result c.in-Err.fail c.feed.new.self
     c.requires.sound c.requires.late c.requires.open (c.in-Err.ensures.err c.requires.sound.reads) c.first-part.ensures (omega (arith, c.min-count.ensures, c.room_to_next-room.ensures.value)) (search rules) (search rules) (search rules) st)
 
 pub returns-in-Err-acknowledge-clause-stopped : goal.returns-in-Err-acknowledge-clause-stopped
@@ -103,15 +103,15 @@ returns-in-Err-answer-clause-stopped g c =
     let d = c.args.core.now in
     let n = d.fed + c.in-Ok.fed.used - 1 in
     stop_message d c.args.piece.now c.first-part.result.now c.add_all-in-Err-answer.new.self c.min-count.result c.in-Ok.fed.used n n c.in-Some.message c.feed.new.self c.answer.new.inbound c.answer.new.outbound c.answer.new.dialog
-    c.answer.new.outgoing c.in-Err-answer.why c.requires.sound c.requires.late f c.first-part.ensures refl refl (search rules) c.in-Err-answer.ensures.err
+    c.answer.new.outgoing c.in-Err-answer.why c.requires.sound c.requires.late f c.first-part.ensures refl refl (search rules) c.in-Err-answer.ensures.err c.in-Err-answer.ensures.stays
 
 pub returns-in-Err-answer-clause-over : goal.returns-in-Err-answer-clause-over
 returns-in-Err-answer-clause-over g c = λ st. (
     let f = rw c.in-Some.is at (c.in-Ok.ensures.ok c.requires.sound.reads) in
     let d = c.args.core.now in
-    over_message (g.D.Desk.grants c.args.desk.now) d c.args.piece.now c.first-part.result.now c.add_all-in-Err-answer.new.self c.min-count.result c.in-Ok.fed.used (d.fed + c.in-Ok.fed.used - 1) c.in-Some.message c.feed.new.self
+    over_message (g.D.Desk.grants c.args.desk.now) c.in-Err-answer.why d c.args.piece.now c.first-part.result.now c.add_all-in-Err-answer.new.self c.min-count.result c.in-Ok.fed.used (d.fed + c.in-Ok.fed.used - 1) c.in-Some.message c.feed.new.self
     c.answer.new.inbound c.answer.new.outbound c.answer.new.dialog c.answer.new.outgoing c.requires.sound c.requires.late c.requires.open f c.first-part.ensures (omega (arith, c.min-count.ensures, c.room_to_next-room.ensures.value))
-    (search rules) st)
+    (search rules) c.in-Err-answer.ensures.stays st)
 
 pub returns-in-None-clause-quiet : goal.returns-in-None-clause-quiet
 returns-in-None-clause-quiet g c = λ e. (

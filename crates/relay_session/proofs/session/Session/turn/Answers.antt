@@ -1,12 +1,14 @@
 use Rattle.std.proofs.Common.{◌≡◌, ap, refl, subst, sym}
 use Rattle.relay_session.specs.Onward.{GoesOn}
-use Rattle.relay_session.specs.SeatState.{SeatState}
-use Rattle.relay_session.specs.SessionState.{Publishes, SessionState, StandsFor, ended_by, lasting_of, life_at}
+use Rattle.relay_session.specs.SeatState.{SeatState, place_of}
+use Rattle.relay_session.specs.SessionState.{Publishes, Rises, SessionState, StandsFor, ended_by, lasting_of, life_at}
 use Rattle.relay_session.specs.Turns.{life}
 use Rattle.relay_session.proofs.Onwards.{on_kept}
 use Rattle.relay_session.proofs.Causing.{did_kept, may_kept}
+use Rattle.relay_session.proofs.Coming.{kept_come}
 use Rattle.relay_session.proofs.Lasting.{kept_same}
-use Rattle.relay_session.proofs.Whole.{leaves_by, living_by, published_by, sound_if, stood_if}
+use Rattle.relay_session.specs.Coming.{HasCome}
+use Rattle.relay_session.proofs.Whole.{leaves_by, living_by, published_by, risen_by, sound_if, stood_if}
 use Rattle.relay_session.specs.Causes.{Did}
 use Rattle.relay_session.specs.Places.{Asked}
 use Rattle.relay_session.proofs.session.Session.turn.Goals as goal
@@ -36,6 +38,22 @@ returns-in-None-clause-units g c = λ st. (
     let was = subst (λ (s : SessionState g.row.P-Pass.Denot). StandsFor desk s) (sym c.self.view_is) st in
     let now = leaves_by desk k.result (ended_by k.result) k.new.body.core refl (k.ensures.stands (stood_if desk i.ended i.body.core c.in-None.is was)) in
     published_by (ended_by k.result) desk k.new.body.core (living_by k.result (ended_by k.result) k.new.body.core refl k.ensures.sound) now)
+
+pub returns-in-Some-clause-rises : goal.returns-in-Some-clause-rises
+returns-in-Some-clause-rises g c = λ st. (
+    let desk = g.D.Desk.grants c.args.desk.now in
+    let i = c.self.inside in
+    let was = subst (λ (s : SessionState g.row.P-Pass.Denot). StandsFor desk s) (sym c.self.view_is) st in
+    subst (λ (s : SessionState g.row.P-Pass.Denot). Rises desk s.parts) c.self.view_is (risen_by i.ended desk i.body.core c.self.invariant was))
+
+pub returns-in-None-clause-rises : goal.returns-in-None-clause-rises
+returns-in-None-clause-rises g c = λ st. (
+    let desk = g.D.Desk.grants c.args.desk.now in
+    let i = c.self.inside in
+    let k = c.kept_on-answer in
+    let was = subst (λ (s : SessionState g.row.P-Pass.Denot). StandsFor desk s) (sym c.self.view_is) st in
+    let now = leaves_by desk k.result (ended_by k.result) k.new.body.core refl (k.ensures.stands (stood_if desk i.ended i.body.core c.in-None.is was)) in
+    risen_by (ended_by k.result) desk k.new.body.core (living_by k.result (ended_by k.result) k.new.body.core refl k.ensures.sound) now)
 
 pub returns-in-None-clause-did : goal.returns-in-None-clause-did
 returns-in-None-clause-did g c =
@@ -71,3 +89,13 @@ returns-in-None-clause-lasts g c =
     let t = kept_same (Asked P.fits P.rules P.root P.seen P.count P.wants P.busies) (g.D.Desk.grants c.args.desk.now) L.hears L.says b.core.kept c.self.inside.quit (life b.core b.input c.args.port.now b.seat) c.args.link.now k.result
     (life k.new.body.core k.new.body.input k.new.port k.new.body.seat) k.new.link k.ensures.turn in
     subst (λ (s : SessionState g.row.P-Pass.Denot). lasting_of k.new.body.core ≡ lasting_of s.parts) c.self.view_is t
+
+pub returns-in-None-clause-waits : goal.returns-in-None-clause-waits
+returns-in-None-clause-waits g c =
+    let P = g.P.StreamPort in
+    let L = g.L.Link in
+    let b = c.self.inside.body in
+    let k = c.kept_on-answer in
+    let t = kept_come (Asked P.fits P.rules P.root P.seen P.count P.wants P.busies) (λ (s : SeatState g.row.P-Pass.Denot). place_of s.spot) (λ p s place e came q t a. a.spot) (g.D.Desk.grants c.args.desk.now) L.hears L.says
+    b.core.kept c.self.inside.quit (life b.core b.input c.args.port.now b.seat) c.args.link.now k.result (life k.new.body.core k.new.body.input k.new.port k.new.body.seat) k.new.link k.ensures.turn in
+    subst (λ (s : SessionState g.row.P-Pass.Denot). HasCome s.parts s.seat → HasCome k.new.body.core k.new.body.seat) c.self.view_is t

@@ -57,5 +57,5 @@ returns-clause-turns g c =
       turn = c.turn-answer.ensures.turn;
       there = put_updates b.sessions c.args.key u n (sym c.in-Some-get_mut.ensures.value);
       count = put_len b.sessions c.args.key u n (sym c.in-Some-get_mut.ensures.value);
-      same = rw (c.is_moved.ensures, c.is_spent.ensures) refl;
+      same = rw (c.is_moved.ensures, c.is_spent.ensures, c.is_worn.ensures) refl;
     })

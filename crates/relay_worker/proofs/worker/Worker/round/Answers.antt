@@ -6,7 +6,7 @@ use Rattle.relay_worker.specs.Books.{Works}
 use Rattle.relay_worker.specs.Filed.{TakesTurn, Tallies, state_of}
 use Rattle.relay_worker.specs.Running.{label_of}
 use Rattle.relay_worker.proofs.Booking.{round_works}
-use Rattle.relay_worker.proofs.Sounding.{ahead_serves, ahead_trans, keeps_at, kept, records_at, rounds_at}
+use Rattle.relay_worker.proofs.Sounding.{ahead_serves, ahead_trans, filed_on, goes_of, keeps_at, kept, records_at, rounds_at}
 use Rattle.relay_worker.proofs.worker.Worker.round.Goals as goal
 
 pub invariant_of-self : goal.invariant_of-self
@@ -16,6 +16,18 @@ invariant_of-self g c =
     let a : length new ≡ length items = omega (arith, c.record_all.auto.recorders, ap length c.as_mut_slice.ensures.value) in
     let y = c.record_all.new.self.port in
     (c.record_all.ensures.sound, All-same (IsFiled (g.P.StreamPort.fits y) (length (g.P.StreamPort.rules y).names)) _ new (kept c.self.inside.recorders.len new items a c.self.inside.recorders.ok.0) c.record_all.ensures.filed)
+
+pub record_all-requires-clause-filed : goal.record_all-requires-clause-filed
+record_all-requires-clause-filed g c κs within =
+    let fits = g.P.StreamPort.fits in
+    let rules = g.P.StreamPort.rules in
+    let root = g.P.StreamPort.root in
+    let x = c.self.inside.bench.port in
+    let y = c.close_all.new.self.port in
+    let ahead = ahead_trans fits rules root x c.admit.new.self.port y c.admit.ensures.ahead
+    (ahead_trans fits rules root c.admit.new.self.port c.turn_all.new.self.port y c.turn_all.ensures.ahead c.close_all.ensures.ahead) in
+    filed_on fits rules x y c.as_mut_slice.result.now (goes_of fits rules root x y ahead)
+    (All-same (IsFiled (fits x) (length (rules x).names)) c.as_mut_slice.result.now c.self.inside.recorders.items c.as_mut_slice.ensures.value c.self.invariant.1)
 
 pub returns-clause-rounds : goal.returns-clause-rounds
 returns-clause-rounds g c =
@@ -75,4 +87,4 @@ returns-clause-books g c works =
     subst (λ t. Works rules root g.P.StreamPort.seen g.D.Link.Link.told g.D.Link.Link.counts g.D.Door.told desk t c.record_all.new.self) (sym r.terms)
     (round_works rules root g.P.StreamPort.seen g.D.Link.Link.told g.D.Link.Link.counts g.D.Door.told desk w.terms fits g.P.StreamPort.count g.P.StreamPort.wants g.P.StreamPort.busies files
     (λ x q a y q' k. let s = ahead_serves fits rules root g.P.StreamPort.busies (state_of q).seat.place x y k.serves in (s.fixed, s.roots))
-    g.D.Link.Link.hears c.link_law.ensures.heard g.D.Link.Link.says c.link_law.ensures.said fits w _ c.round.result refl sound r works)
+    g.D.Link.Link.hears c.link_law.ensures.heard g.D.Link.Link.says c.link_law.ensures.said c.decided_law.ensures fits w _ c.round.result refl sound r works)

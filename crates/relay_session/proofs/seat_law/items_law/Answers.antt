@@ -1,0 +1,5 @@
+use Rattle.relay_session.proofs.SeatOwn.{brings_so}
+use Rattle.relay_session.proofs.seat_law.items_law.Goals as goal
+
+pub returns : goal.returns
+returns c = record { takes = brings_so }
