@@ -96,6 +96,23 @@ pub fn skip(bytes: &[u8], outer: u32) -> Result<&[u8], Stop>
     }
 }
 
+/// As `skip`. A value that is a marker alone is passed over at once, since a peer may send millions of them.
+#[cycle(skip)]
+fn next(bytes: &[u8], outer: u32) -> Result<&[u8], Stop>
+    requires { outer ≤ 32 }
+    ensures { Gives (λ rest. HasValue outer bytes.now rest.now) (Left (Stops outer bytes.now)) result }
+{
+    if let [first, rest @ ..] = bytes {
+        match *first {
+            0x05 => return Ok(rest),
+            0x06 => return Ok(rest),
+            0x0D => return Ok(rest),
+            _ => {}
+        }
+    }
+    skip(bytes, outer)
+}
+
 /// Passes over what stands behind the marker of a container.
 #[cycle(skip)]
 fn skip_container(marker: Container, body: &[u8], outer: u32) -> Result<&[u8], Stop>
@@ -167,7 +184,7 @@ fn skip_pairs(bytes: &[u8], outer: u32) -> Result<&[u8], Stop>
         match key_at(rest)? {
             At::End(after) => return Ok(after),
             At::Key(_key, after) => {
-                let after = skip(after, outer)?;
+                let after = next(after, outer)?;
                 rest = after;
             }
         }
@@ -182,7 +199,7 @@ fn skip_values(total: u32, bytes: &[u8], outer: u32) -> Result<&[u8], Stop>
 {
     let mut rest = bytes;
     for _ in 0..total {
-        let after = skip(rest, outer)?;
+        let after = next(rest, outer)?;
         rest = after;
     }
     Ok(rest)
@@ -194,7 +211,7 @@ pub fn skip_all(bytes: &[u8]) -> Result<(), Stop>
 {
     let mut rest = bytes;
     while !rest.is_empty() {
-        let after = skip(rest, 0)?;
+        let after = next(rest, 0)?;
         rest = after;
     }
     Ok(())

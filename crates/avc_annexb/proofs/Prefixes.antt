@@ -52,7 +52,7 @@ unit_back size u more fits h =
     ap (drop (size + length u)) (sym (append_assoc front u more)) ∙ drop_at (front ++ u) more (size + length u) (length-append front u ∙ omega (arith, l.bytes)) in
     rw (l.read, t, d, r, take_at u more (length u) refl) refl
 
-front_back : (missing : AvcFail) (nal size : ℕ) (u more : List ℕ) → IsSize size → IsNal u → length u < 256 ^ size
+pub front_back : (missing : AvcFail) (nal size : ℕ) (u more : List ℕ) → IsSize size → IsNal u → length u < 256 ^ size
     → front_of missing nal size (bytes_high_first size (length u) ++ (u ++ more)) ≡ Ok (u, more)
 unfolding front_of
 front_back missing nal size u more fits one h = rw (unit_back size u more fits h, none_verdict nal u one) refl
@@ -151,7 +151,7 @@ below size b fits small =
       ]
     ]
 
-rest_small : (n : ℕ) (b rest : List ℕ) → rest ≡ drop n b → ((i : ℕ) → slice_index b i < 256) → (i : ℕ) → slice_index rest i < 256
+pub rest_small : (n : ℕ) (b rest : List ℕ) → rest ≡ drop n b → ((i : ℕ) → slice_index b i < 256) → (i : ℕ) → slice_index rest i < 256
 rest_small n b rest e small i = rw (e, get_or-drop n b i 0) (small (n + i))
 
 none_read : (size : ℕ) (units : List (List ℕ)) → [] ≡ units → Nals size units []
@@ -178,7 +178,7 @@ pub record IsSplit (size : ℕ) (b u rest : List ℕ) : Type 0 where
   pub bytes : b ≡ bytes_high_first size (length u) ++ (u ++ rest)
   pub short : length u < 256 ^ size
 
-split : (size : ℕ) (b u rest : List ℕ) → IsSize size → ((i : ℕ) → slice_index b i < 256) → unit_at size b ≡ Some (u, rest) → IsSplit size b u rest
+pub split : (size : ℕ) (b u rest : List ℕ) → IsSize size → ((i : ℕ) → slice_index b i < 256) → unit_at size b ≡ Some (u, rest) → IsSplit size b u rest
 split size b u rest fits small e =
     let s = stands size b u rest e in
     let n : ℕ = length_at size b in

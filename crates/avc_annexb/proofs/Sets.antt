@@ -16,7 +16,7 @@ with_none : (r : Sets) → with_sets [] r ≡ r
 with_none (Ok p) = refl
 with_none (Err e) = refl
 
-one_more : (count total nal : ℕ) (left u rest : List ℕ) → front_of (Short total) nal 2 left ≡ Ok (u, rest) → sets_in (suc count) total nal left ≡ with_sets (u ∷ []) (sets_in count total (nal + 1) rest)
+pub one_more : (count total nal : ℕ) (left u rest : List ℕ) → front_of (Short total) nal 2 left ≡ Ok (u, rest) → sets_in (suc count) total nal left ≡ with_sets (u ∷ []) (sets_in count total (nal + 1) rest)
 unfolding sets_in
 one_more count total nal left u rest e = rw e refl
 
@@ -24,7 +24,7 @@ none_more : (count total nal : ℕ) (left : List ℕ) (f : AvcFail) → front_of
 unfolding sets_in
 none_more count total nal left f e = rw e refl
 
-no_more : (total nal : ℕ) (left : List ℕ) → sets_in 0 total nal left ≡ Ok ([], left)
+pub no_more : (total nal : ℕ) (left : List ℕ) → sets_in 0 total nal left ≡ Ok ([], left)
 unfolding sets_in
 no_more total nal left = refl
 

@@ -4,7 +4,7 @@ use Rattle.std.specs.Borrow.{Bor}
 use Rattle.avc_annexb.specs.declared.fail.AvcFail.{AvcFail}
 use Rattle.avc_annexb.specs.declared.fail.AvcFail.TheVariants.{Short, LengthSize, OutOfMemory}
 use Rattle.avc_annexb.specs.Nal.{AreNals}
-use Rattle.avc_annexb.specs.Prefixed.{IsSize, Front, front_of}
+use Rattle.avc_annexb.specs.Prefixed.{AllShort, IsSize, Front, front_of, prefixed}
 
 -- What contracts see of an Avcc: how many bytes a length has, sequence and picture parameter sets
 pub record Config : Type 0 where
@@ -68,6 +68,21 @@ then_sets_of b (Err e) = Err e
 -- THE CONFIGURATION in a record, or the first refusal
 unfoldable pub record_of : List ℕ → Result Config AvcFail
 record_of b = then_sets_of b (size_read b)
+
+-- THE BYTES of a record that has this configuration: configurationVersion, profile, compatibility, level, lengthSizeMinusOne, how
+-- many sequence parameter sets, and they, and the same of picture parameter sets. What follows isn't read
+pub record IsRecord (c : Config) (b : List ℕ) : Type 0 where
+  pub profile : ℕ
+  pub compatibility : ℕ
+  pub level : ℕ
+  pub lengths : ℕ
+  pub count : ℕ
+  pub rest : List ℕ
+  pub bytes : b ≡ 1 ∷ profile ∷ compatibility ∷ level ∷ lengths ∷ count ∷ (prefixed 2 c.sps ++ (length c.pps ∷ (prefixed 2 c.pps ++ rest)))
+  pub size_is : c.size ≡ lengths % 4 + 1
+  pub many : length c.sps ≡ count % 32
+  pub config : IsConfig c
+  pub short : AllShort 2 c.sps × AllShort 2 c.pps
 
 -- the sets that were answered, with what is behind them in place, are those that are read, unless memory was refused
 abbrev pub SetsGiven : Result (List (List ℕ) × Bor (List ℕ)) AvcFail → Sets → Type 0

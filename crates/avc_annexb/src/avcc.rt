@@ -1,7 +1,7 @@
 ghost use Rattle.std.specs.Prelude.{◌≡◌, ◌≤◌, ◌<◌, length, Ok, Err, IfOk};
 ghost use Rattle.avc_annexb.specs.Nal.{Gives};
 ghost use Rattle.avc_annexb.specs.Prefixed.{IsSize};
-ghost use Rattle.avc_annexb.specs.Record.{IsConfig, record_of, sets_in, size_read, SetsGiven};
+ghost use Rattle.avc_annexb.specs.Record.{Config, IsRecord, record_of, sets_in, size_read, SetsGiven};
 
 use crate::nal::after;
 use crate::prefixed::front;
@@ -75,6 +75,19 @@ fn sets(
     Ok((NalList::from_vec(list), left))
 }
 
+// Reads a configuration record by its table.
+fn read_record(alloc: Global, body: &[u8]) -> Result<Avcc, AvcFail>
+    ensures { Gives result (record_of body.now) }
+{
+    let size = length_size(body)?;
+    let (sps, rest) = sets(alloc, body[5] % 32, after(body, 6), body.len(), 0)?;
+    let [count, ..] = rest else {
+        return Err(AvcFail::Short { at: body.len() });
+    };
+    let (pps, _) = sets(alloc, *count, after(rest, 1), body.len(), sps.len())?;
+    Ok(Avcc { size, sps, pps })
+}
+
 impl Avcc {
     /// Reads a configuration record. What stands behind the picture parameter sets isn't read, nor are profile,
     /// compatibility and level.
@@ -83,14 +96,9 @@ impl Avcc {
     /// on after the sequence parameter sets.
     pub fn read(alloc: Global, body: &[u8]) -> Result<Avcc, AvcFail>
         ensures exact { Gives result (record_of body.now) }
-        ensures found { IfOk result (λ c. IsConfig c) }
+        ensures found { IfOk result (λ c. IsRecord c body.now) }
+        ensures only { (c : Config) → IsRecord c body.now → Gives result (Ok c) }
     {
-        let size = length_size(body)?;
-        let (sps, rest) = sets(alloc, body[5] % 32, after(body, 6), body.len(), 0)?;
-        let [count, ..] = rest else {
-            return Err(AvcFail::Short { at: body.len() });
-        };
-        let (pps, _) = sets(alloc, *count, after(rest, 1), body.len(), sps.len())?;
-        Ok(Avcc { size, sps, pps })
+        read_record(alloc, body)
     }
 }

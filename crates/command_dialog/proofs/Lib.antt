@@ -1,3 +1,4 @@
 pub mod Free
 pub mod Said
 pub mod Rules
+pub mod Streams

@@ -18,24 +18,35 @@ ghost use Rattle.command_dialog.specs.declared.types.Phase.{Phase};
 ghost use Rattle.command_dialog.specs.declared.types.Phase.TheVariants as phase;
 ghost use Rattle.command_dialog.specs.declared.types.Meant.{Meant};
 ghost use Rattle.command_dialog.specs.declared.types.Meant.TheVariants as meant;
-ghost use Rattle.command_dialog.specs.State.{State, with_phase};
+ghost use Rattle.command_dialog.specs.State.{State, fresh, with_phase};
 ghost use Rattle.command_dialog.specs.Words.{app_in, name_in, key_in};
 ghost use Rattle.command_dialog.specs.Meaning.{asks_while, is_open, least_free, closed_in};
 ghost use Rattle.command_dialog.specs.Dialog.{refuses, says, does, told, shows, call_of};
-ghost use Rattle.command_dialog.specs.Writable.{IsSaid, IsShown, HasRoom};
+ghost use Rattle.command_dialog.specs.Writable.{IsSaid, IsShown, HasRoom, IsOn, HasIds};
 
 /// No message asks a stream for an item.
 pub fn no_act_is_a_take()
     ensures { (a : Act) (player : ℕ) (want : Want) → call_of a ≡ call.Take player want → ⊥ }
 {}
 
-/// What is said and shown is of a type that is written, and isn't too long; the chunk size that is
-/// told is 4,096.
+/// What is said and shown is of a type that is written, isn't too long, and has a time of 32 bits; the
+/// chunk size that is told is 4,096.
 pub fn what_is_said_can_be_written()
     ensures step { (s : State) (g : Option Grant) (m : Meant) → All IsSaid (says s g m) }
     ensures message { (desk : Ask → Grant) (s : State) (m : Message) → All IsSaid (does desk s m).says }
     ensures reply { (s : State) (r : Reply) → All IsSaid (told s r).says }
     ensures item { (s : State) (i : Item) → HasRoom i → All IsShown (shows s i) }
+{}
+
+/// All that is said and shown is on message stream 0 or on one of 1 to 16: the ids that are open and that
+/// of the role are at most 16 at first, after a message, and after a reply.
+pub fn what_is_said_is_on_a_stream()
+    ensures first { (window : ℕ) → HasIds (fresh window) }
+    ensures message { (desk : Ask → Grant) (s : State) (m : Message) → HasIds s → HasIds (does desk s m).state }
+    ensures message_says { (desk : Ask → Grant) (s : State) (m : Message) → HasIds s → All IsOn (does desk s m).says }
+    ensures reply { (s : State) (r : Reply) → HasIds s → HasIds (told s r).state }
+    ensures reply_says { (s : State) (r : Reply) → HasIds s → All IsOn (told s r).says }
+    ensures item { (s : State) (i : Item) → HasIds s → All IsOn (shows s i) }
 {}
 
 /// A createStream is given the least id of 1 to 16 that isn't open, and is refused where all are.

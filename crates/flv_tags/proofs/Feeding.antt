@@ -1,5 +1,5 @@
 -- What a reader stands for after its steps
-use Rattle.std.proofs.Common.{◌≡◌, ◌≢◌, ℕ, ◌+◌, ◌-◌, ◌<◌, ◌≤◌, ◌⊎◌, inl, inr, true, false, List, [], ◌∷◌, ◌++◌, length, take, drop, slice_index}
+use Rattle.std.proofs.Common.{◌≡◌, ◌≢◌, ℕ, Bool, ◌+◌, ◌-◌, ◌<◌, ◌≤◌, ◌⊎◌, inl, inr, true, false, List, [], ◌∷◌, ◌++◌, length, take, drop, slice_index}
 use Rattle.std.proofs.Common.{Option, Some, None, IfSome, is_some, refl, sym, ap, ◌∙◌, subst, arith, append_assoc, append-nil, length-append}
 use Rattle.std.proofs.Common.{length-drop}
 use Rattle.std.specs.Option.{option_to_list}
@@ -124,6 +124,9 @@ taken_within : (count : ℕ) (piece : List ℕ) (part new : Part) (t : Option Ta
 taken_within count piece part new t used some (inl b) = (omega (arith, b.one), omega (arith, b.one))
 taken_within count piece part new t used some (inr p) = (p.1.some, p.1.within)
 
+two_ways : (b : Bool) → b ≡ false → b ≡ true → ⊥
+two_ways b f t = cc
+
 -- bytes that were taken
 pub record AdvancedOk (fed : List ℕ) (given : List Tag) (piece : List ℕ) (used : ℕ) (t : Option Tag) (new : Part) (count : ℕ)
     (failed : Option FlvFail) (fed_now : List ℕ) (given_now : List Tag) : Type 0 where
@@ -144,7 +147,7 @@ advance_ok part new count failed fed fed_now given given_now piece used t s live
     ∙ ap (λ (k : ℕ). length fed + k) (length-take-le used piece w.1) in
     let read = read_of (fed ++ take used piece) (given ++ option_to_list t) new stood.standing in
     let sound : IsSound new (count + used) failed (fed ++ take used piece) (given ++ option_to_list t) =
-    record { counted = omega (arith, n, s.counted); read = read; standing = λ _. stood.standing } in
+    record { counted = omega (arith, n, s.counted); read = read; standing = λ _. stood.standing; dropped = λ d. absurd (two_ways (is_some failed) live d) } in
     let P : List ℕ → List Tag → Type 0 = λ b ts. AdvancedOk fed given piece used t new count failed b ts in
     let whole : P (fed ++ take used piece) (given ++ option_to_list t) = record {
       sound = sound;
@@ -205,12 +208,12 @@ cause_is fed piece given part e some s (inl m) = inl m
 cause_is fed piece given part e some s (inr f) = inr (stops_is fed piece given e some (refused_is fed piece given part e some s f))
 
 pub advance_err : (part new : Part) (count : ℕ) (failed : Option FlvFail) (fed : List ℕ) (given : List Tag) (piece : List ℕ) (e : FlvFail)
-    → IsSound part count failed fed given → failed ≡ None → 0 < length piece → TakeFails count part piece e → AdvancedErr fed given piece e new count failed
-advance_err part new count failed fed given piece e s lives some fails =
+    → IsSound part count failed fed given → failed ≡ None → 0 < length piece → TakeFails count part piece e → part_bytes new ≡ [] → AdvancedErr fed given piece e new count failed
+advance_err part new count failed fed given piece e s lives some fails none =
     let live : is_some failed ≡ false = ap (λ (o : Option FlvFail). is_some o) lives in
     let at : TakeFails (length fed) part piece e = let P : ℕ → Type 0 = λ n. TakeFails n part piece e in subst P s.counted fails in
     record {
-      sound = record { counted = s.counted; read = s.read; standing = λ l. absurd (cc) };
+      sound = record { counted = s.counted; read = s.read; standing = λ l. absurd (cc); dropped = λ _. none };
       refused = record {
         after = 0;
         within = some;
@@ -225,7 +228,7 @@ pub sound_new : (part : Part) (fed : List ℕ) (given : List Tag) → IsPart par
 sound_new part fed given p none f g =
     let h : InHeader [] [] [] = record { short = omega arith; as_header = λ i l. absurd (omega arith); none = refl; all = refl } in
     let P : List ℕ → List Tag → Type 0 = λ b ts. IsSound part 0 None b ts in
-    let whole : P [] [] = record { counted = refl; read = ([], inl h); standing = λ _. record { is_part = p; at = inl (h, none) } } in
+    let whole : P [] [] = record { counted = refl; read = ([], inl h); standing = λ _. record { is_part = p; at = inl (h, none) }; dropped = λ d. absurd (cc) } in
     let P1 : List Tag → Type 0 = λ ts. P [] ts in
     let P2 : List ℕ → Type 0 = λ b. P b given in
     subst P2 (sym f) (subst P1 (sym g) whole)

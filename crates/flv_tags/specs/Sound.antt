@@ -1,6 +1,6 @@
 -- Only proofs and private functions use it.
 -- What a reader keeps true of its fields
-use Rattle.std.specs.Prelude.{◌≡◌, ◌⊎◌, ◌<◌, ◌≤◌, ℕ, List, [], ◌++◌, length, Option, is_some, false}
+use Rattle.std.specs.Prelude.{◌≡◌, ◌⊎◌, ◌<◌, ◌≤◌, ℕ, List, [], ◌++◌, length, Option, is_some, true, false}
 use Rattle.flv_tags.specs.declared.tag.Tag.{Tag}
 use Rattle.flv_tags.specs.declared.part.Part.{Part}
 use Rattle.flv_tags.specs.declared.fail.FlvFail.{FlvFail}
@@ -29,3 +29,5 @@ pub record IsSound (part : Part) (count : ℕ) (failed : Option FlvFail) (fed : 
   pub counted : count ≡ length fed
   pub read : (r : List ℕ) × Reads fed given r
   pub standing : is_some failed ≡ false → IsStanding fed given part
+  -- one that refused keeps no part
+  pub dropped : is_some failed ≡ true → part_bytes part ≡ []

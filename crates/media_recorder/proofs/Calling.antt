@@ -79,7 +79,7 @@ join_full who (Ok x) calls calls' turn player' end' j e none is = joins_full who
 join_full who (Err f) calls calls' turn player' end' j e none is = absurd (unmade_full f turn end' j.0 is)
 
 -- a Join is sent no item
-taken_join : (who : ℕ) (answer : Result Reply PortFail) (calls : List Step) → taken (calls_after calls (entry_of who call.Join) answer) ≡ taken calls
+pub taken_join : (who : ℕ) (answer : Result Reply PortFail) (calls : List Step) → taken (calls_after calls (entry_of who call.Join) answer) ≡ taken calls
 taken_join who (Ok x) calls = flat_map-append (λ (s : Step). item_at s.0.call s.1) calls ((entry_of who call.Join, x) ∷ []) ∙ append-nil (taken calls)
 taken_join who (Err f) calls = refl
 

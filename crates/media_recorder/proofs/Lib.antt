@@ -7,3 +7,5 @@ pub mod Viewing
 pub mod Calling
 pub mod Tying
 pub mod Longest
+pub mod Joining
+pub mod Keeping

@@ -1,4 +1,5 @@
 pub mod Taken
+pub mod Joined
 pub mod Mediums
 pub mod Flv
 pub mod Transport

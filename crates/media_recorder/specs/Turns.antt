@@ -1,5 +1,5 @@
 -- A RECORDER'S TURN
-use Rattle.std.specs.Prelude.{◌≡◌, ℕ, Bool, true, false, List, [], ◌∷◌, ◌++◌, take, drop, Option, Some, None}
+use Rattle.std.specs.Prelude.{◌≡◌, ◌≤◌, ℕ, Bool, true, false, List, [], ◌∷◌, ◌++◌, take, drop, Option, Some, None}
 use Rattle.std.specs.declared.result.Result.{Result}
 use Rattle.std.specs.declared.result.Result.TheVariants.{Ok, Err}
 use Rattle.av_unit.specs.declared.head.Want.{Want}
@@ -10,6 +10,7 @@ use Rattle.stream_model.specs.declared.calls.Call.{Call}
 use Rattle.stream_model.specs.declared.calls.Call.TheVariants as call
 use Rattle.stream_model.specs.declared.replies.Reply.{Reply}
 use Rattle.stream_model.specs.declared.replies.Reply.TheVariants as reply
+use Rattle.stream_model.specs.Held.{body_of}
 use Rattle.stream_registry.specs.declared.port.PortFail.{PortFail}
 use Rattle.stream_registry.specs.declared.port.PortFail.TheVariants as fail
 use Rattle.stream_registry.specs.Names.{PortRules}
@@ -72,6 +73,8 @@ JoinEnds (Err e) turn player' end' = Unmade e turn end' × (player' ≡ None)
 
 -- the item is written behind all before it
 pub record Writes (t : TapeState) (item : Item) (t' : TapeState) : Type 0 where
+  -- a longer unit is never written
+  pub fits : body_of item ≤ t.longest
   pub items : t'.items ≡ t.items ++ item ∷ []
   pub sent : t'.sent ≡ t.sent
   pub longest : t'.longest ≡ t.longest

@@ -3,6 +3,7 @@ ghost use Rattle.relay_outside.specs.Put.{PutCount};
 ghost use Rattle.turn_gate.specs.Histories.{Begins};
 ghost use Rattle.media_recorder.specs.Mediums.{AreWithin, most_held};
 ghost use Rattle.media_recorder.specs.Taken.{taken};
+ghost use Rattle.media_recorder.specs.Joined.{joined_from, from_answered};
 ghost use Rattle.media_recorder.specs.Recorders.{AreWritten};
 ghost use Rattle.media_recorder.specs.Ports.{Serves, FitsIf};
 ghost use Rattle.media_recorder.specs.Seats.{StandIf};
@@ -27,25 +28,25 @@ use stream_registry::{PortFail, StreamPort};
 pub struct Recorder<P: StreamPort, M: Medium> {
     seat: Seat<P>,
     player: Option<u32>,
+    from: Option<u64>,
     tape: Tape<M>,
     end: Option<RecEnd>,
 }
 
 impl<P: StreamPort, M: Medium> Model for Recorder<P, M> {
-    ghost use Rattle.media_recorder.specs.Taken.{taken};
-    ghost use Rattle.media_recorder.specs.Recorders.{AreWritten};
+    ghost use Rattle.media_recorder.specs.Recorders.{IsRecorder};
     ghost use Rattle.media_recorder.specs.Turns.{RecorderState};
 
     ghost Value = { RecorderState P.Pass };
 
     ghost view = { λ r. record { seat = r.seat; player = r.player; tape = r.tape; end = r.end } };
 
-    ghost invariant = { λ r. AreWritten r.end r.tape.items (taken r.seat.calls) };
+    ghost invariant = { λ r. IsRecorder r.end r.tape.items r.seat.calls r.from };
 }
 
 impl<P: StreamPort, M: Medium> Recorder<P, M> {
     /// A recorder at that place, with that name, which has made no call. The text of no items is pending. It writes units of at
-    /// most `longest` bytes: for a longer one there is no memory.
+    /// most `longest` bytes: the first longer one that it is sent ends it by `OutOfMemory`.
     pub fn new(
         alloc: Global,
         place: u32,
@@ -62,6 +63,7 @@ impl<P: StreamPort, M: Medium> Recorder<P, M> {
         Ok(Recorder {
             seat: Seat::new(place, who),
             player: None,
+            from: None,
             tape,
             end: None,
         })
@@ -72,6 +74,14 @@ impl<P: StreamPort, M: Medium> Recorder<P, M> {
         ensures { result ≡ self.now.seat.place }
     {
         self.seat.place()
+    }
+
+    /// The number of the item from which it joined, if it has joined.
+    pub fn joined_from(&self) -> Option<u64>
+        ensures { result ≡ joined_from self.now.seat.calls }
+    {
+        let _ = &self.seat;
+        self.from
     }
 
     /// What the sink took and what is pending are the text of the items that the recorder's Takes were sent, or a
@@ -103,6 +113,7 @@ impl<P: StreamPort, M: Medium> Recorder<P, M> {
         ensures turn { Turns P.rules P.root P.busies P.seen P.mine P.count K.takes self.old.end port.old port.new sink.old sink.new self.old result self.new }
         ensures took { K.holds sink.old ≡ Some self.old.tape.sent → K.holds sink.new ≡ Some self.new.tape.sent }
         ensures longest { self.new.tape.longest ≡ self.old.tape.longest }
+        ensures from { (n : ℕ) → joined_from self.old.seat.calls ≡ Some n → joined_from self.new.seat.calls ≡ Some n }
         ensures tallies { Tallied P.count (K.holds sink.old) (K.faults sink.old) self.old → Tallied P.count (K.holds sink.new) (K.faults sink.new) self.new }
         ensures says { Says P.mine (P.root port.old self.old.seat.place) (P.busies port.old) (P.busies port.new) result self.new }
     {
@@ -169,6 +180,7 @@ impl<P: StreamPort, M: Medium> Recorder<P, M> {
         ensures joins { JoinsAt P.rules P.root P.busies P.seen P.mine P.count port.old port.new self.old result self.new }
     {
         let answer = self.seat.call(port, Call::Join);
+        self.from = self.from.or(from_in(&answer));
         join_ends(answer, &mut self.player, &mut self.end)
     }
 
@@ -268,6 +280,17 @@ fn unmade(fail: PortFail, end: &mut Option<RecEnd>) -> RecTurn
             *end = Some(RecEnd::OutOfMemory);
             RecTurn::Ended(RecEnd::OutOfMemory)
         }
+    }
+}
+
+// The number of the item from which a Join that was answered so joined.
+fn from_in(answer: &Result<Reply, PortFail>) -> Option<u64>
+    ensures { result ≡ from_answered answer.now }
+{
+    match answer {
+        Ok(Reply::Joined { player: _, from }) => Some(*from),
+        Ok(_) => None,
+        Err(_) => None,
     }
 }
 

@@ -1,3 +1,4 @@
+use crate::starved::Starved;
 use file_commands::{check, remux};
 use relay_base::Status;
 use relay_outside::{MemSink, MemSource};
@@ -62,6 +63,10 @@ j
 code 5 at 0
 k
 code 2 at 0
+l
+code 6 after 0 bytes
+m
+code 0 after 564 bytes
 ";
 
 // A file in pieces of so many bytes.
@@ -153,6 +158,23 @@ fn faulty(alloc: Global, word: &[u8], gets: Vec<u64>, puts: Vec<u64>) -> Result<
     Ok(told(alloc, out.bytes(), status)?)
 }
 
+// How a command ended, and how much it wrote.
+fn ended(alloc: Global, code: u8, len: usize) -> Result<Vec<u8>, Fail> {
+    let line = format!(in alloc; "code {code} after {len} bytes\n")?;
+    Ok(line.as_str().as_bytes().to_vec(alloc)?)
+}
+
+// How `remux` of the sound ends where there is memory for so many puts.
+fn starved(alloc: Global, puts: u64) -> Result<Vec<u8>, Fail> {
+    let mut input = source(alloc, SOUND, 20, vec![in alloc]?)?;
+    let mut out = Starved {
+        list: Vec::new(alloc),
+        puts,
+    };
+    let status = remux(alloc, &words(alloc, b"remux")?, &mut input, &mut out);
+    ended(alloc, status.code, out.list.len())
+}
+
 fn row(alloc: Global, row: u8) -> Result<Vec<u8>, Fail> {
     match row {
         b'a' => both(alloc, SOUND, 1),
@@ -165,7 +187,9 @@ fn row(alloc: Global, row: u8) -> Result<Vec<u8>, Fail> {
         b'h' => altered(alloc, 191),
         b'i' => faulty(alloc, b"remux", vec![in alloc; 1]?, vec![in alloc]?),
         b'j' => faulty(alloc, b"remux", vec![in alloc]?, vec![in alloc; 0]?),
-        _ => faulty(alloc, b"check", vec![in alloc]?, vec![in alloc]?),
+        b'k' => faulty(alloc, b"check", vec![in alloc]?, vec![in alloc]?),
+        b'l' => starved(alloc, 0),
+        _ => starved(alloc, 1),
     }
 }
 
@@ -173,7 +197,7 @@ fn row(alloc: Global, row: u8) -> Result<Vec<u8>, Fail> {
 fn what_is_told_of_files(rt: HostRuntime) -> Result<(), Fail> {
     let alloc = rt.alloc();
     let mut text = Vec::new(alloc);
-    for letter in b"abcdefghijk" {
+    for letter in b"abcdefghijklm" {
         text.push(*letter)?;
         text.push(b'\n')?;
         text.extend_from_slice(&row(alloc, *letter)?)?;

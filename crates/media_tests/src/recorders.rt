@@ -2,6 +2,7 @@
 ghost use Rattle.std.specs.Prelude.{◌≡◌, ◌<◌, ℕ, length, IfOk};
 ghost use Rattle.media_recorder.specs.Ports.{FitsIf};
 
+use crate::starved::Starved;
 use av_unit::{Bytes, Kind, OutOfMemory, Unit, UnitArc};
 use media_recorder::*;
 use relay_outside::{MemSink, Put, Sink};
@@ -173,27 +174,42 @@ fn run<P: StreamPort, K: Sink>(
     Ok(answers)
 }
 
-// A recorder that joins before a broadcast of three units, with a sink whose put of that number fails.
-fn recorded(alloc: Global, fails: u64) -> Result<(Bytes, MemSink, bool), OutOfMemory> {
+// A recorder that joins before a broadcast of three units, and then leaves.
+fn recorded<K: Sink>(alloc: Global, sink: &mut K) -> Result<(Bytes, bool), OutOfMemory> {
     let mut port = port(alloc, 4)?;
     let mut recorder = FlvRecorder::new(alloc, 0, 7, 4_096)?;
-    let mut sink = MemSink::new(alloc, vec![in alloc; fails]?);
-    let answers = run(
-        alloc,
-        b"ttbckaetttttttttt",
-        &mut port,
-        &mut recorder,
-        &mut sink,
-    )?;
+    let answers = run(alloc, b"ttbckaetttttttttt", &mut port, &mut recorder, sink)?;
     let left = matches!(recorder.leave(&mut port), Leaving::Done);
-    Ok((answers, sink, left))
+    Ok((answers, left))
 }
 
-// Whether the answers are these, and the file has so many of the first bytes.
+// Whether the answers are these where the put of that number fails, and the file has so many of the first bytes.
 fn is_cut(alloc: Global, fails: u64, answers: &[u8], len: usize) -> Result<bool, OutOfMemory> {
-    let (told, sink, left) = recorded(alloc, fails)?;
+    let mut sink = MemSink::new(alloc, vec![in alloc; fails]?);
+    let (told, left) = recorded(alloc, &mut sink)?;
     let file = sink.bytes();
     Ok(told.as_slice() == answers && file.len() == len && FILE.starts_with(file) && left)
+}
+
+// The same where there is memory for so many puts.
+fn is_starved(alloc: Global, puts: u64, answers: &[u8], len: usize) -> Result<bool, OutOfMemory> {
+    let mut sink = Starved {
+        list: Vec::new(alloc),
+        puts,
+    };
+    let (told, left) = recorded(alloc, &mut sink)?;
+    let file = sink.list.as_slice();
+    Ok(told.as_slice() == answers && file.len() == len && FILE.starts_with(file) && left)
+}
+
+#[test]
+fn each_put_finds_no_memory_once(rt: HostRuntime) -> Result<(), Fail> {
+    let alloc = rt.alloc();
+    assert!(rt; is_starved(alloc, 0, b"OO.....OOOOOOOOOO", 0)?);
+    assert!(rt; is_starved(alloc, 1, b"MM.....MMOOOOOOOO", 13)?);
+    assert!(rt; is_starved(alloc, 2, b"MM.....MMMMOOOOOO", 31)?);
+    assert!(rt; is_starved(alloc, 3, b"MM.....MMMMMMOOOO", 48)?);
+    Ok(())
 }
 
 #[test]

@@ -1,5 +1,5 @@
 //! The packets of a transport stream (ISO/IEC 13818-1): those of a section and of a PES packet, the header of a PES packet,
-//! and the check of a section.
+//! the sections of the two tables, and the check of a section.
 #![tactic(auto)]
 
 mod check;
@@ -7,8 +7,10 @@ mod flags;
 mod header;
 mod packet;
 mod packets;
+mod tables;
 
 pub use check::crc;
 pub use flags::PesFlags;
 pub use header::pes_header;
 pub use packets::{put_pes, put_section};
+pub use tables::{AUDIO_PID, PAT_PID, PMT_PID, VIDEO_PID, pat_section, pmt_section};

@@ -147,6 +147,7 @@ fn deliver<W: Wait>(rt: &W, alloc: Global, door: MemDoor) -> Result<MemDoor, Out
         door,
         recorders: _,
         refused: _,
+        worn: _,
     } = worker.finish();
     Ok(door)
 }

@@ -1,6 +1,6 @@
 ghost use Rattle.std.specs.Prelude.{◌≡◌, ◌++◌, codes, map, IfOk, OnOk, string_bytes};
 ghost use Rattle.std.specs.Fmt.{decimal};
-ghost use Rattle.relay_config.specs.Report.{shown, cause_text, report_text};
+ghost use Rattle.relay_config.specs.Report.{shown, piece, shown_text, cause_text, report_text};
 
 use crate::ConfigFail;
 use av_unit::{Bytes, OutOfMemory};
@@ -8,18 +8,46 @@ use std::alloc::Global;
 
 const DELETE: u8 = 127;
 
+// The byte with which UTF-8 begins U+0080 to U+00BF.
+const LEAD: u8 = 0xC2;
+
+// Behind that byte, the first of a character that is none of control.
+const BEHIND_CONTROL: u8 = 0xA0;
+
 fn shown(b: u8) -> u8
     ensures { result ≡ shown b }
 {
     if b < 32 || b == DELETE { b'?' } else { b }
 }
 
+// Adds what a byte shows behind the byte before it.
+fn append_piece(line: &mut Vec<u8>, before: u8, b: u8) -> Result<(), OutOfMemory>
+    ensures { OnOk result (line.new.items ≡ line.old.items ++ piece before b) }
+{
+    if b == LEAD {
+        return Ok(());
+    }
+    if before != LEAD {
+        line.push(shown(b))?;
+        return Ok(());
+    }
+    if b < BEHIND_CONTROL {
+        line.push(b'?')?;
+        return Ok(());
+    }
+    line.push(LEAD)?;
+    line.push(b)?;
+    Ok(())
+}
+
 // Adds a key of the text to the line, with `?` for each control character.
 fn append_shown(line: &mut Vec<u8>, key: &[u8]) -> Result<(), OutOfMemory>
-    ensures { OnOk result (line.new.items ≡ line.old.items ++ map shown key.now) }
+    ensures { OnOk result (line.new.items ≡ line.old.items ++ shown_text 0 key.now) }
 {
+    let mut before = 0;
     for b in key {
-        line.push(shown(*b))?;
+        append_piece(line, before, *b)?;
+        before = *b;
     }
     Ok(())
 }
@@ -62,7 +90,7 @@ fn too_much(alloc: Global, sum: u64) -> Result<String, OutOfMemory>
 
 /// The line that reports a refused configuration: `bad configuration`, and then `not toml`, `unknown KEY`,
 /// `missing KEY`, `range KEY`, `twice PLACE` or `too much SUM`. A key that the text has is written as it is there,
-/// but with `?` for each control character.
+/// but with `?` for each control character, those from U+0080 to U+009F too.
 pub fn report(alloc: Global, fail: &ConfigFail) -> Result<Bytes, OutOfMemory>
     ensures { IfOk result (λ line. line ≡ report_text fail.now) }
 {

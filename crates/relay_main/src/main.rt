@@ -5,12 +5,17 @@ ghost use Rattle.std.specs.Prelude.{◌≡◌};
 ghost use Rattle.key_guard.specs.Allowed.{is_allowed};
 
 mod adapters;
+mod check_config;
+mod segments;
 mod serve;
 mod texts;
 
 use adapters::{Reading, Writing};
+use file_commands::{Remuxed, remux_and_tell};
 use key_guard::{Grants, Guard, Guards, Mode, by_digest, by_name};
 use relay_base::Status;
+use relay_edge::Shown;
+use relay_outside::{Sink, Source};
 use relay_program::{Command, command_of, run};
 use std::fs::{File, Files};
 use std::io::Eprint;
@@ -18,8 +23,8 @@ use std::net::Net;
 use std::process::ExitCode;
 use std::sync::Wait;
 use std::thread::Threads;
-use std::{env, io, net};
-use texts::{HELP, USAGE, VERSION};
+use std::{env, io, net, str};
+use texts::{ABOUT, COMMANDS, STATUS, USAGE, VERSION};
 
 /// The exit code of a faulty command line.
 const BAD_WORDS: u8 = 2;
@@ -39,6 +44,9 @@ const NO_MEMORY: u8 = 6;
 /// The exit code of a file of which a unit was left out.
 const LEFT_OUT: u8 = 8;
 
+/// The exit code of a film of which more than 100,000 segments would be made.
+const TOO_MANY: u8 = 9;
+
 // The words after the program's name. One that isn't UTF-8 is invalid data.
 fn words(rt: &HostRuntime) -> io::Result<Vec<Vec<u8>>> {
     let mut words = Vec::new(rt.alloc());
@@ -56,7 +64,7 @@ fn status(code: u8) -> Status {
 fn tell_fault(rt: &HostRuntime, stream: &str, error: Option<io::Error>) {
     if let Some(error) = error {
         if error.kind() != io::ErrorKind::BrokenPipe {
-            let _ = eprintln!(rt; "relay: {stream}: {error}");
+            let _ = eprintln!(rt; "relay: {}: {error}", Shown { text: stream });
         }
     }
 }
@@ -99,11 +107,35 @@ fn is_digested(grants: &Grants, key: &[u8]) -> bool
     by_digest(grants, key)
 }
 
+// Makes a transport stream of a file of FLV, and says on standard error what of the file isn't in it.
+fn remux<S: Source, K: Sink>(
+    rt: &HostRuntime,
+    words: &[Vec<u8>],
+    input: &mut S,
+    out: &mut K,
+) -> Status {
+    let Remuxed {
+        status,
+        left_out,
+        enhanced,
+    } = remux_and_tell(rt.alloc(), words, input, out);
+    if left_out.count > 0 {
+        let _ = eprintln!(rt; "relay: {left_out}");
+    }
+    if enhanced {
+        let _ = eprintln!(rt; "relay: pictures in the form of Enhanced RTMP were passed over");
+    }
+    status
+}
+
 // Runs the command that the words name from standard input to standard output, and says why it didn't do all of it.
 fn command(rt: &HostRuntime, words: &[Vec<u8>], guards: &Guards) -> Status {
     let mut input = Reading::new(rt.reader());
     let mut out = Writing::new(io::writer(rt));
-    let ended = run(rt.alloc(), words, guards, &mut input, &mut out);
+    let ended = match command_of(words) {
+        Some(Command::Remux) => remux(rt, words, &mut input, &mut out),
+        _ => run(rt.alloc(), words, guards, &mut input, &mut out),
+    };
     let place = ended.place;
     match ended.code {
         READ_FAULT => tell_fault(rt, "standard input", input.error()),
@@ -112,23 +144,75 @@ fn command(rt: &HostRuntime, words: &[Vec<u8>], guards: &Guards) -> Status {
         NO_MEMORY => {
             let _ = eprintln!(rt; "relay: there was too little memory");
         }
-        LEFT_OUT => {
-            let _ = eprintln!(rt; "relay: units of sound or pictures were left out");
-        }
         _ => {}
     }
     ended
 }
 
-// Whether the first of the words is `serve`.
-fn is_serve(words: &[Vec<u8>]) -> bool {
+// Whether the word is that text.
+fn is(word: &[u8], text: &str) -> bool {
+    word == text.as_bytes()
+}
+
+// Whether the first of the words is that text.
+fn is_first(words: &[Vec<u8>], text: &str) -> bool {
+    words.first().is_some_and(|word| is(word, text))
+}
+
+// Whether the words ask for the program's help.
+fn is_help(word: &[u8]) -> bool {
+    is(word, "--help") || is(word, "-h") || is(word, "help")
+}
+
+// Prints one text after the other on standard output, until one fails.
+fn tell_all(rt: &HostRuntime, texts: &[&str]) -> Status {
+    let mut told = status(0);
+    for text in texts {
+        if told.code == 0 {
+            told = tell(rt, text);
+        }
+    }
+    told
+}
+
+// Prints what the program tells of itself and of each command.
+fn tell_help(rt: &HostRuntime) -> Status {
+    let mut told = tell_all(rt, &[ABOUT, "\n", USAGE]);
+    for (_, text) in COMMANDS {
+        if told.code == 0 {
+            told = tell_all(rt, &["\n", text]);
+        }
+    }
+    if told.code == 0 {
+        told = tell_all(rt, &["\n", STATUS]);
+    }
+    told
+}
+
+// What is told of the command, where there is one of that name.
+fn help_of(word: &[u8]) -> Option<&'static str> {
+    for (name, text) in COMMANDS {
+        if is(word, name) {
+            return Some(text);
+        }
+    }
+    None
+}
+
+// Answers the words that ask about the program. `None` where they ask for something else.
+fn about(rt: &HostRuntime, words: &[Vec<u8>]) -> Option<Status> {
     match words {
-        [word, ..] => word.as_slice() == b"serve".as_slice(),
-        [] => false,
+        [word] if is_help(word) => Some(tell_help(rt)),
+        [word] if is(word, "--version") => Some(tell(rt, VERSION)),
+        [word, asks] if is(asks, "--help") || is(asks, "-h") => {
+            let text = help_of(word)?;
+            Some(tell_all(rt, &[text, "\n", STATUS]))
+        }
+        _ => None,
     }
 }
 
-// Answers the words that ask about the program, and runs the command that others name.
+// Answers the words that ask about the program or a configuration, and runs the command that others name.
 fn answer<
     T: Threads
         + Wait
@@ -137,12 +221,12 @@ fn answer<
         + Files<File = File>
         + Net<Listener = net::TcpListener, Stream = net::TcpStream>,
 >(host: &HostRuntime, rt: &T, words: &[Vec<u8>]) -> Status {
-    if let [word] = words {
-        if word.as_slice() == b"--help".as_slice() {
-            return tell(host, HELP);
-        }
-        if word.as_slice() == b"--version".as_slice() {
-            return tell(host, VERSION);
+    if let Some(told) = about(host, words) {
+        return told;
+    }
+    if let [word, name] = words {
+        if is(word, "check-config") {
+            return check_config::command(host, rt, str::from_utf8(name.as_slice()).unwrap_or(""));
         }
     }
     let alloc = host.alloc();
@@ -154,8 +238,10 @@ fn answer<
     };
     let plain = Guard::new(Mode::Plain, named);
     let guards = Guards::new(plain, Guard::new(Mode::Digest, digested));
-    if is_serve(words) {
+    if is_first(words, "serve") {
         serve::command(host, rt, words, &guards)
+    } else if is_first(words, "segment") {
+        segments::command(host, rt, words)
     } else {
         command(host, words, &guards)
     }

@@ -4,7 +4,7 @@ use crate::adapters::{ConfigFile, Reading, Writing};
 use crate::{BAD_INPUT, NO_MEMORY, READ_FAULT, WRITE_FAULT, status, tell_fault};
 use key_guard::Guards;
 use relay_base::Status;
-use relay_edge::RealHouse;
+use relay_edge::{RealHouse, Shown};
 use relay_serve::serve;
 use std::fs::{File, Files};
 use std::io::Eprint;
@@ -37,6 +37,7 @@ pub fn command<
     let Ok(mut house) = RealHouse::new(rt, alloc) else {
         return status(NO_MEMORY);
     };
+    house.spare(name);
     let ended = serve(
         rt,
         alloc,
@@ -50,7 +51,8 @@ pub fn command<
         READ_FAULT => tell_fault(host, name, config.error()),
         BAD_INPUT => {
             let _ = eprintln!(host;
-                "relay: {name} is no configuration of a relay; standard output has the first test that it fails"
+                "relay: {} is no configuration of a relay; standard output has the first test that it fails",
+                Shown { text: name }
             );
         }
         WRITE_FAULT => tell_fault(host, "standard output", report.error()),

@@ -3,32 +3,44 @@
 pub const VERSION: &str = "relay 0.1.0\n";
 
 pub const USAGE: &str = "usage: relay serve FILE
+       relay check-config FILE
        relay drill < SCRIPT
        relay replay < SCRIPT
        relay soak N
        relay remux < FLV > TS
        relay check < TS
-       relay --help
+       relay segment NAME T < FLV > M3U8
+       relay [COMMAND] --help
        relay --version
 ";
 
-pub const HELP: &str = "relay: a live video relay, whose rules are proved
+pub const ABOUT: &str = "relay: a live video relay, whose rules are proved\n";
 
-usage: relay serve FILE
-       relay drill < SCRIPT
-       relay replay < SCRIPT
-       relay soak N
-       relay remux < FLV > TS
-       relay check < TS
-       relay --help
-       relay --version
+/// Each command with what is told of it.
+pub const COMMANDS: [(&str, &str); 8] = [
+    ("serve", SERVE),
+    ("check-config", CHECK_CONFIG),
+    ("drill", DRILL),
+    ("replay", REPLAY),
+    ("soak", SOAK),
+    ("remux", REMUX),
+    ("check", CHECK),
+    ("segment", SEGMENT),
+];
 
-relay serve listens as the configuration in FILE says: encoders publish to it
+const SERVE: &str = "relay serve listens as the configuration in FILE says: encoders publish to it
 over RTMP, players pull from it, and recorders write files. It says on standard
 error where it listens. With a bound on its links it ends when the last is gone,
 and prints a line for each stream; else it serves until it is killed.
+";
 
-relay drill reads a script of calls at one stream on standard input, makes
+const CHECK_CONFIG: &str =
+    "relay check-config reads the configuration in FILE as serve does, makes nothing and
+listens nowhere. It prints what the configuration allows: where the server would
+listen, its streams, and the most bytes that it holds at once with their parts.
+";
+
+const DRILL: &str = "relay drill reads a script of calls at one stream on standard input, makes
 each call, and prints its reply on standard output as it goes.
 
 Lines end with a line feed; the last may lack it. Words are parted by one
@@ -80,8 +92,10 @@ WHO and TIME are below 4294967296, PLAYER is below 256. LEN is at most 4194304,
 and at most 65536 for meta, vconfig and aconfig. BYTES is at most 268435456,
 ITEMS 1 to 65536, and PLAYERS 1 to 256. An item costs its bytes and 64 more. A
 line has at most 65536 bytes, and a script at most 268435456.
+";
 
-relay replay reads a script of connections on standard input, and prints at its
+const REPLAY: &str =
+    "relay replay reads a script of connections on standard input, and prints at its
 end what each was sent and how it ended. Sessions, recorders and streams are
 numbered from 0, in the order of their lines.
 
@@ -131,8 +145,9 @@ prints, with digits for bytes and - for none:
       as drill's held
   held TOTAL sum SUM
       What all hold together, and the most that they may.
+";
 
-relay soak makes a run of N units, 1 to 100000, over links in memory: one
+const SOAK: &str = "relay soak makes a run of N units, 1 to 100000, over links in memory: one
 session publishes them, and three play. It prints
 
   soak N
@@ -141,22 +156,34 @@ session publishes them, and three play. It prints
       Player P was sent I items, skipped K times and was sent B bytes.
   held TOTAL sum SUM
       as replay's
+";
 
-relay remux reads a file of FLV on standard input and writes it as a transport
+const REMUX: &str = "relay remux reads a file of FLV on standard input and writes it as a transport
 stream on standard output: its AVC as access units, its AAC in ADTS frames.
 Units of other codecs, units that can't be read and units without a
 configuration are left out.
+A file has at most 68719476736 bytes.
+";
 
-relay check reads a transport stream of this form on standard input, and prints
+const CHECK: &str = "relay check reads a transport stream of this form on standard input, and prints
 a line for each unit of it. Times are in 1/90000 second, and LEN is the number
 of a unit's bytes.
   video PTS DTS LEN
   audio PTS LEN
   units N              the last line: there are N units
-
 A file has at most 68719476736 bytes.
+";
 
-Exit status:
+const SEGMENT: &str =
+    "relay segment reads a file of FLV on standard input and cuts it into the transport
+streams NAME-0.ts, NAME-1.ts and so on in the folder in which it runs, at
+keyframes, each but the last T milliseconds long or longer. It writes their
+playlist, for any web server to serve, on standard output. A file has its name
+once it is whole, in place of one that was there. NAME is 1 to 64 letters,
+digits, '.', '_' or '-', T 1 to 3600000. There are at most 100000 segments.
+";
+
+pub const STATUS: &str = "Exit status:
   0  the input was read to its end; by serve, all were served; by soak, the run
      was made
   2  the command line is none of the above; nothing was read or written
@@ -165,10 +192,11 @@ Exit status:
      file is none, or none any more from a byte on. What the lines or the units
      before give is written, but by replay nothing. By serve, the configuration
      is refused, and standard output has the first test that it fails
-  5  standard output failed
+  5  standard output failed; by segment, also where a file did
   6  there was too little memory
-  7  the address or a file couldn't be had; nobody was served
+  7  the address or a file couldn't be had; by serve, nobody was served
   8  the file was read to its end, and a unit of sound or pictures was left out
+  9  by segment: there would be more than 100000 segments
 Where it isn't 0, the last line on standard error is 'relay: status CODE at
 PLACE'. With code 4 PLACE is the number of the script's line, the first being 1,
 or the number of the file's bytes before the place where it is refused; else it

@@ -259,6 +259,8 @@ impl House for WaitingHouse {
 
     ghost asked = { λ _. None };
 
+    ghost named = { λ _. None };
+
     fn door(&mut self, _worker: u32, _listen: &[u8], _accept: u32) -> Option<WaitingDoor> {
         match self.clients.pop() {
             Some(client) => Some(WaitingDoor::new(client)),

@@ -1,5 +1,5 @@
 -- What a feed and the end leave
-use Rattle.std.proofs.Common.{◌≡◌, ℕ, ◌+◌, ◌-◌, ◌<◌, ◌≤◌, ◌⊎◌, inl, inr, true, false, List, [], ◌++◌, length, take, drop}
+use Rattle.std.proofs.Common.{◌≡◌, ℕ, Bool, ◌+◌, ◌-◌, ◌<◌, ◌≤◌, ◌⊎◌, inl, inr, true, false, List, [], ◌++◌, length, take, drop}
 use Rattle.std.proofs.Common.{Option, Some, None, IfSome, is_some, refl, sym, ap, ◌∙◌, subst, arith, append_assoc, append-nil, length-append, length-drop}
 use Rattle.std.specs.Option.{option_to_list}
 use Rattle.std.proofs.lemmas.List.{length-take-le, take-append-drop, take_all}
@@ -15,12 +15,15 @@ use Rattle.ts_reader.specs.Feeds.{IsFedTo, IsRefused, IsRefusedAtEnd, IsTakenTo,
 use Rattle.ts_reader.specs.Sound.{Fails, IsLast, IsSound, IsStanding, LastFails, Takes, mux_of}
 use Rattle.ts_reader.proofs.Standing.{before_last, nothing_stands, stands_of, stopped, taken_gives, taken_stood}
 
+two_ways : (b : Bool) → b ≡ false → b ≡ true → ⊥
+two_ways b f t = cc
+
 -- a reader that was fed nothing
 pub sound_new : (state : State) (part fed : List ℕ) (given : List TsUnit) → mux_of state ≡ start → part ≡ [] → fed ≡ [] → given ≡ []
     → IsSound state part 0 None fed given
 sound_new state part fed given s p f g =
     let standing : IsStanding fed given 0 (mux_of state) part = rw (s, p, f, g) nothing_stands in
-    record { read = stands_of fed given 0 (mux_of state) part None standing; standing = λ _. standing }
+    record { read = stands_of fed given 0 (mux_of state) part None standing; standing = λ _. standing; dropped = λ l. absurd (cc) }
 
 -- bytes that were taken
 pub record AdvancedOk (fed : List ℕ) (given : List TsUnit) (piece : List ℕ) (used : ℕ) (u : Option TsUnit) (state : State) (part : List ℕ) (at : ℕ)
@@ -43,7 +46,7 @@ advance_ok old new part rest at later failed fed fed_now given given_now piece u
     let read = stands_of (fed ++ take used piece) (given ++ option_to_list u) later (mux_of new) rest failed stood in
     let P : List ℕ → List TsUnit → Type 0 = λ b us. AdvancedOk fed given piece used u new rest later failed b us in
     let whole : P (fed ++ take used piece) (given ++ option_to_list u) = record {
-      sound = record { read = read; standing = λ _. stood };
+      sound = record { read = read; standing = λ _. stood; dropped = λ d. absurd (two_ways (is_some failed) live d) };
       taken = record {
         within = within;
         some = some;
@@ -65,9 +68,9 @@ pub record AdvancedErr (fed : List ℕ) (given : List TsUnit) (piece : List ℕ)
 pub advance_err : (old new : State) (part rest : List ℕ) (at : ℕ) (failed : Option TsFail) (fed fed_now : List ℕ) (given : List TsUnit) (piece : List ℕ)
     (used : ℕ) (e : TsFail)
     → IsSound old part at failed fed given → failed ≡ None → 0 < used → used ≤ length piece → length part + used ≤ 188
-    → (e ≡ OutOfMemory) ⊎ Fails at (mux_of old) part (take used piece) e → fed_now ≡ fed ++ take (used - 1) piece
+    → (e ≡ OutOfMemory) ⊎ Fails at (mux_of old) part (take used piece) e → fed_now ≡ fed ++ take (used - 1) piece → mux_of new ≡ start → rest ≡ []
     → AdvancedErr fed given piece e new rest at failed fed_now
-advance_err old new part rest at failed fed fed_now given piece used e s lives some within room fails f =
+advance_err old new part rest at failed fed fed_now given piece used e s lives some within room fails f state none =
     let live : is_some failed ≡ false = ap (λ (o : Option TsFail). is_some o) lives in
     let standing = s.standing live in
     let stood = before_last fed given at (mux_of old) part piece used standing some room in
@@ -79,7 +82,7 @@ advance_err old new part rest at failed fed fed_now given piece used e s lives s
     ] in
     let P : List ℕ → Type 0 = λ b. AdvancedErr fed given piece e new rest at failed b in
     let whole : P (fed ++ take (used - 1) piece) = record {
-      sound = record { read = read; standing = λ l. absurd (cc) };
+      sound = record { read = read; standing = λ l. absurd (cc); dropped = λ _. record { state = state; none = none } };
       refused = record {
         after = used - 1;
         within = omega arith;

@@ -1,4 +1,3 @@
-pub mod Maps
 pub mod Units
 pub mod Standing
 pub mod Feeding

@@ -9,10 +9,9 @@ use Rattle.pes_packets.specs.Crc.{crc_of}
 use Rattle.pes_packets.specs.Packet.{section_text}
 use Rattle.pes_packets.specs.Tables.{count_of, pat, pmt}
 use Rattle.pes_packets.proofs.Bits.{head_is}
+use Rattle.pes_packets.proofs.Sections.{map_bytes, pmt_is}
 use Rattle.ts_reader.specs.Fields.{counter_in}
 use Rattle.ts_reader.specs.Sections.{is_pat, is_pmt, listed_in, version_in}
-use Rattle.ts_reader.specs.Sound.{map_head, map_stream}
-use Rattle.ts_reader.proofs.Maps.{pmt_is}
 
 -- the first bytes of a section's packet
 section_is : (pid c : ℕ) (s : List ℕ) → pid < 8192 → c < 16
@@ -32,10 +31,10 @@ pat_read c n = ap (λ (k : ℕ). bytes_eq (section_text 0 k pat) (section_text 0
 
 -- a map's section
 abbrev head : Bool → Bool → ℕ → List ℕ
-head v a n = (map_head v a n ++ map_stream v 27 0) ++ map_stream a 15 1
+head v a n = map_bytes v a (13 + 5 * count_of v a) n
 
 map_text : (v a : Bool) (n : ℕ) → n < 32 → pmt v a n ≡ head v a n ++ bytes_high_first 4 (crc_of (head v a n))
-map_text v a n h = sym (pmt_is v a n (head v a n) h refl)
+map_text v a n h = pmt_is v a n h
 
 -- a byte of its packet
 map_packet : (v a : Bool) (n c : ℕ) → n < 32 → c < 16

@@ -1,7 +1,6 @@
 -- Only proofs and private functions use it.
 -- What a reader keeps true of its fields, and what its steps leave
-use Rattle.std.specs.Prelude.{◌≡◌, ◌⊎◌, ◌<◌, ℕ, ◌+◌, ◌*◌, Bool, if◌then◌else◌, List, [], ◌∷◌, ◌++◌, length, Option, None, option_map, is_some, false, Result, Ok, Err}
-use Rattle.pes_packets.specs.Tables.{count_of}
+use Rattle.std.specs.Prelude.{◌≡◌, ◌⊎◌, ◌<◌, ℕ, List, [], ◌++◌, length, Option, None, option_map, is_some, true, false, Result, Ok, Err}
 use Rattle.ts_reader.specs.declared.unit.TsUnit.{TsUnit}
 use Rattle.ts_reader.specs.declared.fail.TsFail.{TsFail}
 use Rattle.ts_reader.specs.declared.fail.TsFail.TheVariants.{NoSync, OutOfMemory}
@@ -12,7 +11,7 @@ use Rattle.ts_reader.specs.declared.tables.Streams.{Streams}
 use Rattle.ts_reader.specs.Fields.{packet_size}
 use Rattle.ts_reader.specs.Times.{Told}
 use Rattle.ts_reader.specs.Sections.{Listed}
-use Rattle.ts_reader.specs.Mux.{Mux, Opened}
+use Rattle.ts_reader.specs.Mux.{Mux, Opened, start}
 use Rattle.ts_reader.specs.Steps.{Step, closed, step}
 use Rattle.ts_reader.specs.Reads.{Packets}
 use Rattle.ts_reader.specs.Feeds.{Stands}
@@ -37,14 +36,6 @@ mux_of s = record {
   listed = listed_of s.listed;
   pes = option_map opened_of s.pes;
 }
-
--- the bytes of a map before its streams, and those of one of them
-abbrev pub map_head : Bool → Bool → ℕ → List ℕ
-map_head video audio version =
-    2 ∷ 0xB0 ∷ (13 + 5 * count_of video audio) ∷ 0 ∷ 1 ∷ (0xC1 + 2 * version) ∷ 0 ∷ 0 ∷ 0xE1 ∷ (if video then 0 else 1) ∷ 0xF0 ∷ 0 ∷ []
-
-abbrev pub map_stream : Bool → ℕ → ℕ → List ℕ
-map_stream listed type pid = if listed then type ∷ 0xE1 ∷ pid ∷ 0xF0 ∷ 0 ∷ [] else []
 
 -- what was answered and left is what a step says, unless memory was refused
 abbrev pub Does : Result (Option TsUnit) TsFail → Step → Mux → Type 0
@@ -94,6 +85,13 @@ pub record IsStanding (fed : List ℕ) (given : List TsUnit) (at : ℕ) (m : Mux
   pub short : length r < packet_size
   pub place : at ≡ length whole
 
+-- nothing is kept of what was fed
+pub record IsDropped (m : Mux) (part : List ℕ) : Type 0 where
+  pub state : m ≡ start
+  pub none : part ≡ []
+
 pub record IsSound (state : State) (part : List ℕ) (at : ℕ) (failed : Option TsFail) (fed : List ℕ) (given : List TsUnit) : Type 0 where
   pub read : Stands (record { fed = fed; given = given; failed = failed })
   pub standing : is_some failed ≡ false → IsStanding fed given at (mux_of state) part
+  -- one that refused keeps nothing
+  pub dropped : is_some failed ≡ true → IsDropped (mux_of state) part

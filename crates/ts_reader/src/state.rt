@@ -7,15 +7,11 @@ ghost use Rattle.ts_reader.specs.Sound.{Does, DoesMore, mux_of, opened_of};
 use crate::header::read_header;
 use crate::packet::{counter_of, has_no_marks, has_start, payload_place, pid_of};
 use crate::payload::may_be_carried;
-use crate::tables::{PAT_PID, PMT_PID, Streams, has_pat, streams_in};
+use crate::tables::{Streams, has_pat, streams_in};
 use crate::{TsFail, TsUnit};
 use av_unit::Bytes;
+use pes_packets::{AUDIO_PID, PAT_PID, PMT_PID, VIDEO_PID};
 use std::alloc::Global;
-
-// The PIDs of the streams.
-const VIDEO_PID: u16 = 0x100;
-
-const AUDIO_PID: u16 = 0x101;
 
 const SYNC: u8 = 0x47;
 

@@ -34,7 +34,7 @@ use Rattle.ts_writer.specs.Frames.{Frame, video_config, audio_config, of_avc, pe
 use Rattle.ts_writer.specs.Parts.{pid_of, counter, version, part_text, text_behind, tables_due, flags_of}
 use Rattle.ts_writer.specs.Text.{Reading, nothing_of, frame_in, reading_of, listed, part_of, frame_parts, parts_by, added}
 use Rattle.ts_writer.specs.Held.{IsWithin, IsWithinOrNone, IsSmall, most_added}
-use Rattle.ts_writer.proofs.Sections.{pat_is, map_short}
+use Rattle.pes_packets.proofs.Sections.{pat_is, map_short}
 use Rattle.ts_writer.proofs.Sizes.{front_whole, started_length}
 use Rattle.ts_writer.proofs.Texts.{small_version, frame_length}
 

@@ -1,5 +1,4 @@
 pub mod Keeping
-pub mod Sections
 pub mod Texts
 pub mod Worked
 pub mod Sizes

@@ -7,8 +7,7 @@ ghost use Rattle.ts_writer.specs.Parts.{pid_of as pid_is, counter, is_last, list
 ghost use Rattle.ts_writer.specs.Ahead.{ahead_of};
 
 use crate::part::{Pes, Streams};
-use crate::tables::choice;
-use pes_packets::PesFlags;
+use pes_packets::{AUDIO_PID, PesFlags, VIDEO_PID};
 
 // How many units of sound stand between tables where there are no pictures.
 const SOUNDS: u8 = 32;
@@ -35,7 +34,14 @@ pub struct Ahead {
 pub fn pid_of(video: bool) -> u16
     ensures { result ≡ pid_is video }
 {
-    if video { 0x100 } else { 0x101 }
+    if video { VIDEO_PID } else { AUDIO_PID }
+}
+
+/// A number where something is so, else another.
+pub fn choice(so: bool, number: u8, other: u8) -> u8
+    ensures { result ≡ (if so then number else other) }
+{
+    if so { number } else { other }
 }
 
 impl Ahead {

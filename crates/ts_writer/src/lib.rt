@@ -10,7 +10,6 @@ mod left;
 mod multiplex;
 mod part;
 mod stop;
-mod tables;
 mod units;
 mod writer;
 

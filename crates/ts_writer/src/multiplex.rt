@@ -6,20 +6,14 @@ ghost use Rattle.ts_writer.specs.Parts.{part_text, text_behind, with_parts, tabl
 ghost use Rattle.ts_writer.specs.Frames.{IsFramed};
 ghost use Rattle.ts_writer.specs.Text.{frame_parts};
 
-use crate::ahead::{Ahead, pid_of};
+use crate::ahead::{Ahead, choice, pid_of};
 use crate::framed::Framed;
 use crate::part::{Part, Pes, Streams};
-use crate::tables::{choice, pat_section, pmt_section};
 use av_unit::{Bytes, OutOfMemory};
 use past::History;
-use pes_packets::{PesFlags, put_pes, put_section};
+use pes_packets::{PAT_PID, PMT_PID, PesFlags, pat_section, pmt_section, put_pes, put_section};
 use std::alloc::Global;
 use std::marker::Model;
-
-// The PIDs of the two tables.
-const PAT_PID: u16 = 0;
-
-const PMT_PID: u16 = 0x1000;
 
 /// A transport stream that is written. Contracts see it as its parts, the newest first.
 #[derive(Drop)]
@@ -83,7 +77,7 @@ impl Multiplex {
     {
         let ahead = self.ahead;
         let version = ahead.version_of(streams);
-        let section = pmt_section(self.alloc, streams, version)?;
+        let section = pmt_section(self.alloc, streams.video, streams.audio, version)?;
         let pat = put_section(PAT_PID, ahead.pat, pat_section(), out)?;
         let pmt = put_section(PMT_PID, ahead.pmt, section.as_slice(), out)?;
         self.ahead = ahead.after_tables(streams, pat, pmt, version);

@@ -187,8 +187,18 @@ fn front(file: &MemSink) -> u8 {
     }
 }
 
+// Whether a recorder joined before its stream had an item.
+fn from(number: Option<u64>) -> u8 {
+    match number {
+        Some(0) => b'0',
+        Some(_) => b'+',
+        None => b'-',
+    }
+}
+
 // Runs a worker over a door with two such links, with a recorder that writes FLV and one that writes a transport stream. What
-// its links took as they came back, whether something was refused for want of memory, and how its files begin.
+// its links took as they came back, whether something was refused for want of memory, from where its recorders joined and how their
+// files begin.
 fn ran<W: Wait, P: StreamPort>(
     rt: &W,
     alloc: Global,
@@ -206,18 +216,21 @@ fn ran<W: Wait, P: StreamPort>(
     let mut worker = Worker::new(alloc, 0, 2, LIMITS, port, door, MemRest)?;
     worker.enlist(Recorder::Flv(flv, MemSink::new(alloc, Vec::new(alloc))))?;
     worker.enlist(Recorder::Ts(ts, MemSink::new(alloc, Vec::new(alloc))))?;
+    worker.ready(rt);
     worker.run(rt, &At { place });
     let Finished {
         port: _,
         door,
         recorders,
         refused,
+        worn: _,
     } = worker.finish();
     let mut seen = Vec::new(alloc);
     seen.push(took(&door, 0))?;
     seen.push(took(&door, 1))?;
     seen.push(if refused { b'!' } else { b'.' })?;
     for recorder in recorders {
+        seen.push(from(recorder.joined_from()))?;
         seen.push(front(&recorder.into_file()))?;
     }
     Ok(seen)
@@ -254,9 +267,9 @@ fn balked<W: Wait>(
 #[test]
 fn each_link_comes_back(rt: HostRuntime) -> Result<(), Fail> {
     let alloc = rt.alloc();
-    assert!(rt; alone(&rt, alloc, b'h', b'v', 0)?.as_slice() == b"h0.F-".as_slice());
-    assert!(rt; alone(&rt, alloc, b'h', b'v', 1)?.as_slice() == b"h0.F-".as_slice());
-    assert!(rt; alone(&rt, alloc, b'p', b'p', 0)?.as_slice() == b"++.FG".as_slice());
-    assert!(rt; balked(&rt, alloc, b'p', b'h', 100)?.as_slice() == b"+h.FG".as_slice());
+    assert!(rt; alone(&rt, alloc, b'h', b'v', 0)?.as_slice() == b"h0.0F0-".as_slice());
+    assert!(rt; alone(&rt, alloc, b'h', b'v', 1)?.as_slice() == b"h0.0F0-".as_slice());
+    assert!(rt; alone(&rt, alloc, b'p', b'p', 0)?.as_slice() == b"++.0F0G".as_slice());
+    assert!(rt; balked(&rt, alloc, b'p', b'h', 100)?.as_slice() == b"+h.0F0G".as_slice());
     Ok(())
 }

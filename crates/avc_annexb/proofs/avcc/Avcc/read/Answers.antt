@@ -1,39 +1,9 @@
-use Rattle.std.proofs.Common.{◌≡◌, refl, sym, inl, inr, arith, length}
-use Rattle.std.proofs.lemmas.Result.{err_from_is_err_and}
-use Rattle.avc_annexb.proofs.Sets.{size_stops, sps_stop, pps_none, pps_stop, whole}
+use Rattle.std.proofs.Common.{arith}
+use Rattle.avc_annexb.proofs.Records.{gives_found, gives_only}
 use Rattle.avc_annexb.proofs.avcc.Avcc.read.Goals as goal
 
-pub returns-in_err-size-clause-exact : goal.returns-in_err-size-clause-exact
-returns-in_err-size-clause-exact c =
-    let p = err_from_is_err_and c.from_residual.result c.from_residual.ensures.1 in
-    let h = c.in_err-size.ensures.value in
-    rw (p.1, p.2) (inr (size_stops c.args.body.now c.in_err-size.field-0.0 (sym h)))
+pub returns-clause-found : goal.returns-clause-found
+returns-clause-found c = gives_found c.read_record.result c.args.body.now (λ i. omega (arith, c.type_inv.body i)) c.read_record.ensures
 
-pub returns-in_err-sps-clause-exact : goal.returns-in_err-sps-clause-exact
-returns-in_err-sps-clause-exact c =
-    let p = err_from_is_err_and c.from_residual-in_err-sps.result c.from_residual-in_err-sps.ensures.1 in
-    rw (p.1, p.2) (elim c.in_err-sps.ensures.exact [
-      | inl o ↦ inl o
-      | inr s ↦ inr (sps_stop c.args.body.now c.after.result.now c.in_ok-size.size _ c.in_err-sps.field-0.0 (sym c.in_ok-size.ensures.value) refl c.after.ensures s)
-    ])
-
-pub returns-in_default-clause-exact : goal.returns-in_default-clause-exact
-returns-in_default-clause-exact c =
-    inr (pps_none c.args.body.now c.after.result.now c.in_ok-sps.rest.now c.in_ok-size.size _ c.in_ok-sps.sps (sym c.in_ok-size.ensures.value) refl c.after.ensures
-    c.in_ok-sps.ensures.exact (omega arith))
-
-pub returns-in_err-pps-clause-exact : goal.returns-in_err-pps-clause-exact
-returns-in_err-pps-clause-exact c =
-    let p = err_from_is_err_and c.from_residual-in_err-pps.result c.from_residual-in_err-pps.ensures.1 in
-    let many : c.len.result ≡ length c.in_ok-sps.sps = c.len.ensures in
-    rw (p.1, p.2) (elim (rw many at c.in_err-pps.ensures.exact) [
-      | inl o ↦ inl o
-      | inr s ↦ inr (pps_stop c.args.body.now c.after.result.now c.in_ok-sps.rest.now c.after-2.result.now c.in_ok-size.size _ c.in_ok-sps.sps c.in_err-pps.field-0.0
-          (sym c.in_ok-size.ensures.value) refl c.after.ensures c.in_ok-sps.ensures.exact c.in-len1-up.len_at_least c.after-2.ensures s)
-    ])
-
-pub returns-clause-exact : goal.returns-clause-exact
-returns-clause-exact c =
-    let many : c.len.result ≡ length c.in_ok-sps.sps = c.len.ensures in
-    whole c.args.body.now c.after.result.now c.in_ok-sps.rest.now c.after-2.result.now c.in_ok-pps.field-0-1.now c.in_ok-size.size _ c.in_ok-sps.sps c.in_ok-pps.pps
-    (sym c.in_ok-size.ensures.value) refl c.after.ensures c.in_ok-sps.ensures.exact c.in-len1-up.len_at_least c.after-2.ensures (rw many at c.in_ok-pps.ensures.exact)
+pub returns-clause-only : goal.returns-clause-only
+returns-clause-only c = λ config is. gives_only c.read_record.result c.args.body.now config c.read_record.ensures is

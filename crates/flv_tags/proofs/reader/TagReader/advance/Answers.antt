@@ -24,10 +24,10 @@ pub invariant_of-self-in-Err : goal.invariant_of-self-in-Err
 invariant_of-self-in-Err c =
     let lives = ap (λ (k : Known). k.failed) c.self.view_is ∙ c.requires.lives in
     (advance_err c.self.inside.part c.nothing.result c.self.inside.count c.self.inside.failed c.self.inside.fed c.self.inside.given c.args.piece.now
-    c.in-Err.fail c.self.invariant lives c.requires.some c.in-Err.ensures.err).sound
+    c.in-Err.fail c.self.invariant lives c.requires.some c.in-Err.ensures.err c.nothing.ensures.none).sound
 
 pub returns-in-Err-clause-err : goal.returns-in-Err-clause-err
 returns-in-Err-clause-err c =
     let lives = ap (λ (k : Known). k.failed) c.self.view_is ∙ c.requires.lives in
     rw (← c.self.view_is) (advance_err c.self.inside.part c.nothing.result c.self.inside.count c.self.inside.failed c.self.inside.fed
-    c.self.inside.given c.args.piece.now c.in-Err.fail c.self.invariant lives c.requires.some c.in-Err.ensures.err).refused
+    c.self.inside.given c.args.piece.now c.in-Err.fail c.self.invariant lives c.requires.some c.in-Err.ensures.err c.nothing.ensures.none).refused

@@ -1,5 +1,6 @@
 use Rattle.std.proofs.Common.{refl}
 use Rattle.media_recorder.specs.Turns.{is_empty}
+use Rattle.media_recorder.proofs.Joining.{works_join}
 use Rattle.media_recorder.proofs.Longest.{works_leave}
 use Rattle.media_recorder.proofs.Saying.{works_say}
 use Rattle.media_recorder.proofs.Tying.{works_tally, works_tie}
@@ -27,3 +28,8 @@ pub returns-in-None-clause-longest : goal.returns-in-None-clause-longest
 returns-in-None-clause-longest g c =
     let P = g.P.StreamPort in
     works_leave P.rules P.root P.busies P.seen P.mine P.count g.K.Sink.takes (is_empty c.args.self.now.tape.pending) c.args.port.now c.work.new.port c.args.sink.now c.work.new.sink c.args.self.now c.work.result c.work.new.self c.work.ensures.works
+
+pub returns-in-None-clause-from : goal.returns-in-None-clause-from
+returns-in-None-clause-from g c =
+    let P = g.P.StreamPort in
+    works_join P.rules P.root P.busies P.seen P.mine P.count g.K.Sink.takes (is_empty c.args.self.now.tape.pending) c.args.port.now c.work.new.port c.args.sink.now c.work.new.sink c.args.self.now c.work.result c.work.new.self c.work.ensures.works

@@ -31,7 +31,7 @@ invariant_of-self-in-Err c =
     let short = part_short i.state i.part i.at i.failed i.fed i.given c.self.invariant lives in
     let fed : c.add_all-in-Err.new.self ≡ i.fed ++ take (c.min-used.result - 1) c.args.piece.now = grind (arith, common_steps, c.add_all-in-Err.ensures) in
     (advance_err i.state c.before-in-Err.result i.part c.new.result i.at i.failed i.fed c.add_all-in-Err.new.self i.given c.args.piece.now c.min-used.result c.in-Err.fail
-    c.self.invariant lives (omega arith) (omega arith) (omega arith) c.in-Err.ensures.err fed).sound
+    c.self.invariant lives (omega arith) (omega arith) (omega arith) c.in-Err.ensures.err fed c.before-in-Err.ensures c.new.ensures).sound
 
 pub returns-in-Err-clause-err : goal.returns-in-Err-clause-err
 returns-in-Err-clause-err c =
@@ -40,4 +40,4 @@ returns-in-Err-clause-err c =
     let short = part_short i.state i.part i.at i.failed i.fed i.given c.self.invariant lives in
     let fed : c.add_all-in-Err.new.self ≡ i.fed ++ take (c.min-used.result - 1) c.args.piece.now = grind (arith, common_steps, c.add_all-in-Err.ensures) in
     rw (← c.self.view_is) (advance_err i.state c.before-in-Err.result i.part c.new.result i.at i.failed i.fed c.add_all-in-Err.new.self i.given c.args.piece.now c.min-used.result c.in-Err.fail
-    c.self.invariant lives (omega arith) (omega arith) (omega arith) c.in-Err.ensures.err fed).refused
+    c.self.invariant lives (omega arith) (omega arith) (omega arith) c.in-Err.ensures.err fed c.before-in-Err.ensures c.new.ensures).refused

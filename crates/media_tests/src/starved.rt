@@ -1,0 +1,33 @@
+//! A sink that runs out of memory.
+use relay_outside::{Put, Sink};
+
+/// Takes whole pieces, and has no memory once it has taken so many more.
+#[derive(Drop)]
+pub struct Starved {
+    pub list: Vec<u8>,
+    pub puts: u64,
+}
+
+impl Sink for Starved {
+    ghost use Rattle.std.specs.Prelude.{Some};
+    ghost use Rattle.relay_outside.specs.Put.{PutStep};
+
+    ghost holds = { λ s. Some s.list.items };
+
+    ghost faults = { λ _. 0 };
+
+    ghost takes = { λ s piece answer t. PutStep piece (Some s.list.items) (Some t.list.items) 0 0 answer };
+
+    fn put(&mut self, piece: &[u8]) -> Put {
+        if self.puts == 0 {
+            return Put::OutOfMemory;
+        }
+        self.puts -= 1;
+        match self.list.extend_from_slice(piece) {
+            Ok(()) => Put::Took(piece.len()),
+            Err(_) => Put::OutOfMemory,
+        }
+    }
+
+    ghost takes_mean = { λ s piece answer t some step. step };
+}

@@ -1,0 +1,202 @@
+//! `relay check-config`: what a configuration allows, or the first test that it fails.
+
+use crate::adapters::ConfigFile;
+use crate::{BAD_INPUT, NO_MEMORY, READ_FAULT, status, tell, tell_fault};
+use key_guard::Grants;
+use relay_base::Status;
+use relay_config::{Config, ConfigFail, Key, PlaceRule, read_config, report, sum, sum_of};
+use relay_edge::Shown;
+use std::alloc::{AllocError, Global};
+use std::fs::{File, Files};
+use std::io::{Eprint, Read};
+use std::{io, str};
+
+/// No further bytes of a file are read from here on: more than a configuration may have.
+const MOST: usize = 1_048_577;
+
+fn read<R: Files<File = File>>(rt: &R, alloc: Global, name: &str) -> io::Result<Vec<u8>> {
+    let mut file = ConfigFile::open(rt, name);
+    let mut bytes = Vec::new(alloc);
+    let mut piece = [0u8; 4096];
+    for _ in 0..MOST {
+        let count = match file.read(&mut piece) {
+            Ok(count) => count,
+            Err(error) if error.kind() == io::ErrorKind::Interrupted => continue,
+            Err(error) => return Err(error),
+        };
+        match piece.get(..count) {
+            Some(some) if count > 0 && bytes.len() < MOST => bytes.extend_from_slice(some)?,
+            _ => break,
+        }
+    }
+    Ok(bytes)
+}
+
+// What the key's value may be.
+fn range(key: Key) -> &'static str {
+    match key {
+        Key::Relay => "it is a table",
+        Key::Stream => "there are 1 to 64 tables [[stream]]",
+        Key::Listen => "a text of 1 to 64 bytes, as \"127.0.0.1:1935\"",
+        Key::Workers => "1 to 16",
+        Key::Links => "1 to 64",
+        Key::Accept => "0 to 1000000",
+        Key::MaxMessage => "4096 to 4194304",
+        Key::RingBytes => "max_message + 64 to 268435456",
+        Key::RingItems => "16 to 65536",
+        Key::Players => "4 to 256",
+        Key::Window => "1000 to 2147483647",
+        Key::App | Key::Name => "1 to 64 letters of ASCII, digits, '.', '_' or '-'",
+        Key::Publish | Key::Play => {
+            "a list of keys of 1 to 64 bytes, or where digest is true of 64 digits from 0 to f"
+        }
+        Key::Digest => "true or false",
+        Key::Flv | Key::Ts => "a text of 1 to 255 bytes",
+    }
+}
+
+// Says in words why a configuration is refused.
+fn tell_why<R: Eprint>(rt: &R, name: &str, fail: &ConfigFail) {
+    let name = Shown { text: name };
+    let _ = match fail {
+        ConfigFail::NotToml => eprintln!(rt;
+            "relay: {name}: it is no TOML of at most 1048576 bytes in UTF-8"
+        ),
+        ConfigFail::Unknown { .. } => eprintln!(rt;
+            "relay: {name}: a table has a key that it may not have"
+        ),
+        ConfigFail::Missing { key } => eprintln!(rt; "relay: {name}: {} isn't there", key.name()),
+        ConfigFail::Range { key } => eprintln!(rt;
+            "relay: {name}: {} may be: {}",
+            key.name(),
+            range(*key)
+        ),
+        ConfigFail::Twice { place } => {
+            eprintln!(rt;
+                "relay: {name}: stream {place}, from 0, has the app and name of an earlier one"
+            )
+        }
+        ConfigFail::TooMuch { sum } => {
+            eprintln!(rt;
+                "relay: {name}: all may hold {sum} bytes at once, and at most 6442450944 are taken"
+            )
+        }
+        ConfigFail::OutOfMemory => eprintln!(rt; "relay: there was too little memory"),
+    };
+}
+
+fn show_grants(alloc: Global, grants: &Grants) -> Result<String, AllocError> {
+    match grants {
+        Grants::Open => format!(in alloc; "by everybody"),
+        Grants::Keys(keys) if keys.is_empty() => format!(in alloc; "by nobody"),
+        Grants::Keys(keys) if keys.len() == 1 => format!(in alloc; "with its key"),
+        Grants::Keys(keys) => format!(in alloc; "with one of {} keys", keys.len()),
+    }
+}
+
+// A text of the configuration.
+fn shown(bytes: &[u8]) -> Shown<'_> {
+    Shown {
+        text: str::from_utf8(bytes).unwrap_or(""),
+    }
+}
+
+fn add_stream(
+    alloc: Global,
+    text: &mut String,
+    place: usize,
+    rule: &PlaceRule,
+) -> Result<(), AllocError> {
+    let publish = show_grants(alloc, &rule.publish)?;
+    let play = show_grants(alloc, &rule.play)?;
+    let (app, name) = (shown(rule.app.as_slice()), shown(rule.name.as_slice()));
+    let line = format!(in alloc;
+        "stream {place} {app}/{name}: published {publish}, played {play}\n"
+    )?;
+    text.push_str(&line)?;
+    for file in [&rule.flv, &rule.ts] {
+        if let Some(file) = file {
+            let line = format!(in alloc; "  recorded to {}\n", shown(file.as_slice()))?;
+            text.push_str(&line)?;
+        }
+    }
+    Ok(())
+}
+
+// The most bytes that all parts hold at once, and of these those of streams and of links.
+#[derive(Clone, Copy)]
+struct Sums {
+    all: u64,
+    streams: u64,
+    links: u64,
+}
+
+// What a configuration allows.
+fn show(alloc: Global, config: &Config, sums: &Sums) -> Result<String, AllocError> {
+    let listen = shown(config.listen.as_slice());
+    let Config { workers, links, .. } = config;
+    let mut text = format!(in alloc;
+        "listens on {listen}\nworkers {workers}, links {links} each\n"
+    )?;
+    for (place, rule) in config.places.as_slice().iter().enumerate() {
+        add_stream(alloc, &mut text, place, rule)?;
+    }
+    let Sums {
+        all,
+        streams,
+        links,
+    } = sums;
+    let recordings = all.saturating_sub(*streams).saturating_sub(*links);
+    let line = format!(in alloc;
+        "holds at most {all} bytes: streams {streams}, links {links}, recordings {recordings}\n"
+    )?;
+    text.push_str(&line)?;
+    Ok(text)
+}
+
+fn no_memory<R: Eprint>(rt: &R) -> Status {
+    let _ = eprintln!(rt; "relay: there was too little memory");
+    status(NO_MEMORY)
+}
+
+// Prints the first test that a configuration fails, and says it in words.
+fn refuse<R: Eprint>(host: &HostRuntime, rt: &R, name: &str, fail: &ConfigFail) -> Status {
+    let Ok(line) = report(host.alloc(), fail) else {
+        return no_memory(rt);
+    };
+    let told = tell(host, str::from_utf8(line.as_slice()).unwrap_or(""));
+    if told.code != 0 {
+        return told;
+    }
+    tell_why(rt, name, fail);
+    status(BAD_INPUT)
+}
+
+/// Reads the configuration in the file of that name and prints what it allows, or the first test that it fails.
+pub fn command<R: Eprint + Files<File = File>>(host: &HostRuntime, rt: &R, name: &str) -> Status {
+    let alloc = host.alloc();
+    let bytes = match read(rt, alloc, name) {
+        Ok(bytes) => bytes,
+        Err(error) if error.kind() == io::ErrorKind::OutOfMemory => return no_memory(rt),
+        Err(error) => {
+            tell_fault(host, name, Some(error));
+            return status(READ_FAULT);
+        }
+    };
+    match read_config(alloc, bytes.as_slice()) {
+        Ok(config) => {
+            let limits = &config.limits;
+            let sums = Sums {
+                all: sum(&config),
+                streams: sum_of(limits, config.places.len() as u32, 0, 0),
+                links: sum_of(limits, 0, config.workers * config.links, 0),
+            };
+            match show(alloc, &config, &sums) {
+                Ok(text) => tell(host, &text),
+                Err(_) => no_memory(rt),
+            }
+        }
+        Err(ConfigFail::OutOfMemory) => no_memory(rt),
+        Err(fail) => refuse(host, rt, name, &fail),
+    }
+}
