@@ -1,10 +1,12 @@
 #!/usr/bin/env python3
 """Tests of `relay serve` over real sockets: tests/sockets.py RELAY [TEST..]
 
-Prints a line for each failure, and ends with status 1 if there was one.
+Prints a line for each failure, and ends with status 1 if there was one. What is late is counted, and counts against the relay only where the
+machine itself was on time, three times over: on a machine that is too busy to say, it says nothing.
 """
 import os
 import resource
+import select
 import selectors
 import signal
 import socket
@@ -203,6 +205,54 @@ class Server:
         return self.process.communicate()
 
 
+# ------------------------------------------------------------------------------------------------ time
+
+class Witness:
+    """A process that sleeps beside a trial, again and again, and tells by how much it was woken too late at most."""
+
+    def __enter__(self):
+        self.ours, theirs = socket.socketpair()
+        self.process = os.fork()
+        if self.process == 0:
+            self.ours.close()
+            self.watch(theirs)
+            os._exit(0)
+        theirs.close()
+        return self
+
+    @staticmethod
+    def watch(end):
+        worst, before = 0.0, time.monotonic()
+        while not select.select([end], [], [], 0.01)[0]:
+            now = time.monotonic()
+            worst, before = max(worst, now - before), now
+        if end.recv(1):
+            end.sendall(struct.pack(">d", worst))
+
+    def __exit__(self, *_):
+        self.ours.sendall(b"-")
+        self.worst, = struct.unpack(">d", self.ours.recv(8))
+        self.ours.close()
+        os.waitpid(self.process, 0)
+
+
+def on_time(relay, folder, trial):
+    """Fails with what the trial says is late, if it says so three times while the machine was on time, and never finds that nothing is."""
+    said = []
+    for place in range(6):
+        home = os.path.join(folder, str(place))
+        os.mkdir(home)
+        with Witness() as witness:
+            late = trial(relay, home)
+        if late is None:
+            return
+        if witness.worst < 0.05:
+            said.append(late)
+        if len(said) == 3:
+            fail(late)
+            return
+
+
 # ------------------------------------------------------------------------------------------------ the tests
 
 def sockets(server):
@@ -220,10 +270,10 @@ def silent(relay, folder):
     begun = time.monotonic()
     while (count := sockets(server) - own) < 40 and time.monotonic() - begun < 1:
         time.sleep(0.01)
-    expect(count >= 40, f"silent: of 40 connections {count} are accepted within a second")
     for client in clients:
         client.close()
     server.kill()
+    return None if count >= 40 else f"silent: of 40 connections {count} are accepted within a second"
 
 
 def sparse(relay, folder):
@@ -252,14 +302,14 @@ def sparse(relay, folder):
             seen, late, worst = hear(watch, left, seen, late, worst)
         body = picture(b"at" + struct.pack(">d", time.monotonic()))
         publishers[unit % len(servers)].push(VIDEO, unit, body)
-    until = time.monotonic() + 2
-    while time.monotonic() < until and seen < 8 * units * len(servers):
-        seen, late, worst = hear(watch, 0.1, seen, late, worst)
     sent = 8 * units * len(servers)
+    until = time.monotonic() + 20
+    while time.monotonic() < until and seen < sent:
+        seen, late, worst = hear(watch, 0.1, seen, late, worst)
     expect(seen == sent, f"sparse: of {sent} units {seen} came")
-    expect(late <= sent // 100, f"sparse: of {sent} units {late} came more than 0.1 s late, the latest after {worst:.3f} s")
     for server in servers:
         server.kill()
+    return None if late <= sent // 100 else f"sparse: of {sent} units {late} came more than 0.1 s late, the latest after {worst:.3f} s"
 
 
 def hear(watch, wait, seen, late, worst):
@@ -291,8 +341,8 @@ def vanished(relay, folder):
     for player in players:
         player.until(b"NetStream.Play.UnpublishNotify")
     took = time.monotonic() - begun
-    expect(took < 0.25, f"vanished: the players hear of the publisher's end after {took:.3f} s")
     server.kill()
+    return None if took < 0.25 else f"vanished: the players hear of the publisher's end after {took:.3f} s"
 
 
 def counted(relay, folder):
@@ -325,21 +375,12 @@ def tags(data):
     return found
 
 
-def let_join(path):
-    """Waits until a recorder has joined. It writes the header of its FLV file before that."""
-    begun = time.monotonic()
-    while time.monotonic() - begun < 10 and not (os.path.exists(path) and os.path.getsize(path) == 13):
-        time.sleep(0.01)
-    time.sleep(0.5)
-
-
 def recording(relay, folder):
     """What is published is recorded, tag for tag; a file that was there is kept aside."""
     path = os.path.join(folder, "cam.flv")
     with open(path, "wb") as out:
         out.write(b"of yesterday")
     server = Server(relay, folder, {"cam": 'flv = "cam.flv"\nts = "cam.ts"'}, "accept = 1")
-    let_join(path)
     publisher = Client(server.port).open("publish", "cam")
     units = [(VIDEO, 0, CONFIGURATION)] + [(VIDEO, 40 * n, picture(b"%d" % n, 100 + 997 * (n % 60))) for n in range(1, 120)]
     for unit in units:
@@ -357,7 +398,6 @@ def limited(relay, folder):
     """A recording that comes to the system's limit of a file: it is said at once, and the server goes on."""
     path = os.path.join(folder, "cam\x07\x85.flv")
     server = Server(relay, folder, {"cam": 'flv = "cam\\u0007\\u0085.flv"'}, "accept = 2", limit=20000)
-    let_join(path)
     publisher = Client(server.port).open("publish", "cam")
     publisher.push(VIDEO, 0, CONFIGURATION)
     for n in range(30):
@@ -373,20 +413,21 @@ def limited(relay, folder):
     expect(size == 20000, f"limited: the file has {size} bytes")
 
 
-TESTS = [silent, sparse, vanished, counted, recording, limited]
+TRIALS = [silent, sparse, vanished]
+TESTS = [counted, recording, limited]
 
 
 def main():
     signal.signal(signal.SIGPIPE, signal.SIG_IGN)
     # What hangs ends all.
-    signal.alarm(300)
+    signal.alarm(600)
     relay, wanted = os.path.abspath(sys.argv[1]), sys.argv[2:]
-    for test in TESTS:
+    for test in TRIALS + TESTS:
         if wanted and test.__name__ not in wanted:
             continue
         with tempfile.TemporaryDirectory() as folder:
             try:
-                test(relay, folder)
+                on_time(relay, folder, test) if test in TRIALS else test(relay, folder)
             except (OSError, EOFError, RuntimeError, subprocess.TimeoutExpired) as error:
                 fail(f"{test.__name__}: {error!r}")
     sys.exit(failures > 0)
