@@ -364,6 +364,36 @@ def counted(relay, folder):
     expect(server.end() == (0, "stream 0 began 1 pushed 2 ended 1 joined 1 skips 0\n", ""), "counted: the server of two links ends otherwise")
 
 
+def gathered(relay, folder):
+    """What a player is sent in a burst comes whole, in order and once; what an ended session was sent comes before its link is closed."""
+    server = Server(relay, folder, {"cam": ""}, "workers = 2\naccept = 3")
+    player = Client(server.port).open("play", "cam")
+    publisher = Client(server.port).open("publish", "cam")
+    lengths = [1 + 7919 * place % 20000 for place in range(150)]
+    bodies = [CONFIGURATION] + [picture(b"%d;" % place, length) for place, length in enumerate(lengths)]
+    publisher.socket.sendall(b"".join(message(VIDEO, place, 1, body) for place, body in enumerate(bodies)))
+    came = []
+    while len(came) < len(bodies):
+        while (found := player.reader.one()) is None:
+            player.reader.bytes += player.receive()
+        if found[0] == VIDEO:
+            came.append(found[1])
+    expect(came == bodies, "gathered: what a player is sent isn't what was published")
+    for client in (publisher, player):
+        client.close()
+    hasty = socket.create_connection(("127.0.0.1", server.port), timeout=20)
+    hasty.sendall(b"\x03" + bytes(1536) + bytes(1536) + message(1, 0, 0, struct.pack(">I", 65536))
+                  + message(20, 0, 0, text("connect") + number(1) + table(app="live"))
+                  + message(20, 0, 0, text("createStream") + number(2) + b"\x05"))
+    hasty.shutdown(socket.SHUT_WR)
+    answer = b""
+    while piece := hasty.recv(65536):
+        answer += piece
+    expect(b"NetConnection.Connect.Success" in answer, "gathered: a client that closes early isn't told that it is connected")
+    expect(answer.endswith(text("_result") + number(2) + b"\x05" + number(1)), "gathered: a client that closes early misses the last answer")
+    expect(server.end()[0] == 0, "gathered: the server ends otherwise")
+
+
 def tags(data):
     """The tags of an FLV file: kind, time and body."""
     at, found = 13, []
@@ -414,7 +444,7 @@ def limited(relay, folder):
 
 
 TRIALS = [silent, sparse, vanished]
-TESTS = [counted, recording, limited]
+TESTS = [counted, gathered, recording, limited]
 
 
 def main():
