@@ -41,6 +41,11 @@ impl<R: Read + Drop> Reading<R> {
         }
     }
 
+    /// What it reads from.
+    pub fn inner(&self) -> &R {
+        &self.inner
+    }
+
     /// The error of the last call that failed. `None` exactly where none has.
     pub fn error(&self) -> Option<io::Error>
         ensures { (result ≡ None) ↔ (self.now ≡ 0) }

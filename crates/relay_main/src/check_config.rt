@@ -1,15 +1,17 @@
 //! `relay check-config`: what a configuration allows, or the first test that it fails.
 
 use crate::adapters::ConfigFile;
+use crate::spot::{Spot, spot_at, spot_of};
 use crate::{BAD_INPUT, NO_MEMORY, READ_FAULT, status, tell, tell_fault};
 use key_guard::Grants;
 use relay_base::Status;
 use relay_config::{Config, ConfigFail, Key, PlaceRule, read_config, report, sum, sum_of};
 use relay_edge::Shown;
 use std::alloc::{AllocError, Global};
+use std::fmt::{Display, Formatter};
 use std::fs::{File, Files};
 use std::io::{Eprint, Read};
-use std::{io, str};
+use std::{fmt, io, str};
 
 /// No further bytes of a file are read from here on: more than a configuration may have.
 const MOST: usize = 1_048_577;
@@ -55,34 +57,87 @@ fn range(key: Key) -> &'static str {
     }
 }
 
-// Says in words why a configuration is refused.
-fn tell_why<R: Eprint>(rt: &R, name: &str, fail: &ConfigFail) {
-    let name = Shown { text: name };
-    let _ = match fail {
-        ConfigFail::NotToml => eprintln!(rt;
-            "relay: {name}: it is no TOML of at most 1048576 bytes in UTF-8"
-        ),
-        ConfigFail::Unknown { .. } => eprintln!(rt;
-            "relay: {name}: a table has a key that it may not have"
-        ),
-        ConfigFail::Missing { key } => eprintln!(rt; "relay: {name}: {} isn't there", key.name()),
-        ConfigFail::Range { key } => eprintln!(rt;
-            "relay: {name}: {} may be: {}",
-            key.name(),
-            range(*key)
-        ),
-        ConfigFail::Twice { place } => {
-            eprintln!(rt;
-                "relay: {name}: stream {place}, from 0, has the app and name of an earlier one"
-            )
+// A configuration that was refused: the name of its file, and its text.
+#[derive(Drop)]
+struct Refused<'a> {
+    name: Shown<'a>,
+    text: &'a [u8],
+}
+
+impl Refused<'_> {
+    // Says in words what is wrong there, or of the whole where no line of its own says it.
+    fn tell<R: Eprint, D: Display>(&self, rt: &R, spot: Option<Spot>, what: &D) {
+        let name = self.name;
+        let _ = match spot {
+            Some(spot) => eprintln!(rt; "relay: {name}:{spot}: {what}"),
+            None => eprintln!(rt; "relay: {name}: {what}"),
+        };
+    }
+
+    // Says where and why it is no TOML.
+    fn tell_toml<R: Eprint>(&self, rt: &R, alloc: Global) {
+        let whole = "it is no TOML of at most 1048576 bytes in UTF-8";
+        let error = match str::from_utf8(self.text) {
+            Ok(text) if text.len() < MOST => toml::table_from_str(alloc, text).err(),
+            _ => None,
+        };
+        match error {
+            Some(error) => match error.span() {
+                Some(span) => self.tell(rt, Some(spot_at(self.text, span.start)), &error.message()),
+                None => self.tell(rt, None, &whole),
+            },
+            None => self.tell(rt, None, &whole),
         }
-        ConfigFail::TooMuch { sum } => {
-            eprintln!(rt;
-                "relay: {name}: all may hold {sum} bytes at once, and at most 6442450944 are taken"
-            )
+    }
+}
+
+// What is wrong with a configuration.
+#[derive(Drop)]
+struct Wrong<'a> {
+    fail: &'a ConfigFail,
+}
+
+impl Display for Wrong<'_> {
+    fn fmt<W: fmt::Write>(&self, f: &mut Formatter<W>) -> fmt::Result {
+        match self.fail {
+            ConfigFail::NotToml => f.write_str("it is no TOML"),
+            ConfigFail::Unknown { key } => write!(
+                f,
+                "its table may not have the key {}",
+                shown(key.as_slice())
+            ),
+            ConfigFail::Missing { key } => write!(f, "{} isn't there", key.name()),
+            ConfigFail::Range { key } => write!(f, "{} may be: {}", key.name(), range(*key)),
+            ConfigFail::Twice { place } => {
+                write!(
+                    f,
+                    "stream {place}, from 0, has the app and name of an earlier one"
+                )
+            }
+            ConfigFail::TooMuch { sum } => {
+                write!(
+                    f,
+                    "all may hold {sum} bytes at once, and at most 6442450944 are taken"
+                )
+            }
+            ConfigFail::OutOfMemory => f.write_str("there was too little memory"),
         }
-        ConfigFail::OutOfMemory => eprintln!(rt; "relay: there was too little memory"),
+    }
+}
+
+// Says in words, with its line and column, why the configuration in the file of that name is refused.
+fn tell_why<R: Eprint>(rt: &R, alloc: Global, name: &str, text: &[u8], fail: &ConfigFail) {
+    let refused = Refused {
+        name: Shown { text: name },
+        text,
     };
+    match fail {
+        ConfigFail::NotToml => refused.tell_toml(rt, alloc),
+        ConfigFail::OutOfMemory => {
+            let _ = eprintln!(rt; "relay: there was too little memory");
+        }
+        _ => refused.tell(rt, spot_of(alloc, text, fail), &Wrong { fail }),
+    }
 }
 
 fn show_grants(alloc: Global, grants: &Grants) -> Result<String, AllocError> {
@@ -160,7 +215,13 @@ fn no_memory<R: Eprint>(rt: &R) -> Status {
 }
 
 // Prints the first test that a configuration fails, and says it in words.
-fn refuse<R: Eprint>(host: &HostRuntime, rt: &R, name: &str, fail: &ConfigFail) -> Status {
+fn refuse<R: Eprint>(
+    host: &HostRuntime,
+    rt: &R,
+    name: &str,
+    text: &[u8],
+    fail: &ConfigFail,
+) -> Status {
     let Ok(line) = report(host.alloc(), fail) else {
         return no_memory(rt);
     };
@@ -168,7 +229,7 @@ fn refuse<R: Eprint>(host: &HostRuntime, rt: &R, name: &str, fail: &ConfigFail) 
     if told.code != 0 {
         return told;
     }
-    tell_why(rt, name, fail);
+    tell_why(rt, host.alloc(), name, text, fail);
     status(BAD_INPUT)
 }
 
@@ -197,6 +258,26 @@ pub fn command<R: Eprint + Files<File = File>>(host: &HostRuntime, rt: &R, name:
             }
         }
         Err(ConfigFail::OutOfMemory) => no_memory(rt),
-        Err(fail) => refuse(host, rt, name, &fail),
+        Err(fail) => refuse(host, rt, name, bytes.as_slice(), &fail),
     }
+}
+
+/// Says why the configuration in the file of that name is refused. It is read anew, where it is a file that can be.
+pub fn explain<R: Eprint + Files<File = File>>(rt: &R, alloc: Global, name: &str) {
+    let is_file = match rt.metadata(name) {
+        Ok(there) => there.is_file(),
+        Err(_) => false,
+    };
+    if is_file {
+        if let Ok(bytes) = read(rt, alloc, name) {
+            if let Err(fail) = read_config(alloc, bytes.as_slice()) {
+                tell_why(rt, alloc, name, bytes.as_slice(), &fail);
+                return;
+            }
+        }
+    }
+    let _ = eprintln!(rt;
+        "relay: {}: it is no configuration of a relay",
+        Shown { text: name }
+    );
 }

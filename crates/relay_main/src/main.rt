@@ -6,8 +6,10 @@ ghost use Rattle.key_guard.specs.Allowed.{is_allowed};
 
 mod adapters;
 mod check_config;
+mod script;
 mod segments;
 mod serve;
+mod spot;
 mod texts;
 
 use adapters::{Reading, Writing};
@@ -17,8 +19,9 @@ use relay_base::Status;
 use relay_edge::Shown;
 use relay_outside::{Sink, Source};
 use relay_program::{Command, command_of, run};
+use script::Script;
 use std::fs::{File, Files};
-use std::io::Eprint;
+use std::io::{Eprint, Read};
 use std::net::Net;
 use std::process::ExitCode;
 use std::sync::Wait;
@@ -81,15 +84,23 @@ fn tell(rt: &HostRuntime, text: &str) -> Status {
 }
 
 // Says on standard error where the input of a command is refused.
-fn tell_refusal(rt: &HostRuntime, words: &[Vec<u8>], place: u64) {
-    let _ = match command_of(words) {
+fn tell_refusal<R: Read + Drop>(
+    rt: &HostRuntime,
+    command: Option<Command>,
+    script: &Script<R>,
+    place: u64,
+) {
+    let _ = match command {
         Some(Command::Remux) => eprintln!(rt;
             "relay: standard input is no FLV file at byte {place}"
         ),
         Some(Command::Check) => eprintln!(rt;
             "relay: standard input is no transport stream at byte {place}"
         ),
-        _ => eprintln!(rt; "relay: line {place} is no line of a script (see relay --help)"),
+        _ => eprintln!(rt;
+            "relay: line {place} {} (see relay --help)",
+            script.fault(command, place)
+        ),
     };
 }
 
@@ -130,16 +141,21 @@ fn remux<S: Source, K: Sink>(
 
 // Runs the command that the words name from standard input to standard output, and says why it didn't do all of it.
 fn command(rt: &HostRuntime, words: &[Vec<u8>], guards: &Guards) -> Status {
-    let mut input = Reading::new(rt.reader());
+    let command = command_of(words);
+    let remembers = match command {
+        Some(Command::Drill | Command::Replay) => true,
+        _ => false,
+    };
+    let mut input = Reading::new(Script::new(rt.alloc(), rt.reader(), remembers));
     let mut out = Writing::new(io::writer(rt));
-    let ended = match command_of(words) {
+    let ended = match command {
         Some(Command::Remux) => remux(rt, words, &mut input, &mut out),
         _ => run(rt.alloc(), words, guards, &mut input, &mut out),
     };
     let place = ended.place;
     match ended.code {
         READ_FAULT => tell_fault(rt, "standard input", input.error()),
-        BAD_INPUT => tell_refusal(rt, words, place),
+        BAD_INPUT => tell_refusal(rt, command, input.inner(), place),
         WRITE_FAULT => tell_fault(rt, "standard output", out.error()),
         NO_MEMORY => {
             let _ = eprintln!(rt; "relay: there was too little memory");

@@ -1,10 +1,11 @@
 //! `relay serve`: the file of the configuration, the real house, and what is said on standard error.
 
 use crate::adapters::{ConfigFile, Reading, Writing};
+use crate::check_config::explain;
 use crate::{BAD_INPUT, NO_MEMORY, READ_FAULT, WRITE_FAULT, status, tell_fault};
 use key_guard::Guards;
 use relay_base::Status;
-use relay_edge::{RealHouse, Shown};
+use relay_edge::RealHouse;
 use relay_serve::serve;
 use std::fs::{File, Files};
 use std::io::Eprint;
@@ -49,12 +50,7 @@ pub fn command<
     );
     match ended.code {
         READ_FAULT => tell_fault(host, name, config.error()),
-        BAD_INPUT => {
-            let _ = eprintln!(host;
-                "relay: {} is no configuration of a relay; standard output has the first test that it fails",
-                Shown { text: name }
-            );
-        }
+        BAD_INPUT => explain(rt, alloc, name),
         WRITE_FAULT => tell_fault(host, "standard output", report.error()),
         NO_MEMORY => {
             let _ = eprintln!(host; "relay: there was too little memory");

@@ -1,0 +1,174 @@
+//! Where in the text of a configuration a fault stands.
+
+use relay_config::{ConfigFail, Key, read_config};
+use std::alloc::{AllocError, Global};
+use std::fmt;
+use std::fmt::{Display, Formatter};
+use std::ops::Range;
+
+/// A line of a text and a byte of it, each from 1.
+#[derive(Clone, Copy)]
+pub struct Spot {
+    line: usize,
+    column: usize,
+}
+
+impl Display for Spot {
+    fn fmt<W: fmt::Write>(&self, f: &mut Formatter<W>) -> fmt::Result {
+        write!(f, "{}:{}", self.line, self.column)
+    }
+}
+
+/// The spot of the byte at a place of a text.
+pub fn spot_at(text: &[u8], place: usize) -> Spot {
+    let mut spot = Spot { line: 1, column: 1 };
+    for byte in text.iter().take(place) {
+        if *byte == b'\n' {
+            spot.line = spot.line.saturating_add(1);
+            spot.column = 1;
+        } else {
+            spot.column = spot.column.saturating_add(1);
+        }
+    }
+    spot
+}
+
+// The lines from one table's header up to the next, or those before the first. A listed one is a `[[stream]]`.
+#[derive(Clone, Drop)]
+struct Part {
+    lines: Range<usize>,
+    listed: bool,
+}
+
+fn is_header(line: &[u8]) -> bool {
+    line.trim_ascii_start().starts_with(b"[")
+}
+
+fn is_listed(line: &[u8]) -> bool {
+    line.trim_ascii_start().starts_with(b"[[stream]]")
+}
+
+fn parts(alloc: Global, text: &[u8]) -> Result<Vec<Part>, AllocError> {
+    let mut parts = Vec::new(alloc);
+    let mut part = Part {
+        lines: 0..0,
+        listed: false,
+    };
+    let mut at = 0usize;
+    for line in text.split(|byte| *byte == b'\n') {
+        if is_header(line) {
+            parts.push(part)?;
+            part = Part {
+                lines: at..at,
+                listed: is_listed(line),
+            };
+        }
+        at = at.saturating_add(line.len()).saturating_add(1);
+        part.lines.end = at.min(text.len());
+    }
+    parts.push(part)?;
+    Ok(parts)
+}
+
+fn lines_of<'a>(text: &'a [u8], part: &Part) -> &'a [u8] {
+    text.get(part.lines.start..part.lines.end).unwrap_or(&[])
+}
+
+// Whether a configuration of the tables that are no list, and of one that is, fails the same test.
+fn fails_so(
+    alloc: Global,
+    text: &[u8],
+    parts: &[Part],
+    only: Option<&Part>,
+    fail: &ConfigFail,
+) -> bool {
+    let mut some = Vec::new(alloc);
+    for part in parts.iter().filter(|part| !part.listed).chain(only) {
+        if some.extend_from_slice(lines_of(text, part)).is_err() {
+            return false;
+        }
+    }
+    match read_config(alloc, some.as_slice()) {
+        Ok(_) => false,
+        Err(other) => other == *fail,
+    }
+}
+
+// Where a line of these begins with a key, or names a table so.
+fn key_in(text: &[u8], part: &Part, key: &[u8]) -> Option<usize> {
+    let mut at = part.lines.start;
+    for line in lines_of(text, part).split(|byte| *byte == b'\n') {
+        let rest = line.trim_ascii_start();
+        let bare = match rest.strip_prefix(b"[[") {
+            Some(bare) => bare,
+            None => rest.strip_prefix(b"[").unwrap_or(rest),
+        };
+        if let Some(behind) = bare.strip_prefix(key) {
+            let ends = match behind.trim_ascii_start().first() {
+                Some(b'=' | b']' | b'.') => true,
+                _ => false,
+            };
+            if ends {
+                return Some(at.saturating_add(line.len().saturating_sub(bare.len())));
+            }
+        }
+        at = at.saturating_add(line.len()).saturating_add(1);
+    }
+    None
+}
+
+// The part in which the test fails, where it is one part's.
+fn part_of<'a>(
+    alloc: Global,
+    text: &[u8],
+    parts: &'a [Part],
+    fail: &ConfigFail,
+) -> Option<&'a Part> {
+    if let ConfigFail::Twice { place } = fail {
+        return parts.iter().filter(|part| part.listed).nth(*place as usize);
+    }
+    if fails_so(alloc, text, parts, None, fail) {
+        return None;
+    }
+    parts
+        .iter()
+        .filter(|part| part.listed)
+        .find(|part| fails_so(alloc, text, parts, Some(*part), fail))
+}
+
+// The table `relay`, where it lacks the key.
+fn relay_part<'a>(text: &[u8], parts: &'a [Part], key: &Key) -> Option<&'a Part> {
+    match key {
+        Key::Relay | Key::Stream => None,
+        _ => parts.iter().find(|part| lines_of(text, part)
+            .trim_ascii_start()
+            .starts_with(b"[relay]")),
+    }
+}
+
+/// Where a configuration fails a test: at the key, or at the table that lacks it. None where no line of its own says so, as
+/// where a value stands within another.
+pub fn spot_of(alloc: Global, text: &[u8], fail: &ConfigFail) -> Option<Spot> {
+    let parts = parts(alloc, text).ok()?;
+    let parts = parts.as_slice();
+    let part = part_of(alloc, text, parts, fail);
+    let place = match fail {
+        ConfigFail::Unknown { key } => key_of(text, parts, part, key.as_slice())?,
+        ConfigFail::Range { key } => key_of(text, parts, part, key.name().as_bytes())?,
+        ConfigFail::Missing { key } => part.or_else(|| relay_part(text, parts, key))?.lines.start,
+        ConfigFail::Twice { .. } => part?.lines.start,
+        ConfigFail::NotToml | ConfigFail::TooMuch { .. } | ConfigFail::OutOfMemory => return None,
+    };
+    Some(spot_at(text, place))
+}
+
+// Where the part has the key, or the first of those that are no list.
+fn key_of(text: &[u8], parts: &[Part], part: Option<&Part>, key: &[u8]) -> Option<usize> {
+    match part {
+        Some(part) => key_in(text, part, key),
+        None => parts
+            .iter()
+            .filter(|part| !part.listed)
+            .find_map(|part| key_in(text, part, key)),
+    }
+}
