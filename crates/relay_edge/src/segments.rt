@@ -24,8 +24,8 @@ fn unfinished(alloc: Global, name: &[u8]) -> io::Result<Vec<u8>> {
 }
 
 /// A house of files alone. A file is written under its name with `.part` behind it, and has its name once it is kept without
-/// faults: so under a name stands the whole file or what stood there before. One with faults is removed. It says on standard
-/// error why a file couldn't be had or kept.
+/// faults: so under a name stands the whole file or what stood there before. One with faults is removed, and one that isn't
+/// kept by [`SegmentHouse::clear`]. It says on standard error why a file couldn't be had or kept.
 ///
 /// A name that is a directory can't be had. Where a whole file can't be given its name for another cause, keeping it is refused,
 /// and [`SegmentHouse::is_short`] tells of it: a house has no other way to say so.
@@ -36,6 +36,8 @@ pub struct SegmentHouse<'a, R> {
     failed: u64,
     spoilt: u64,
     short: bool,
+    // The name of a file that was made and isn't whole.
+    part: Option<Vec<u8>>,
 }
 
 impl<'a, R> Model for SegmentHouse<'a, R> {
@@ -58,6 +60,7 @@ impl<'a, R: Files<File = File> + Eprint> SegmentHouse<'a, R> {
             failed: 0,
             spoilt: 0,
             short: false,
+            part: None,
         }
     }
 
@@ -67,8 +70,9 @@ impl<'a, R: Files<File = File> + Eprint> SegmentHouse<'a, R> {
     }
 
     // Makes a file that is empty, under its name until it is whole.
-    fn make(&self, name: &[u8]) -> io::Result<RealFile<'a, R>>
-        ensures { IfOk result (λ f. f ≡ 0) }
+    fn make(&mut self, name: &[u8]) -> io::Result<RealFile<'a, R>>
+        ensures new { IfOk result (λ f. f ≡ 0) }
+        ensures same { self.new ≡ self.old }
     {
         if let Ok(there) = self.rt.metadata(text(name)?) {
             if there.is_dir() {
@@ -76,8 +80,10 @@ impl<'a, R: Files<File = File> + Eprint> SegmentHouse<'a, R> {
             }
         }
         let part = unfinished(self.alloc, name)?;
+        let name = name.to_vec(self.alloc)?;
         let file = File::create(self.rt, text(part.as_slice())?)?;
-        Ok(RealFile::new(self.rt, name.to_vec(self.alloc)?, file))
+        self.part = Some(part);
+        Ok(RealFile::new(self.rt, name, file))
     }
 
     // Gives a whole file its name, in place of what stood there.
@@ -86,10 +92,15 @@ impl<'a, R: Files<File = File> + Eprint> SegmentHouse<'a, R> {
         self.rt.rename(text(part.as_slice())?, text(name)?)
     }
 
-    // Removes a file that isn't whole.
-    fn remove(&self, name: &[u8]) -> io::Result<()> {
-        let part = unfinished(self.alloc, name)?;
-        self.rt.remove_file(text(part.as_slice())?)
+    /// Removes the file that was given and not kept, if there is one.
+    pub fn clear(&mut self)
+        ensures { self.new ≡ self.old }
+    {
+        if let Some(part) = self.part.take() {
+            if let Ok(part) = text(part.as_slice()) {
+                let _ = self.rt.remove_file(part);
+            }
+        }
     }
 }
 
@@ -129,16 +140,19 @@ impl<'a, R: Files<File = File> + Eprint + Sync> House for SegmentHouse<'a, R> {
 
     fn keep(&mut self, name: &[u8], file: RealFile<'a, R>) -> Result<(), AllocError> {
         if file.error().is_some() {
-            let _ = self.remove(name);
+            self.clear();
             self.spoilt = self.spoilt.saturating_add(1);
             return Ok(());
         }
         drop(file);
         match self.finish(name) {
-            Ok(()) => Ok(()),
+            Ok(()) => {
+                self.part = None;
+                Ok(())
+            }
             Err(error) => {
                 say(self.rt, name, &error);
-                let _ = self.remove(name);
+                self.clear();
                 self.short = true;
                 Err(AllocError)
             }

@@ -21,6 +21,7 @@ pub fn command<T: Sync + Eprint + Files<File = File>>(
     let mut out = Writing::new(io::writer(host));
     let mut house = SegmentHouse::new(rt, host.alloc());
     let ended = segment(host.alloc(), words, &mut input, &mut house, &mut out);
+    house.clear();
     if house.is_short() {
         return status(WRITE_FAULT);
     }

@@ -165,8 +165,8 @@ kept_of_file fault e = subst IsOfFile (sym e) tt
 -- ---- a file is handed over that isn't whole
 
 part_grew : (name : List ℕ) (list : List (List ℕ)) (title : List ℕ) (f : FileSeen) (start old new : HouseTold) → IsPartBegun name list title f.holds start old
-    → Keeps old new f.faults (kept_file title f.holds f.faults) → GrewInPart name list start.kept new.kept
-part_grew name list title f start old new b k =
+    → Rose 0 f.faults → Keeps old new f.faults (kept_file title f.holds f.faults) → GrewInPart name list start.kept new.kept
+part_grew name list title f start old new b rose k =
     let more = grew_by (kept_files name b.whole) start.kept old.kept new.kept title b.wrote f.faults f.holds b.kept
     (kept_after old new f.faults (kept_file title f.holds f.faults) k) b.holds_is in
     inr (record {
@@ -176,27 +176,25 @@ part_grew name list title f start old new b k =
       left = b.left;
       list_is = b.list_is;
       faults = f.faults;
+      faulty = rose;
       files = subst (λ (t : List ℕ). Grew (kept_files name b.whole ++ record { name = t; bytes = b.wrote; faults = f.faults } ∷ []) start.kept new.kept) b.title_is more;
     })
 
 first_grew : (name : List ℕ) (list : List (List ℕ)) (start old : HouseTold) → IsPartKept name list start old → GrewInPart name list start.kept old.kept
 first_grew name list start old p = inl (record { newer = p.newer; whole = p.whole; list_is = p.list_is; files = p.kept })
 
-pub settles_kept : (fault : Fault) (name : List ℕ) (list : List (List ℕ)) (title : List ℕ) (f : FileSeen) (start old new : HouseTold)
+pub settles_kept : (fault : Fault) (name : List ℕ) (list : List (List ℕ)) (title : List ℕ) (f : FileSeen) (start old new : HouseTold) → fault ≡ Sink
     → Breaks fault name list title (Some f) start old → Keeps old new f.faults (kept_file title f.holds f.faults) → Settles fault name list start new
-settles_kept Sink name list title f start old new b k =
+settles_kept Sink name list title f start old new e b k =
     let rose = spoils f.faults old.spoiled new.spoiled b.1 k.0 in (
-      part_grew name list title f start old new b.0 k,
+      part_grew name list title f start old new b.0 b.1 k,
       (
         subst (λ (n : ℕ). Rose n new.spoiled) b.2.spoiled_same rose,
         faults_after old new f.faults (kept_file title f.holds f.faults) k ∙ b.2.faults_same,
       ),
     )
-settles_kept House name list title f start old new b k = absurd b
-settles_kept Memory name list title f start old new b k = (
-  part_grew name list title f start old new b.0 k,
-  same_then start old new b.2 (faults_after old new f.faults (kept_file title f.holds f.faults) k) (spoils_none f.faults old.spoiled new.spoiled b.1 k.0),
-)
+settles_kept House name list title f start old new e b k = absurd b
+settles_kept Memory name list title f start old new e b k = absurd (let x : Memory ≡ Sink = e in cc)
 
 dropped : (name : List ℕ) (list : List (List ℕ)) (title : List ℕ) (f : FileSeen) (start old new : HouseTold) → IsPartBegun name list title f.holds start old → IsSameHouse start old
     → new ≡ old → Settles Memory name list start new
@@ -216,6 +214,12 @@ pub settles_refused : (fault : Fault) (name : List ℕ) (list : List (List ℕ))
 settles_refused Sink name list title f start old new b e = dropped name list title f start old new b.0 b.2 e
 settles_refused House name list title f start old new b e = absurd b
 settles_refused Memory name list title f start old new b e = dropped name list title f start old new b.0 b.2 e
+
+pub settles_dropped : (fault : Fault) (name : List ℕ) (list : List (List ℕ)) (title : List ℕ) (f : FileSeen) (start old : HouseTold)
+    → Breaks fault name list title (Some f) start old → fault ≡ Memory → Settles fault name list start old
+settles_dropped Sink name list title f start old b e = absurd (let x : Sink ≡ Memory = e in cc)
+settles_dropped House name list title f start old b e = absurd b
+settles_dropped Memory name list title f start old b e = dropped name list title f start old old b.0 b.2 refl
 
 pub settles_none : (fault : Fault) (name : List ℕ) (list : List (List ℕ)) (title : List ℕ) (start old : HouseTold)
     → Breaks fault name list title None start old → Settles fault name list start old

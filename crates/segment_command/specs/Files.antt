@@ -1,5 +1,6 @@
 -- The files of segments. Lists of segments, and of their bytes, have the newest first; lists of files have the oldest first.
 use Rattle.std.specs.Prelude.{◌≡◌, ◌⊎◌, ℕ, List, [], ◌∷◌, ◌++◌, length, Option, Some}
+use Rattle.relay_outside.specs.Counts.{Rose}
 use Rattle.relay_outside.specs.Houses.{Kept}
 use Rattle.hls_segments.specs.Cuts.{Segment}
 use Rattle.hls_segments.specs.Playlist.{file_name}
@@ -31,7 +32,7 @@ pub record GrewByFirst (name : List ℕ) (list : List (List ℕ)) (before now : 
   pub list_is : list ≡ newer ++ whole
   pub files : Grew (kept_files name whole) before now
 
--- and one more, with the first bytes of the segment that follows them
+-- and one more, with faults, that has the first bytes of the segment that follows them
 pub record GrewByPart (name : List ℕ) (list : List (List ℕ)) (before now : Option (List Kept)) : Type 0 where
   pub newer : List (List ℕ)
   pub whole : List (List ℕ)
@@ -39,6 +40,7 @@ pub record GrewByPart (name : List ℕ) (list : List (List ℕ)) (before now : O
   pub left : List ℕ
   pub list_is : list ≡ newer ++ ((wrote ++ left) ∷ whole)
   pub faults : ℕ
+  pub faulty : Rose 0 faults
   pub files : Grew (kept_files name whole ++ record { name = file_name name (length whole); bytes = wrote; faults = faults } ∷ []) before now
 
 -- A FIRST PART of the files of segments with these bytes

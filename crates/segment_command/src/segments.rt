@@ -155,9 +155,9 @@ fn cut_named<S: Source, H: House, K: Sink>(
 /// | 8 | as 0, but a unit of sound or pictures was left out | all files and the playlist |
 /// | 9 | exactly where a unit would begin a 100,001st segment | the files and the playlist of the tags before |
 ///
-/// `place` is 0 but for code 4. Each file is handed to the house, also after a fault. A first part are the first of the files,
-/// and it may be one more, with faults, that has first bytes of the next; of the playlist it is nothing, or first bytes where
-/// all files are whole.
+/// `place` is 0 but for code 4. A file that isn't whole is handed to the house where it has faults, and else to nobody. A first
+/// part are the first of the files, and it may be one more, with faults, that has first bytes of the next; of the playlist it is
+/// nothing, or first bytes where all files are whole.
 pub fn segment<S: Source, H: House, K: Sink>(
     alloc: Global,
     words: &[Vec<u8>],

@@ -71,7 +71,8 @@ pub(crate) fn end_last<H: House>(
     keep_last(house, title, file)
 }
 
-/// Hands over a file that isn't whole, if there is one: what the fault is in the end.
+/// Hands over a file that isn't whole for its own faults, and drops one that has none, so that the house never has a file
+/// without faults that isn't whole: what the fault is in the end.
 pub(crate) fn hand_over<H: House>(
     house: &mut H,
     title: &[u8],
@@ -83,12 +84,16 @@ pub(crate) fn hand_over<H: House>(
         → Breaks fault name list title.now (option_map (λ f. file_seen (H.File.holds f) (H.File.faults f)) file) start (H.told house.old)
         → Settles result name list start (H.told house.new) }
 {
-    match file {
-        Some(last) => match house.keep(title, last) {
+    let Some(last) = file else {
+        return fault;
+    };
+    match fault {
+        Fault::Sink => match house.keep(title, last) {
             Ok(()) => fault,
             Err(_) => Fault::Memory,
         },
-        None => fault,
+        Fault::House => fault,
+        Fault::Memory => fault,
     }
 }
 
