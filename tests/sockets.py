@@ -443,8 +443,82 @@ def limited(relay, folder):
     expect(size == 20000, f"limited: the file has {size} bytes")
 
 
+def film(units):
+    """A file of FLV with these tags."""
+    tag = lambda kind, stamp, body: bytes([kind]) + len(body).to_bytes(3, "big") + (stamp & 0xFFFFFF).to_bytes(3, "big") + bytes([stamp >> 24, 0, 0, 0]) + body
+    return b"FLV\x01\x05\0\0\0\x09\0\0\0\0" + b"".join(tag(*unit) + (len(unit[2]) + 11).to_bytes(4, "big") for unit in units)
+
+
+class Command:
+    """The program as a client of a server on this machine."""
+
+    def __init__(self, relay, word, port, name):
+        self.process = subprocess.Popen(
+            [relay, word, f"127.0.0.1:{port}", "live", name], stdin=subprocess.PIPE, stdout=subprocess.PIPE, stderr=subprocess.PIPE
+        )
+
+    def end(self, more=b""):
+        """Hands it the last of its input. Its status, what it wrote since, and what it said."""
+        out, err = self.process.communicate(more, timeout=60)
+        return self.process.returncode, out, err.decode()
+
+
+def pushed(relay, folder):
+    """What is pushed to a server is pulled from it, tag for tag, and each end is told."""
+    units = [(VIDEO, 0, CONFIGURATION)] + [(VIDEO, 40 * n, picture(b"%d" % n, 100 + 997 * (n % 60))) for n in range(1, 120)]
+    units += [(VIDEO, 0xFFFFFF, picture(b"late")), (AUDIO, 0x1000000, b"\xaf\x01" + bytes(300))]
+    whole, first = film(units), film(units[:2])
+    server = Server(relay, folder, {"cam": 'publish = ["secret"]\nflv = "cam.flv"'}, "accept = 4")
+    push = Command(relay, "push", server.port, "cam?secret")
+    push.process.stdin.write(first)
+    push.process.stdin.flush()
+    pull = Command(relay, "pull", server.port, "cam")
+    # The first tags come once the push has begun, however late the pull joins.
+    came = pull.process.stdout.read(len(first))
+    other = Command(relay, "push", server.port, "cam?secret").end(whole)
+    expect(other == (13, b"", "relay: the server refused: NetStream.Publish.BadName\nrelay: status 13 at 0\n"), f"pushed: a second push ends with {other}")
+    wrong = Command(relay, "push", server.port, "cam?public").end(whole)
+    expect(wrong == other, f"pushed: a push with a wrong key ends with {wrong}")
+    ends = push.end(whole[len(first):])
+    expect(ends == (0, b"", ""), f"pushed: the push ends with {ends}")
+    status, out, said = pull.end()
+    expect((status, said) == (0, ""), f"pushed: the pull ends with {status}, {said!r}")
+    expect(came + out == whole, f"pushed: of {len(units)} tags, {len(tags(came + out))} are pulled, or others")
+    expect(server.end()[0] == 0, "pushed: the server ends otherwise")
+    expect(open(os.path.join(folder, "cam.flv"), "rb").read() == whole, "pushed: the recording is another")
+
+
+def broken(relay, folder):
+    """A film that is refused is sent up to there; a server that goes away, and one that is none, are told."""
+    units = [(VIDEO, 0, CONFIGURATION), (VIDEO, 0, picture(b"first")), (VIDEO, 40, picture(b"second"))]
+    whole = film(units)
+    server = Server(relay, folder, {"cam": 'flv = "cam.flv"'}, "accept = 1")
+    ends = Command(relay, "push", server.port, "cam").end(whole + b"\x07")
+    said = f"relay: standard input is no FLV file at byte {len(whole)}\nrelay: status 4 at {len(whole)}\n"
+    expect(ends == (4, b"", said), f"broken: a push of a broken film ends with {ends}")
+    expect(server.end()[0] == 0, "broken: the server ends otherwise")
+    expect(tags(open(os.path.join(folder, "cam.flv"), "rb").read()) == units, "broken: the tags before the refusal aren't all recorded")
+    with socket.create_server(("127.0.0.1", 0)) as listener:
+        port = listener.getsockname()[1]
+        pull = Command(relay, "pull", port, "cam")
+        peer, _ = listener.accept()
+        peer.recv(1537, socket.MSG_WAITALL)
+        peer.sendall(b"HTTP/1.1 400 Bad Request\r\n\r\n")
+        ends = pull.end()
+        peer.close()
+        said = f"relay: 127.0.0.1:{port}: what it sent is no RTMP at byte 0\nrelay: status 12 at 0\n"
+        expect(ends == (12, b"", said), f"broken: a pull from a web server ends with {ends}")
+        pull = Command(relay, "pull", port, "cam")
+        peer, _ = listener.accept()
+        peer.recv(1537, socket.MSG_WAITALL)
+        peer.close()
+        ends = pull.end()
+        said = f"relay: 127.0.0.1:{port}: the server closed the connection\nrelay: status 10 at 0\n"
+        expect(ends == (10, b"", said), f"broken: a pull from a server that goes ends with {ends}")
+
+
 TRIALS = [silent, sparse, vanished]
-TESTS = [counted, gathered, recording, limited]
+TESTS = [counted, gathered, recording, limited, pushed, broken]
 
 
 def main():

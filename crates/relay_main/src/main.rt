@@ -6,6 +6,7 @@ ghost use Rattle.key_guard.specs.Allowed.{is_allowed};
 
 mod adapters;
 mod check_config;
+mod clients;
 mod script;
 mod segments;
 mod serve;
@@ -258,6 +259,10 @@ fn answer<
         serve::command(host, rt, words, &guards)
     } else if is_first(words, "segment") {
         segments::command(host, rt, words)
+    } else if is_first(words, "push") {
+        clients::push_command(host, rt, words)
+    } else if is_first(words, "pull") {
+        clients::pull_command(host, rt, words)
     } else {
         command(host, words, &guards)
     }

@@ -10,6 +10,8 @@ pub const USAGE: &str = "usage: relay serve FILE
        relay remux < FLV > TS
        relay check < TS
        relay segment NAME T < FLV > M3U8
+       relay push ADDRESS APP NAME < FLV
+       relay pull ADDRESS APP NAME > FLV
        relay [COMMAND] --help
        relay --version
 ";
@@ -17,7 +19,7 @@ pub const USAGE: &str = "usage: relay serve FILE
 pub const ABOUT: &str = "relay: a live video relay, whose rules are proved\n";
 
 /// Each command with what is told of it.
-pub const COMMANDS: [(&str, &str); 8] = [
+pub const COMMANDS: [(&str, &str); 10] = [
     ("serve", SERVE),
     ("check-config", CHECK_CONFIG),
     ("drill", DRILL),
@@ -26,6 +28,8 @@ pub const COMMANDS: [(&str, &str); 8] = [
     ("remux", REMUX),
     ("check", CHECK),
     ("segment", SEGMENT),
+    ("push", PUSH),
+    ("pull", PULL),
 ];
 
 const SERVE: &str = "relay serve listens as the configuration in FILE says: encoders publish to it
@@ -183,9 +187,23 @@ once it is whole, in place of one that was there. NAME is 1 to 64 letters,
 digits, '.', '_' or '-', T 1 to 3600000. There are at most 100000 segments.
 ";
 
+const PUSH: &str =
+    "relay push publishes the FLV of standard input as the stream NAME of the app APP at
+the RTMP server at ADDRESS, an IP address and a port, as 127.0.0.1:1935. It sends
+each tag as it is read, so what writes its input gives the pace. NAME may carry
+a key behind '?'. A film has at most 68719476736 bytes.
+";
+
+const PULL: &str =
+    "relay pull plays the stream NAME of the app APP of the RTMP server at ADDRESS, an IP
+address and a port, as 127.0.0.1:1935, and writes it as FLV on standard output,
+each tag as it comes. It ends when the server says that the stream is over. NAME
+may carry a key behind '?'.
+";
+
 pub const STATUS: &str = "Exit status:
   0  the input was read to its end; by serve, all were served; by soak, the run
-     was made
+     was made; by pull, the stream was played to its end
   2  the command line is none of the above; nothing was read or written
   3  standard input failed, or the FILE of a configuration
   4  a line of the script is none of the above, or may not stand there; or the
@@ -197,6 +215,10 @@ pub const STATUS: &str = "Exit status:
   7  the address or a file couldn't be had; by serve, nobody was served
   8  the file was read to its end, and a unit of sound or pictures was left out
   9  by segment: there would be more than 100000 segments
+  10 by push and pull: the server closed the connection
+  11 by push and pull: there was no connection, or it failed
+  12 by push and pull: what the server sent is no RTMP from byte PLACE on
+  13 by push and pull: the server refused what was asked for
 Where it isn't 0, the last line on standard error is 'relay: status CODE at
 PLACE'. With code 4 PLACE is the number of the script's line, the first being 1,
 or the number of the file's bytes before the place where it is refused; else it

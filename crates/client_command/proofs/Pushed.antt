@@ -1,0 +1,436 @@
+-- A film that is pushed
+use Rattle.std.proofs.Common.{◌≡◌, ◌⊎◌, inl, inr, ◌≤◌, ◌<◌, ◌^◌, ◌++◌, ◌∷◌, ℕ, Bool, true, false, nat_eq, List, [], length, drop, Option, Some, None, Result, Ok, Err, refl, sym, ap, ◌∙◌, subst, arith, append-nil, append_assoc}
+use Rattle.std.proofs.lemmas.Bool.Decides.{nat_tests}
+use Rattle.relay_outside.specs.Told.{LinkCounts, LinkTold}
+use Rattle.chunk_reader.proofs.Reading.{reads_nothing}
+use Rattle.chunk_reader.specs.ReaderKnown.{ReaderKnown}
+use Rattle.chunk_reader.specs.Sound.{IsRead}
+use Rattle.chunk_wire.specs.declared.message.Message.{Message}
+use Rattle.flv_tags.specs.declared.tag.Tag.{Tag}
+use Rattle.flv_tags.specs.Layout.{is_kind}
+use Rattle.flv_tags.specs.Known.{Known}
+use Rattle.flv_tags.specs.Written.{IsWritable}
+use Rattle.segment_command.specs.Outcome.{IsFirst}
+use Rattle.session_owed.specs.Talk.{hand_bytes}
+use Rattle.client_owed.specs.declared.types.Asked.{Asked}
+use Rattle.client_owed.specs.declared.types.Gave.{Gave}
+use Rattle.client_owed.specs.declared.types.Gift.{Gift}
+use Rattle.client_owed.specs.declared.types.Given.{Given}
+use Rattle.client_owed.specs.declared.types.Given.TheVariants as given
+use Rattle.client_owed.specs.declared.types.Phase.{Phase}
+use Rattle.client_owed.specs.declared.types.Phase.TheVariants.{Connecting, Creating, Asking, Started}
+use Rattle.client_owed.specs.declared.types.Wish.{Wish}
+use Rattle.client_owed.specs.declared.types.Wish.TheVariants as wish
+use Rattle.client_owed.specs.Client.{does}
+use Rattle.client_owed.specs.Owed.{MayGive, out}
+use Rattle.client_owed.specs.Pulled.{gift_for, pulled, pulled_from}
+use Rattle.client_owed.specs.Standing.{HasStarted, Keeps, Past, Stands, gave_more, is_finish, is_finished, with_given}
+use Rattle.rtmp_client.specs.ClientState.{ClientState, Lasting, StandsSo, Untouched, has_started, lasting_of, untouched_of}
+use Rattle.rtmp_client.specs.Keeping.{keeps_of, past_of}
+use Rattle.rtmp_client.specs.declared.core_fields.Core.{Core}
+use Rattle.rtmp_client.specs.declared.end.ClientEnd.{ClientEnd}
+use Rattle.rtmp_client.specs.declared.end.ClientEnd.TheVariants as end
+use Rattle.rtmp_client.specs.declared.end.ClientTurn.{ClientTurn}
+use Rattle.rtmp_client.specs.declared.end.ClientTurn.TheVariants.{Ended as TurnEnded}
+use Rattle.client_command.specs.Closing.{IsRefusal, Tells, client_how, how_by, how_of}
+use Rattle.client_command.specs.Ends.{How, Whole, ByClient, ByFilm, BySource, BySink, ByMemory, status_of}
+use Rattle.client_command.specs.Film.{AreFirst, IsWhole, WasRead, sends_in, tags_given}
+use Rattle.client_command.specs.Giving.{Gives, HasGiven, IsOpen, IsReading, NextStops, PushEnds, PushSteps, PushStops, ReadsNext, came_of}
+use Rattle.client_command.specs.Pushes.{HasPushed, PushBy, PushOutcome, PushSeen, push_seen}
+use Rattle.client_command.specs.Runs.{AreFriendly, Causes, HasRun, most_message}
+use Rattle.client_command.specs.Traffic.{IsCalm, Passed}
+use Rattle.client_command.specs.Turned.{IsDone, IsLive, IsNew, Runs, Stopped, Turned, gifts_of}
+use Rattle.client_command.specs.declared.ending.Ended.{Ended}
+use Rattle.client_command.specs.declared.film.Film.{Film}
+use Rattle.client_command.specs.declared.stop.Stop.{Stop}
+use Rattle.client_command.specs.declared.stop.Stop.TheVariants.{Client, Refused, Source, Sink, Memory}
+use Rattle.client_command.proofs.Passing.{calm_here, passed_same}
+use Rattle.client_command.proofs.Turns.{new_runs, run_here}
+use Rattle.client_command.proofs.Filming.{prepend_none}
+
+-- ---- one that publishes is told nothing
+
+pulled_by : (k : Asked) (p : Phase) (ms : List (ℕ × Message)) → k.wish ≡ wish.Push → pulled_from k p ms ≡ []
+unfolding pulled_from
+pulled_by k p [] e = refl
+pulled_by k p (m ∷ ms) e =
+    ap (λ (w : Wish). gift_for w p m.1 ++ pulled_from k (does k p m.1).phase ms) e ∙ pulled_by k (does k p m.1).phase ms e
+
+-- so its run is one without gifts
+pub silent : (k : Asked) (y rest : List ℕ) (ms : List (ℕ × Message)) (T : List Gave) (gifts : List Gift) (more : List ℕ) (old new : Option LinkTold) → k.wish ≡ wish.Push → HasRun k y rest ms T gifts more old new → HasRun k y rest ms T [] more old new
+silent k y rest ms T gifts more old new e r = record {
+  took = r.took;
+  passed = r.passed;
+  read = r.read;
+  friendly = r.friendly;
+  owes = r.owes;
+  given = r.given;
+  told = sym (pulled_by k Connecting ms e);
+}
+
+wish_of : (k : Asked) (c : ClientState) (start now : Option LinkTold) (n m : LinkCounts) → c.parts.asked.wish ≡ wish.Push → Runs k c start now n m → k.wish ≡ wish.Push
+wish_of k c start now n m w r = ap (λ (x : Asked). x.wish) (sym r.asked) ∙ w
+
+-- ---- what is given
+
+tags_more : (T : List Gave) (g : Gave) → tags_given (T ++ g ∷ []) ≡ tags_given T ++ sends_in g.given
+tags_more [] g = append-nil (sends_in g.given)
+tags_more (x ∷ T) g = ap (λ (l : List Tag). sends_in x.given ++ l) (tags_more T g) ∙ sym (append_assoc (sends_in x.given) (tags_given T) (sends_in g.given))
+
+started_is : (p : Phase) → has_started p ≡ true → HasStarted p
+started_is Connecting e = absurd (cc)
+started_is Creating e = absurd (cc)
+started_is (Asking id) e = absurd (cc)
+started_is (Started id) e = tt
+
+-- what giving left as it was
+record IsGiven (c d : ClientState) (g : Given) : Type 0 where
+  pub past : past_of d.parts ≡ with_given (past_of c.parts) (record { at = length c.parts.y; given = g })
+  pub keeps : keeps_of d.parts ≡ gave_more (keeps_of c.parts) g
+  pub others : untouched_of d ≡ untouched_of c
+
+module _ (gives : (k : Asked) (max : ℕ) (p : Past) (q : Keeps) (g : Gave) → HasStarted q.phase → q.finished ≡ false → g.at ≡ length p.y → MayGive k.wish max g.given → Stands k max p q → Stands k max (with_given p g) (gave_more q g.given)) where
+  so_given : (c d : ClientState) (g : Given) → has_started c.parts.phase ≡ true → c.parts.finished ≡ false → MayGive c.parts.asked.wish c.parts.reader.max g → IsGiven c d g → StandsSo c.parts → StandsSo d.parts
+  so_given c d g st op may i s =
+      let q = c.parts in
+      let x : Gave = record { at = length q.y; given = g } in
+      let h = gives q.asked q.reader.max (past_of q) (keeps_of q) x (started_is q.phase st) op refl may s.stands in
+      let asked : d.parts.asked ≡ q.asked = ap (λ (x : Untouched). x.asked) i.others in
+      let reader : d.parts.reader ≡ q.reader = ap (λ (x : Untouched). x.reader) i.others in
+      let y : d.parts.y ≡ q.y = ap (λ (x : Past). x.y) i.past in
+      record {
+        read = subst (λ (x : List ℕ). IsRead d.parts.reader.max (drop hand_bytes x) d.parts.reader.given) (sym y) (subst (λ (x : ReaderKnown). IsRead x.max (drop hand_bytes q.y) x.given) (sym reader) s.read);
+        stands = subst (λ (x : Asked). Stands x d.parts.reader.max (past_of d.parts) (keeps_of d.parts)) (sym asked)
+            (subst (λ (x : ReaderKnown). Stands q.asked x.max (past_of d.parts) (keeps_of d.parts)) (sym reader)
+            (subst (λ (x : Past). Stands q.asked q.reader.max x (keeps_of d.parts)) (sym i.past) (subst (λ (x : Keeps). Stands q.asked q.reader.max (with_given (past_of q) (record { at = length q.y; given = g })) x) (sym i.keeps) h)));
+      }
+
+  pub live_given : (c d : ClientState) (g : Given) → IsOpen c → has_started c.parts.phase ≡ true → MayGive c.parts.asked.wish c.parts.reader.max g → past_of d.parts ≡ with_given (past_of c.parts) (record { at = length c.parts.y; given = g })
+      → keeps_of d.parts ≡ gave_more (keeps_of c.parts) g → untouched_of d ≡ untouched_of c → IsLive d
+  live_given c d g o st may p k u = record {
+    lives = ap (λ (x : Untouched). x.ended) u ∙ o.live.lives;
+    max = ap (λ (x : Untouched). x.reader.max) u ∙ o.live.max;
+    stands = so_given c d g st o.open_is may (record { past = p; keeps = k; others = u }) o.live.stands;
+  }
+
+pub runs_given : (k : Asked) (c d : ClientState) (g : Given) (start now : Option LinkTold) (n m : LinkCounts) → IsLive d → past_of d.parts ≡ with_given (past_of c.parts) (record { at = length c.parts.y; given = g }) → untouched_of d ≡ untouched_of c
+    → Runs k c start now n m → Runs k d start now n m
+runs_given k c d g start now n m live p u r =
+    let y : d.parts.y ≡ c.parts.y = ap (λ (x : Past). x.y) p in
+    let sent : d.parts.sent ≡ c.parts.sent = ap (λ (x : Past). x.sent) p in
+    let input : d.input ≡ c.input = ap (λ (x : Untouched). x.input) u in
+    let reader : d.parts.reader ≡ c.parts.reader = ap (λ (x : Untouched). x.reader) u in
+    record {
+      live = live;
+      asked = ap (λ (x : Untouched). x.asked) u ∙ r.asked;
+      passed = subst (λ (x : List ℕ). Passed (x ++ d.input) d.parts.sent start now) (sym y) (subst (λ (x : List ℕ). Passed (c.parts.y ++ x) d.parts.sent start now) (sym input)
+          (subst (λ (x : List ℕ). Passed (c.parts.y ++ c.input) x start now) (sym sent) r.passed));
+      friendly = subst (λ (x : ReaderKnown). AreFriendly x.given) (sym reader) r.friendly;
+      calm = r.calm;
+    }
+
+pub open_given : (c d : ClientState) (t : Tag) → IsOpen c → IsLive d → keeps_of d.parts ≡ gave_more (keeps_of c.parts) (given.Send t) → untouched_of d ≡ untouched_of c → IsOpen d
+open_given c d t o l k u = record {
+  live = l;
+  pushes = ap (λ (x : Untouched). x.asked.wish) u ∙ o.pushes;
+  open_is = ap (λ (x : Keeps). x.finished) k;
+}
+
+pub may_send : (c : ClientState) (t : Tag) → IsOpen c → t.time < 2 ^ 32 → IsWritable t → MayGive c.parts.asked.wish c.parts.reader.max (given.Send t)
+may_send c t o time w = (o.pushes, w.kind, subst (λ (x : ℕ). length t.body ≤ x) (sym o.live.max) w.fits, time)
+
+gave_all : (c d : ClientState) (g : Given) → past_of d.parts ≡ with_given (past_of c.parts) (record { at = length c.parts.y; given = g }) → tags_given d.parts.gave ≡ tags_given c.parts.gave ++ sends_in g
+gave_all c d g p = ap (λ (x : Past). tags_given x.gave) p ∙ tags_more c.parts.gave (record { at = length c.parts.y; given = g })
+
+pub tag_given : (k : Asked) (c d : ClientState) (f h : Film) (t : Tag) (old : PushSeen) (left left' : Option (List ℕ)) (faults faults' : ℕ) (told : Option LinkTold) (counts : LinkCounts) → Gives k c f old (push_seen left faults told counts)
+    → ReadsNext (Ok (Some t)) f h old.left left' faults faults' → IsLive d → past_of d.parts ≡ with_given (past_of c.parts) (record { at = length c.parts.y; given = given.Send t }) → untouched_of d ≡ untouched_of c
+    → Gives k d h old (push_seen left' faults' told counts)
+tag_given k c d f h t old left left' faults faults' told counts v r live p u = record {
+  runs = runs_given k c d (given.Send t) old.told told old.counts counts live p u v.runs;
+  tags = gave_all c d (given.Send t) p ∙ ap (λ (l : List Tag). l ++ t ∷ []) v.tags ∙ sym r.1;
+  read = r.0;
+  faults = r.2 ∙ v.faults;
+}
+
+pub end_given : (k : Asked) (c d : ClientState) (f h : Film) (old : PushSeen) (left left' : Option (List ℕ)) (faults faults' : ℕ) (told : Option LinkTold) (counts : LinkCounts) → c.parts.asked.wish ≡ wish.Push → Gives k c f old (push_seen left faults told counts)
+    → ReadsNext (Ok None) f h old.left left' faults faults' → IsLive d → past_of d.parts ≡ with_given (past_of c.parts) (record { at = length c.parts.y; given = given.Finish }) → untouched_of d ≡ untouched_of c
+    → HasGiven k d old (push_seen left' faults' told counts)
+end_given k c d f h old left left' faults faults' told counts w v r live p u =
+    let tags : tags_given d.parts.gave ≡ f.reader.given = gave_all c d given.Finish p ∙ append-nil (tags_given c.parts.gave) ∙ v.tags in
+    record {
+      runs = runs_given k c d given.Finish old.told told old.counts counts live p u v.runs;
+      read = r.0.0;
+      was_read = r.0.1;
+      whole = subst (λ (l : List Tag). IsWhole r.0.0 l left') (sym tags) r.0.2;
+      first = subst (IsFirst r.0.0) (sym tags) r.0.3;
+      pushes = ap (λ (x : Untouched). x.asked.wish) u ∙ w;
+      faults = r.1 ∙ v.faults;
+    }
+
+-- ---- what a film's end comes to
+
+pushed_run : (k : Asked) (c : ClientState) (start now : Option LinkTold) (n m : LinkCounts) → IsOpen c → Runs k c start now n m → HasRun k c.parts.y c.input c.parts.reader.given c.parts.gave [] c.parts.outgoing.pending start now
+pushed_run k c start now n m o r = silent k c.parts.y c.input c.parts.reader.given c.parts.gave (gifts_of c.parts) c.parts.outgoing.pending start now (wish_of k c start now n m o.pushes r) (run_here k c start now n m r)
+
+not_finished : (c : ClientState) → IsOpen c → is_finished c.parts.gave ≡ false
+not_finished c o = sym o.live.stands.stands.finished ∙ o.open_is
+
+pub next_stops : (stop : Stop) (k : Asked) (c : ClientState) (f : Film) (old : PushSeen) (left left' : Option (List ℕ)) (faults faults' : ℕ) (told : Option LinkTold) (counts : LinkCounts) → IsOpen c → c.parts.outgoing.pending ≡ []
+    → Gives k c f old (push_seen left faults told counts) → (read : List ℕ) × WasRead read old.left left' × NextStops stop f.reader.given read left' faults faults' → PushStops stop k c old (push_seen left' faults' told counts)
+next_stops Client k c f old left left' faults faults' told counts o none v r = absurd r.2
+next_stops (Refused at) k c f old left left' faults faults' told counts o none v r = record {
+  read = r.0;
+  was_read = r.1;
+  y = c.parts.y;
+  rest = c.input;
+  ms = c.parts.reader.given;
+  T = c.parts.gave;
+  more = c.parts.outgoing.pending;
+  run = pushed_run k c old.told told old.counts counts o v.runs;
+  ends = (subst (λ (l : List Tag). Rattle.client_command.specs.Film.IsRefusedAt r.0 at l left') (sym v.tags) r.2.0, r.2.1 ∙ v.faults, record { none = none; finished = not_finished c o; calm = v.runs.calm });
+}
+next_stops Source k c f old left left' faults faults' told counts o none v r = record {
+  read = r.0;
+  was_read = r.1;
+  y = c.parts.y;
+  rest = c.input;
+  ms = c.parts.reader.given;
+  T = c.parts.gave;
+  more = c.parts.outgoing.pending;
+  run = pushed_run k c old.told told old.counts counts o v.runs;
+  ends = (
+    (r.2.0.0, subst (λ (l : List Tag). Rattle.flv_tags.specs.Reads.Reads r.0 l r.2.0.0) (sym v.tags) r.2.0.1),
+    subst (λ (x : ℕ). Rattle.relay_outside.specs.Counts.Rose x faults') v.faults r.2.1,
+    record { none = none; finished = not_finished c o; calm = v.runs.calm },
+  );
+}
+next_stops Sink k c f old left left' faults faults' told counts o none v r = absurd r.2
+next_stops Memory k c f old left left' faults faults' told counts o none v r = record {
+  read = r.0;
+  was_read = r.1;
+  y = c.parts.y;
+  rest = c.input;
+  ms = c.parts.reader.given;
+  T = c.parts.gave;
+  more = c.parts.outgoing.pending;
+  run = pushed_run k c old.told told old.counts counts o v.runs;
+  ends = (first_as r.0 f.reader.given (tags_given c.parts.gave) [] (ap (λ (l : List Tag). l ++ []) v.tags ∙ append-nil f.reader.given) r.2.0, r.2.1 ∙ v.faults, v.runs.calm);
+}
+  where
+    first_as : (read : List ℕ) (given tags later : List Tag) → tags ++ later ≡ given → IsFirst read given → AreFirst read tags
+    first_as read given tags later e i = (later, subst (IsFirst read) (sym e) i)
+
+-- there was no memory to give it
+pub lost_given : (k : Asked) (c : ClientState) (f h : Film) (t : Tag) (old : PushSeen) (left left' : Option (List ℕ)) (faults faults' : ℕ) (told : Option LinkTold) (counts : LinkCounts) → IsOpen c → IsReading h → Gives k c f old (push_seen left faults told counts)
+    → ReadsNext (Ok (Some t)) f h old.left left' faults faults' → HasPushed k ByMemory old (push_seen left' faults' told counts)
+lost_given k c f h t old left left' faults faults' told counts o reading v r = record {
+  read = came_of h;
+  was_read = r.0;
+  y = c.parts.y;
+  rest = c.input;
+  ms = c.parts.reader.given;
+  T = c.parts.gave;
+  more = c.parts.outgoing.pending;
+  run = pushed_run k c old.told told old.counts counts o v.runs;
+  ends = ((t ∷ [], subst (IsFirst (came_of h)) (r.1 ∙ ap (λ (l : List Tag). l ++ t ∷ []) (sym v.tags)) (record { front = h.reader.fed; behind = h.ahead; parts = refl; rest = reading.stands.0; reads = reading.stands.1 })), r.2 ∙ v.faults, v.runs.calm);
+}
+
+-- or to finish it
+pub lost_end : (k : Asked) (c : ClientState) (f h : Film) (old : PushSeen) (left left' : Option (List ℕ)) (faults faults' : ℕ) (told : Option LinkTold) (counts : LinkCounts) → IsOpen c → Gives k c f old (push_seen left faults told counts)
+    → ReadsNext (Ok None) f h old.left left' faults faults' → HasPushed k ByMemory old (push_seen left' faults' told counts)
+lost_end k c f h old left left' faults faults' told counts o v r = record {
+  read = r.0.0;
+  was_read = r.0.1;
+  y = c.parts.y;
+  rest = c.input;
+  ms = c.parts.reader.given;
+  T = c.parts.gave;
+  more = c.parts.outgoing.pending;
+  run = pushed_run k c old.told told old.counts counts o v.runs;
+  ends = (([], subst (IsFirst r.0.0) (sym (append-nil (tags_given c.parts.gave) ∙ v.tags)) r.0.3), r.1 ∙ v.faults, v.runs.calm);
+}
+
+-- ---- turns
+
+client_pushed : (e : ClientEnd) (k : Asked) (old new : PushSeen) → HasPushed k (ByClient e) old new → HasPushed k (client_how e) old new
+client_pushed end.Done k old new h = absurd h.ends.2
+client_pushed end.PeerClosed k old new h = h
+client_pushed end.LinkFault k old new h = h
+client_pushed (end.BadVersion at) k old new h = h
+client_pushed (end.BadChunk cause at) k old new h = h
+client_pushed (end.BadControl at) k old new h = h
+client_pushed (end.BadCommand at) k old new h = h
+client_pushed (end.Refused code) k old new h = h
+client_pushed end.OutOfMemory k old new h = h
+
+-- the client ended while it may be given more
+pub turn_stops : (k : Asked) (c d : ClientState) (f : Film) (old : PushSeen) (told told' : Option LinkTold) (counts counts' : LinkCounts) (left : Option (List ℕ)) (faults : ℕ) → IsOpen c → IsReading f → Gives k c f old (push_seen left faults told counts)
+    → Turned TurnEnded k c d old.told told' old.counts counts' → PushStops Client k d old (push_seen left faults told' counts')
+turn_stops k c d f old told told' counts counts' left faults o reading v t =
+    let e = t.0 in
+    let s = t.2 in
+    let q = c.parts in
+    let first : IsFirst (came_of f) f.reader.given = record { front = f.reader.fed; behind = f.ahead; parts = refl; rest = reading.stands.0; reads = reading.stands.1 } in (
+      e,
+      t.1,
+      client_pushed e k old (push_seen left faults told' counts') (record {
+        read = came_of f;
+        was_read = v.read;
+        y = q.y;
+        rest = s.rest;
+        ms = q.reader.given;
+        T = q.gave;
+        more = s.more;
+        run = silent k q.y s.rest q.reader.given q.gave (gifts_of q) s.more old.told told' (wish_of k c old.told told old.counts counts o.pushes v.runs) s.run;
+        ends = (([], subst (IsFirst (came_of f)) (sym (append-nil (tags_given q.gave) ∙ v.tags)) first), v.faults, why s.why);
+      }),
+    )
+  where
+    why : (IsDone t.0 c.parts t.2.more old.counts counts' ⊎ Causes t.0 c.parts.reader.given (c.parts.y ++ t.2.rest) old.counts counts') → Causes t.0 c.parts.reader.given (c.parts.y ++ t.2.rest) old.counts counts'
+    why (inl d) = absurd (let b : true ≡ false = sym d.finished ∙ o.open_is in cc)
+    why (inr h) = h
+
+-- a turn leaves it so
+pub turn_goes : (k : Asked) (c d : ClientState) (f : Film) (old : PushSeen) (told told' : Option LinkTold) (counts counts' : LinkCounts) (left : Option (List ℕ)) (faults : ℕ) → Gives k c f old (push_seen left faults told counts)
+    → lasting_of d.parts ≡ lasting_of c.parts → Runs k d old.told told' old.counts counts' → Gives k d f old (push_seen left faults told' counts')
+turn_goes k c d f old told told' counts counts' left faults v la r = record {
+  runs = r;
+  tags = ap (λ (x : Lasting). tags_given x.gave) la ∙ v.tags;
+  read = v.read;
+  faults = v.faults;
+}
+
+pub open_turned : (c d : ClientState) → lasting_of d.parts ≡ lasting_of c.parts → IsLive d → IsOpen c → IsOpen d
+open_turned c d la l o = record {
+  live = l;
+  pushes = ap (λ (x : Lasting). x.asked.wish) la ∙ o.pushes;
+  open_is = ap (λ (x : Lasting). x.finished) la ∙ o.open_is;
+}
+
+-- ---- the whole film was given
+
+pub out_goes : (k : Asked) (c d : ClientState) (old : PushSeen) (told told' : Option LinkTold) (counts counts' : LinkCounts) (left : Option (List ℕ)) (faults : ℕ) → HasGiven k c old (push_seen left faults told counts)
+    → lasting_of d.parts ≡ lasting_of c.parts → Runs k d old.told told' old.counts counts' → HasGiven k d old (push_seen left faults told' counts')
+out_goes k c d old told told' counts counts' left faults v la r =
+    let tags : tags_given d.parts.gave ≡ tags_given c.parts.gave = ap (λ (x : Lasting). tags_given x.gave) la in
+    record {
+      runs = r;
+      read = v.read;
+      was_read = v.was_read;
+      whole = subst (λ (l : List Tag). IsWhole v.read l left) (sym tags) v.whole;
+      first = subst (IsFirst v.read) (sym tags) v.first;
+      pushes = ap (λ (x : Lasting). x.asked.wish) la ∙ v.pushes;
+      faults = v.faults;
+    }
+
+pub out_stops : (k : Asked) (c d : ClientState) (old : PushSeen) (told told' : Option LinkTold) (counts counts' : LinkCounts) (left : Option (List ℕ)) (faults : ℕ) → HasGiven k c old (push_seen left faults told counts)
+    → Turned TurnEnded k c d old.told told' old.counts counts' → PushStops Client k d old (push_seen left faults told' counts')
+out_stops k c d old told told' counts counts' left faults v t = (t.0, t.1, by_why t.2.why)
+  where
+    run : HasRun k c.parts.y t.2.rest c.parts.reader.given c.parts.gave [] t.2.more old.told told'
+    run = silent k c.parts.y t.2.rest c.parts.reader.given c.parts.gave (gifts_of c.parts) t.2.more old.told told' (wish_of k c old.told told old.counts counts v.pushes v.runs) t.2.run
+
+    whole : IsDone t.0 c.parts t.2.more old.counts counts' → HasPushed k Whole old (push_seen left faults told' counts')
+    whole d = record {
+      read = v.read;
+      was_read = v.was_read;
+      y = c.parts.y;
+      rest = t.2.rest;
+      ms = c.parts.reader.given;
+      T = c.parts.gave;
+      more = t.2.more;
+      run = run;
+      ends = (v.whole, v.faults, record { none = d.none; finished = sym v.runs.live.stands.stands.finished ∙ d.finished; calm = d.calm });
+    }
+
+    by_why : (IsDone t.0 c.parts t.2.more old.counts counts' ⊎ Causes t.0 c.parts.reader.given (c.parts.y ++ t.2.rest) old.counts counts') → HasPushed k (client_how t.0) old (push_seen left faults told' counts')
+    by_why (inl d) = subst (λ (e : ClientEnd). HasPushed k (client_how e) old (push_seen left faults told' counts')) (sym d.is_done) (whole d)
+    by_why (inr h) = client_pushed t.0 k old (push_seen left faults told' counts') (record {
+      read = v.read;
+      was_read = v.was_read;
+      y = c.parts.y;
+      rest = t.2.rest;
+      ms = c.parts.reader.given;
+      T = c.parts.gave;
+      more = t.2.more;
+      run = run;
+      ends = (([], subst (IsFirst v.read) (sym (append-nil (tags_given c.parts.gave))) v.first), v.faults, h);
+    })
+
+-- ---- the status
+
+told_so : (how : How) (k : Asked) (old new : PushSeen) (e : Ended) → HasPushed k how old new → Tells how e → PushOutcome k old new e
+told_so how k old new e p t = record { how = how; status = t.status; refusal = t.refusal; pushed = p }
+
+lost : (k : Asked) (code : List ℕ) (old new : PushSeen) → HasPushed k (ByClient (end.Refused code)) old new → HasPushed k ByMemory old new
+lost k code old new h = record {
+  read = h.read;
+  was_read = h.was_read;
+  y = h.y;
+  rest = h.rest;
+  ms = h.ms;
+  T = h.T;
+  more = h.more;
+  run = h.run;
+  ends = (h.ends.0, h.ends.1, h.ends.2.1);
+}
+
+by_tells : (how : How) (k : Asked) (old new : PushSeen) (e : Ended) → HasPushed k how old new → (Tells how e ⊎ (IsRefusal how × Tells ByMemory e)) → PushOutcome k old new e
+by_tells how k old new e p (inl t) = told_so how k old new e p t
+by_tells how k old new e p (inr r) = told_so ByMemory k old new e (lost k r.0.0 old new (subst (λ (q : How). HasPushed k q old new) r.0.1 p)) r.1
+
+pub push_outcome : (stop : Stop) (o : Option ClientEnd) (c : ClientState) (k : Asked) (old new : PushSeen) (e : Ended) → o ≡ c.ended → PushStops stop k c old new
+    → (Tells (how_of (Err stop) o) e ⊎ (IsRefusal (how_of (Err stop) o) × Tells ByMemory e)) → PushOutcome k old new e
+push_outcome Client o c k old new e i p t = by_tells (how_by o) k old new e (subst (λ (q : Option ClientEnd). HasPushed k (how_by q) old new) (sym (i ∙ p.1)) p.2) t
+push_outcome (Refused at) o c k old new e i p t = by_tells (ByFilm at) k old new e p t
+push_outcome Source o c k old new e i p t = by_tells BySource k old new e p t
+push_outcome Sink o c k old new e i p t = absurd p
+push_outcome Memory o c k old new e i p t = by_tells ByMemory k old new e p t
+
+-- without a client
+nothing_told : (k : Asked) → [] ≡ pulled k []
+unfolding pulled_from
+nothing_told k = refl
+
+pub no_client : (k : Asked) (seen : PushSeen) (e : Ended) → e ≡ record { status = record { code = 6; place = 0 }; refusal = [] } → PushOutcome k seen seen e
+no_client k seen e i =
+    told_so ByMemory k seen seen e
+    (record {
+      read = [];
+      was_read = prepend_none seen.left;
+      y = [];
+      rest = [];
+      ms = [];
+      T = [];
+      more = out k [] [] [];
+      run = record {
+        took = [];
+        passed = passed_same seen.told seen.told refl;
+        read = record { s = _; r = []; reads = reads_nothing most_message };
+        friendly = tt;
+        owes = refl;
+        given = tt;
+        told = nothing_told k;
+      };
+      ends = (([], record { front = []; behind = []; parts = refl; rest = []; reads = nothing_read }), refl, calm_here seen.counts);
+    })
+    (record { status = ap (λ (x : Ended). x.status) i; refusal = ap (λ (x : Ended). x.refusal) i })
+  where
+    nothing_read : Rattle.flv_tags.specs.Reads.Reads [] [] []
+    nothing_read = inl (record { short = omega Rattle.std.proofs.Common.arith; as_header = λ j l m n. absurd (omega (Rattle.std.proofs.Common.arith, l)); none = refl; all = refl })
+
+-- a new client and film
+pub new_gives : (k : Asked) (c : ClientState) (f : Film) (seen : PushSeen) → c.parts.asked ≡ k → IsNew c → IsLive c → came_of f ≡ [] → f.reader.given ≡ [] → Gives k c f seen seen
+new_gives k c f seen asked n l came given = record {
+  runs = new_runs k c seen.told seen.counts asked n l;
+  tags = ap (λ (x : Past). tags_given x.gave) n.past ∙ sym given;
+  read = subst (λ (x : List ℕ). WasRead x seen.left seen.left) (sym came) (prepend_none seen.left);
+  faults = refl;
+}
+
+pub new_open : (c : ClientState) → c.parts.asked.wish ≡ wish.Push → IsNew c → IsLive c → IsOpen c
+new_open c w n l = record { live = l; pushes = w; open_is = ap (λ (x : Keeps). x.finished) n.keeps }
+
+pub none_long : (l : List ℕ) (n : ℕ) → n ≡ length l → n ≡ 0 → l ≡ []
+none_long [] n e t = refl
+none_long (x ∷ l) n e t = absurd (omega (arith, e, t))

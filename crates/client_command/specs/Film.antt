@@ -1,0 +1,38 @@
+-- A film that is pushed
+use Rattle.std.specs.Prelude.{◌≡◌, ◌⊎◌, ◌≤◌, ◌++◌, ℕ, List, [], ◌∷◌, length, Option, None}
+use Rattle.std.specs.Io.KnownBytes.{IsAtEnd, prepend_known}
+use Rattle.flv_tags.specs.declared.tag.Tag.{Tag}
+use Rattle.flv_tags.specs.Reads.{IsFile, Reads}
+use Rattle.file_commands.specs.Outcome.{most_bytes}
+use Rattle.segment_command.specs.Outcome.{IsCutOff, IsFirst, IsStopped, IsTooLong}
+use Rattle.client_owed.specs.declared.types.Gave.{Gave}
+use Rattle.client_owed.specs.declared.types.Given.{Given}
+use Rattle.client_owed.specs.declared.types.Given.TheVariants.{Send, Finish}
+
+-- the tag that was given, if it was one
+abbrev pub sends_in : Given → List Tag
+sends_in (Send t) = t ∷ []
+sends_in Finish = []
+
+-- THE TAGS of what was given
+abbrev pub tags_given : List Gave → List Tag
+tags_given [] = []
+tags_given (g ∷ T) = sends_in g.given ++ tags_given T
+
+-- these bytes of a source were read
+abbrev pub WasRead : List ℕ → Option (List ℕ) → Option (List ℕ) → Type 0
+WasRead read old new = old ≡ prepend_known read new
+
+-- the whole film was read
+pub record IsWhole (read : List ℕ) (tags : List Tag) (left : Option (List ℕ)) : Type 0 where
+  pub within : length read ≤ most_bytes
+  pub at_end : IsAtEnd left
+  pub file : IsFile read tags
+
+-- it is refused at a place, behind these tags
+abbrev pub IsRefusedAt : List ℕ → ℕ → List Tag → Option (List ℕ) → Type 0
+IsRefusedAt read at tags left = (IsStopped read at tags ⊎ IsTooLong read at tags) ⊎ (IsAtEnd left × IsCutOff read at tags)
+
+-- the tags, and maybe more of them, are the first
+abbrev pub AreFirst : List ℕ → List Tag → Type 0
+AreFirst read tags = (later : List Tag) × IsFirst read (tags ++ later)

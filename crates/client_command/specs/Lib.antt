@@ -1,0 +1,12 @@
+pub mod Words
+pub mod Traffic
+pub mod Runs
+pub mod Gifts
+pub mod Film
+pub mod Ends
+pub mod Pulls
+pub mod Pushes
+pub mod Turned
+pub mod Closing
+pub mod Telling
+pub mod Giving

@@ -1,0 +1,77 @@
+ghost use Rattle.std.specs.Prelude.{◌≡◌, ◌≤◌, [], length, drop, OnOk, OnErr};
+ghost use Rattle.rtmp_client.specs.Turns.{is_nil};
+
+use av_unit::{Bytes, OutOfMemory};
+use std::alloc::Global;
+use std::marker::Model;
+
+/// The bytes of a film that came and weren't read yet. Contracts see their list.
+#[derive(Drop)]
+pub(crate) struct Ahead {
+    bytes: Bytes,
+    offset: usize,
+}
+
+impl Model for Ahead {
+    ghost use Rattle.std.specs.Prelude.{◌≤◌, List, ℕ, length, drop};
+
+    ghost Value = { List ℕ };
+
+    ghost view = { λ a. drop a.offset a.bytes };
+
+    ghost invariant = { λ a. a.offset ≤ length a.bytes };
+}
+
+impl Ahead {
+    /// Nothing came.
+    pub(crate) fn new(alloc: Global) -> Ahead
+        ensures { result ≡ [] }
+    {
+        Ahead {
+            bytes: Bytes::new(alloc),
+            offset: 0,
+        }
+    }
+
+    /// Bytes came, where none were left.
+    pub(crate) fn receive(&mut self, alloc: Global, bytes: &[u8]) -> Result<(), OutOfMemory>
+        ensures ok { OnOk result (self.new ≡ bytes.now) }
+        ensures err { OnErr result (self.new ≡ self.old) }
+    {
+        let mut list = Bytes::new(alloc);
+        list.append(bytes)?;
+        self.bytes = list;
+        self.offset = 0;
+        Ok(())
+    }
+
+    /// Whether none are left.
+    pub(crate) fn is_empty(&self) -> bool
+        ensures { result ≡ is_nil self.now }
+    {
+        match self.left() {
+            [] => true,
+            [_, ..] => false,
+        }
+    }
+
+    /// The bytes that are left.
+    pub(crate) fn left(&self) -> &[u8]
+        ensures { result.now ≡ self.now }
+    {
+        &self.bytes.as_slice()[self.offset..]
+    }
+
+    /// The first of them were read. Where none are left nothing is kept.
+    pub(crate) fn used(&mut self, alloc: Global, count: usize)
+        requires { count ≤ length self.old }
+        ensures { self.new ≡ drop count self.old }
+    {
+        if count < self.bytes.len() - self.offset {
+            self.offset += count;
+        } else {
+            self.bytes = Bytes::new(alloc);
+            self.offset = 0;
+        }
+    }
+}

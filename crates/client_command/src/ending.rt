@@ -1,0 +1,86 @@
+ghost use Rattle.std.specs.Prelude.{◌≡◌, ◌⊎◌, [], IfErr, IfOk};
+ghost use Rattle.client_command.specs.Closing.{IsLost, IsRefusal, MayTell, Tells, how_by, how_of};
+ghost use Rattle.client_command.specs.Ends.{ByMemory, client_status, code_in};
+
+use crate::stop::Stop;
+use av_unit::{Bytes, OutOfMemory};
+use relay_base::Status;
+use rtmp_client::ClientEnd;
+use std::alloc::Global;
+
+/// How a command ended: its status, and the code by which the server refused the client. There are no bytes where it didn't, or
+/// told none.
+#[derive(Debug, PartialEq, Eq, Drop)]
+pub struct Ended {
+    pub status: Status,
+    pub refusal: Bytes,
+}
+
+/// It ended with this code, and no place.
+pub(crate) fn with_code(alloc: Global, code: u8) -> Ended
+    ensures { result ≡ record { status = record { code = code; place = 0 }; refusal = [] } }
+{
+    with_place(alloc, code, 0)
+}
+
+// It ended with this code at a place.
+fn with_place(alloc: Global, code: u8, place: u64) -> Ended
+    ensures { result ≡ record { status = record { code = code; place = place }; refusal = [] } }
+{
+    Ended {
+        status: Status { code, place },
+        refusal: Bytes::new(alloc),
+    }
+}
+
+// By the end of the client.
+fn by_client(alloc: Global, end: &ClientEnd) -> Result<Ended, OutOfMemory>
+    ensures ok { IfOk result (λ e. e ≡ record { status = client_status end.now; refusal = code_in end.now }) }
+    ensures err { IfErr result (λ _. IsLost end.now) }
+{
+    match end {
+        ClientEnd::PeerClosed => Ok(with_code(alloc, 10)),
+        ClientEnd::LinkFault => Ok(with_code(alloc, 11)),
+        ClientEnd::BadVersion { at } => Ok(with_place(alloc, 12, *at)),
+        ClientEnd::BadChunk { cause: _, at } => Ok(with_place(alloc, 12, *at)),
+        ClientEnd::BadControl { at } => Ok(with_place(alloc, 12, *at)),
+        ClientEnd::BadCommand { at } => Ok(with_place(alloc, 12, *at)),
+        ClientEnd::Refused { code } => {
+            let mut refusal = Bytes::new(alloc);
+            refusal.append(code.as_slice())?;
+            Ok(Ended {
+                status: Status { code: 13, place: 0 },
+                refusal,
+            })
+        }
+        ClientEnd::Done => Ok(with_code(alloc, 0)),
+        ClientEnd::OutOfMemory => Ok(with_code(alloc, 6)),
+    }
+}
+
+// By the end of the client, if it has ended.
+fn by_end(alloc: Global, end: &Option<ClientEnd>) -> Result<Ended, OutOfMemory>
+    ensures { MayTell result (how_by end.now) }
+{
+    match end {
+        Some(end) => by_client(alloc, end),
+        None => Ok(with_code(alloc, 6)),
+    }
+}
+
+/// How a command ended, by what it came to and how its client ended.
+pub(crate) fn tell_end(alloc: Global, end: &Option<ClientEnd>, run: Result<(), Stop>) -> Ended
+    ensures { Tells (how_of run end.now) result ⊎ (IsRefusal (how_of run end.now) × Tells ByMemory result) }
+{
+    match run {
+        Ok(()) => with_code(alloc, 0),
+        Err(Stop::Refused { at }) => with_place(alloc, 4, at),
+        Err(Stop::Source) => with_code(alloc, 3),
+        Err(Stop::Sink) => with_code(alloc, 5),
+        Err(Stop::Memory) => with_code(alloc, 6),
+        Err(Stop::Client) => match by_end(alloc, end) {
+            Ok(ended) => ended,
+            Err(_) => with_code(alloc, 6),
+        },
+    }
+}

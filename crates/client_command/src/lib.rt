@@ -1,0 +1,37 @@
+//! The commands at the other end of a connection: [`push`] publishes a film of FLV at an RTMP server, and [`pull`] plays a stream
+//! of one and writes it as FLV.
+//!
+//! Each takes turns of a client over a link until it ends, and may wait. How it ended is told by the exit code of its status:
+//!
+//! | Code | Comes |
+//! |---|---|
+//! | 0 | the film was read to its end and all of it was sent; or the stream was played up to its end |
+//! | 2 | exactly where the words are others; nothing is read or sent |
+//! | 3 | `push`: only where the source's faults rose |
+//! | 4 | `push`: the film is refused at the byte `place` |
+//! | 5 | `pull`: only where the sink's faults rose |
+//! | 6 | for want of memory |
+//! | 10 | only where the link's ends rose: the server closed the connection |
+//! | 11 | only where the link's faults rose |
+//! | 12 | the server's bytes are no RTMP at the byte `place` |
+//! | 13 | the server refused what was asked for |
+//!
+//! `place` is 0 but for codes 4 and 12.
+#![tactic(auto)]
+
+mod ahead;
+mod ending;
+mod film;
+mod gifts;
+mod pulling;
+mod pushing;
+mod put;
+mod starting;
+mod stop;
+mod turning;
+mod words;
+
+pub use ending::Ended;
+pub use pulling::pull;
+pub use pushing::push;
+pub use words::{Target, target_of};
