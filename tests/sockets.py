@@ -2,7 +2,7 @@
 """Tests of `relay serve` over real sockets: tests/sockets.py RELAY [TEST..]
 
 Prints a line for each failure, and ends with status 1 if there was one. What is late is counted, and counts against the relay only where the
-machine itself was on time, three times over: on a machine that is too busy to say, it says nothing.
+machine itself was on time, five times over: on a machine that is too busy to say, it says nothing.
 """
 import os
 import resource
@@ -237,7 +237,7 @@ class Witness:
 
 
 def on_time(relay, folder, trial):
-    """Fails with what the trial says is late, if it says so three times while the machine was on time, and never finds that nothing is."""
+    """Fails with what the trial says is late, if it says so five times while the machine was on time, and never finds that nothing is."""
     said = []
     for place in range(6):
         home = os.path.join(folder, str(place))
@@ -248,7 +248,7 @@ def on_time(relay, folder, trial):
             return
         if witness.worst < 0.05:
             said.append(late)
-        if len(said) == 3:
+        if len(said) == 5:
             fail(late)
             return
 
