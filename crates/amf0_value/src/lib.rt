@@ -1,4 +1,7 @@
 //! AMF0 values: reading them from bytes and writing them.
+//!
+//! Read [`decode`] first. The grammar both ways is `specs/Encoding.antt`, refusals with their places `specs/Refusal.antt`. It keeps
+//! references, and resolves none.
 #![tactic(auto)]
 
 mod amf;

@@ -1,4 +1,6 @@
 //! What is written as chunks is read back.
+//!
+//! The law is [`what_is_written_is_read`]; its words are `specs/ReadBack.antt`. It has no code that runs.
 #![tactic(auto)]
 
 mod laws;

@@ -1,6 +1,9 @@
 //! The reader of RTMP chunks: bytes in pieces of any cutting, and the messages that they carry.
 //!
 //! The section numbers are those of Adobe's RTMP 1.0.
+//!
+//! Read `Reader::feed` first. The messages of bytes are `reads` (`specs/Reads.antt`), the places of refusals `specs/Stops.antt`. It
+//! answers no control message, and it doesn't acknowledge.
 #![tactic(auto)]
 
 mod fail;

@@ -1,6 +1,9 @@
 //! The writer of RTMP chunks.
 //!
 //! The section numbers are those of Adobe's RTMP 1.0.
+//!
+//! Read `Writer::begin` first. Which chunks a message becomes is `specs/Rule.antt`. It sends nothing, and it doesn't interleave two
+//! messages.
 #![tactic(auto)]
 
 mod begun;

@@ -3,6 +3,8 @@
 //! grow with each step of a client.
 //!
 //! The section numbers are those of Adobe's RTMP 1.0.
+//!
+//! Read [`growth_law`] first. What is owed is `specs/Owed.antt`, what is told `specs/Pulled.antt`. It has no code that runs but types.
 #![tactic(auto)]
 
 mod growth;

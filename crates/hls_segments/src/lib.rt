@@ -1,4 +1,7 @@
 //! A recording as segments of a transport stream (ISO/IEC 13818-1), and their playlist (RFC 8216), for any web server to serve.
+//!
+//! Read `Segmenter::item` first. Where it cuts is `segments` (`specs/Cuts.antt`), the playlist `specs/Playlist.antt`. It makes no
+//! files: `segment_command` does.
 #![tactic(auto)]
 
 mod cut;

@@ -2,6 +2,8 @@
 //!
 //! A player joins the stream that the target of its request names, and is sent an FLV of the items that it takes. Where it may not,
 //! it is told so and ends.
+//!
+//! Read `HttpPlayer::turn` first. What it owes is `specs/Out.antt`, what it is told `specs/Deciding.antt`. It publishes nothing.
 #![tactic(auto)]
 
 mod body;

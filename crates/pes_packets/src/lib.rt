@@ -1,5 +1,8 @@
 //! The packets of a transport stream (ISO/IEC 13818-1): those of a section and of a PES packet, the header of a PES packet,
 //! the sections of the two tables, and the check of a section.
+//!
+//! Read [`put_pes`] first. The packets are `specs/Packet.antt`, the tables' sections `specs/Tables.antt`. Which packets follow each
+//! other is the writer's.
 #![tactic(auto)]
 
 mod check;

@@ -1,4 +1,7 @@
 //! Limits, statuses, and numbers read from bytes.
+//!
+//! Read [`be24`] first. [`Limits`] and [`Status`] are what nearly every crate is told and answers. The numbers' definitions stand
+//! in `specs/Numbers.antt`. It reads no texts.
 #![tactic(auto)]
 
 mod limits;

@@ -1,6 +1,9 @@
 //! One connection of the relay: from the bytes of a peer to the bytes that it is owed.
 //!
 //! The section numbers are those of Adobe's RTMP 1.0.
+//!
+//! Read `Session::turn` first. Its steps are `specs/Turns.antt`, its ends with their causes `specs/Causes.antt`, what it holds
+//! `specs/Holding.antt`. It knows no other session: they meet at a port.
 #![tactic(auto)]
 
 mod answers;

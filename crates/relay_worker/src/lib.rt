@@ -1,5 +1,8 @@
 //! Workers of the relay: each has a port to the streams, a door, its sessions with their links, and recorders with their
 //! files, and takes rounds of turns.
+//!
+//! Read `Worker::round` first. A round is `specs/Rounds.antt`, what is known of links and sessions `specs/Books.antt`. It starts no
+//! threads of its own: [`run_all`] is handed them.
 #![tactic(auto)]
 
 mod bench;

@@ -2,6 +2,9 @@
 //! and to what it is told of the stream.
 //!
 //! The section numbers are those of Adobe's RTMP 1.0.
+//!
+//! Read `Client::turn` first. Its rules are `specs/Turns.antt`, its ends with their causes `specs/Causes.antt`. It connects nothing: it
+//! is handed a link.
 #![tactic(auto)]
 
 mod answers;

@@ -2,6 +2,8 @@
 //! cutting of the input, and how it grows with each step of a session.
 //!
 //! The section numbers are those of Adobe's RTMP 1.0.
+//!
+//! Read [`growth_law`] first. What is owed is `specs/Owed.antt`, what is published `specs/Published.antt`. It has no code that runs.
 #![tactic(auto)]
 
 mod chunks;

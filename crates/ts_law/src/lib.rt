@@ -1,4 +1,6 @@
 //! What is written as a transport stream is read back.
+//!
+//! The units that are read back are `Bridge` (`specs/Bridge.antt`). It has no code that runs.
 #![tactic(auto)]
 
 mod laws;

@@ -1,5 +1,7 @@
 //! The items of a stream as a transport stream (ISO/IEC 13818-1): AVC as access units, AAC in ADTS frames, and the tables that
 //! name them.
+//!
+//! Read `TsWriter::item` first. The whole text of a list of items is `ts_text` (`specs/Text.antt`). It writes to bytes, and to no file.
 #![tactic(auto)]
 
 mod ahead;

@@ -1,4 +1,7 @@
 //! A gate: threads call one machine, one call at a time and with no waiting, and each call has its place in one history.
+//!
+//! Read `Gate::call` first: it makes one call, or answers that another thread makes one. The rules of a turn are
+//! `specs/TurnTable.antt`, what is known of a history `specs/Known.antt`. It never waits, and promises nobody a turn.
 #![tactic(auto)]
 
 mod gate;
