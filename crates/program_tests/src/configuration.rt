@@ -540,7 +540,7 @@ fn a_text_has_at_most_1_048_576_bytes_of_utf_8(rt: HostRuntime) -> Result<(), Fa
 
 // The lines of examples/relay.toml.
 const EXAMPLE: &[u8] =
-    b"# A relay's configuration. docs/configuration.md has each key with its range and its default; a key that is left
+    b"# A relay's configuration. docs/use/configuration.md has each key with its range and its default; a key that is left
 # out has the default, which stands here after `default:`.
 
 [relay]

@@ -1,5 +1,5 @@
 //! What a relay is told before it starts: where it listens, how much it takes, which streams it has and who may
-//! publish and play each. A configuration is a TOML text of at most 1,048,576 bytes; docs/configuration.md has
+//! publish and play each. A configuration is a TOML text of at most 1,048,576 bytes; docs/use/configuration.md has
 //! each key with its range and its default.
 //!
 //! `read_config` answers the configuration of a text that is accepted, and else the first test that the text
