@@ -15,3 +15,4 @@ pub mod Written
 pub mod Encoded
 pub mod Stays
 pub mod Examples
+mod Bare

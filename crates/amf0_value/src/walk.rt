@@ -1,10 +1,11 @@
 //! Readers over the bytes that are left, which keep little or nothing of what they pass over.
 
-ghost use Rattle.std.specs.Prelude.{◌≡◌, ◌+◌, ◌<◌, ◌≤◌, ◌∷◌, [], Some};
+ghost use Rattle.std.specs.Prelude.{◌≡◌, ◌+◌, ◌<◌, ◌≤◌, ◌∷◌, [], ℕ, Some, drop, length};
+ghost use Rattle.std.specs.Option.{IfSome};
 ghost use Rattle.amf0_value.specs.View.{tree};
 ghost use Rattle.amf0_value.specs.Refusal.{Stops, StopsAll, scalar_needs, key_refusal};
 ghost use Rattle.amf0_value.specs.Reading.{Gives, IsShort, Left, PairsStop, ItemsStop, scalar_byte, container_byte};
-ghost use Rattle.amf0_value.specs.Brief.{brief_of, HasScalar, HasValue, HasMembers, HasItems, HasAll, HasBrief, HasPair, NextAt, PairSoFar, HasKept};
+ghost use Rattle.amf0_value.specs.Brief.{brief_of, is_bare_byte, HasBare, HasScalar, HasValue, HasMembers, HasItems, HasAll, HasBrief, HasPair, NextAt, PairSoFar, HasKept};
 
 use crate::amf::Amf;
 use crate::fail::{Cause, Stop};
@@ -68,6 +69,81 @@ fn skip_date(body: &[u8]) -> Result<&[u8], Stop>
     Ok(rest)
 }
 
+/// Passes over the value at the front of the bytes, where that is a whole one with no values inside it.
+fn skip_whole(bytes: &[u8]) -> Option<&[u8]>
+    ensures { IfSome result (λ rest. HasScalar bytes.now rest.now) }
+{
+    let (first, body) = match bytes {
+        [] => return None,
+        [first, body @ ..] => (*first, body),
+    };
+    match marker_of(first) {
+        Some(Marker::Scalar(marker)) => match skip_scalar(marker, body) {
+            Ok(rest) => Some(rest),
+            Err(_) => None,
+        },
+        Some(Marker::Container(_)) => None,
+        None => None,
+    }
+}
+
+/// Passes over the values of one byte at the front of the bytes, `most` at most, and tells how many there are.
+fn skip_bare(bytes: &[u8], most: usize) -> (usize, &[u8])
+    ensures most { result.0 ≤ most }
+    ensures values { HasBare result.0 bytes.now result.1.now }
+{
+    let mut rest = bytes;
+    let mut count = 0usize;
+    while count < most {
+        match rest {
+            [] => return (count, rest),
+            [first, after @ ..] => {
+                if !is_bare(*first) {
+                    return (count, rest);
+                }
+                rest = after;
+                count += 1;
+            }
+        }
+    }
+    (count, rest)
+}
+
+/// Whether a byte is a whole value: null, undefined or unsupported.
+fn is_bare(byte: u8) -> bool
+    ensures { result ≡ is_bare_byte byte }
+{
+    byte == 0x05 || byte == 0x06 || byte == 0x0D
+}
+
+/// Passes over the value at the front of the bytes, the quick way where it has no values inside it.
+#[cycle(skip)]
+fn skip_one(bytes: &[u8], outer: u32) -> Result<&[u8], Stop>
+    requires { outer ≤ 32 }
+    ensures { Gives (λ rest. HasValue outer bytes.now rest.now) (Left (Stops outer bytes.now)) result }
+{
+    match skip_whole(bytes) {
+        Some(rest) => Ok(rest),
+        None => skip(bytes, outer),
+    }
+}
+
+/// Passes over some of the values at the front of the bytes, of which there are to be `most`, and tells how many: all of one byte
+/// up to one that is longer, or that one.
+#[cycle(skip)]
+fn skip_some(bytes: &[u8], most: usize, outer: u32) -> Result<(usize, &[u8]), Stop>
+    requires outer { outer ≤ 32 }
+    requires most { 0 < most }
+    ensures { Gives (λ x. (0 < x.0) × (x.0 ≤ most) × HasItems outer x.0 bytes.now x.1.now) (Left (Stops outer bytes.now)) result }
+{
+    let (bare, behind) = skip_bare(bytes, most);
+    if bare > 0 {
+        return Ok((bare, behind));
+    }
+    let rest = skip_one(bytes, outer)?;
+    Ok((1, rest))
+}
+
 /// Passes over the value at the front of the bytes, inside `outer` open containers.
 #[cycle(skip)]
 pub fn skip(bytes: &[u8], outer: u32) -> Result<&[u8], Stop>
@@ -94,23 +170,6 @@ pub fn skip(bytes: &[u8], outer: u32) -> Result<&[u8], Stop>
             skip_container(marker, body, outer)
         }
     }
-}
-
-/// As `skip`. A value that is a marker alone is passed over at once, since a peer may send millions of them.
-#[cycle(skip)]
-fn next(bytes: &[u8], outer: u32) -> Result<&[u8], Stop>
-    requires { outer ≤ 32 }
-    ensures { Gives (λ rest. HasValue outer bytes.now rest.now) (Left (Stops outer bytes.now)) result }
-{
-    if let [first, rest @ ..] = bytes {
-        match *first {
-            0x05 => return Ok(rest),
-            0x06 => return Ok(rest),
-            0x0D => return Ok(rest),
-            _ => {}
-        }
-    }
-    skip(bytes, outer)
 }
 
 /// Passes over what stands behind the marker of a container.
@@ -184,7 +243,7 @@ fn skip_pairs(bytes: &[u8], outer: u32) -> Result<&[u8], Stop>
         match key_at(rest)? {
             At::End(after) => return Ok(after),
             At::Key(_key, after) => {
-                let after = next(after, outer)?;
+                let after = skip_one(after, outer)?;
                 rest = after;
             }
         }
@@ -198,9 +257,11 @@ fn skip_values(total: u32, bytes: &[u8], outer: u32) -> Result<&[u8], Stop>
     ensures { Gives (λ rest. HasItems outer total bytes.now rest.now) (Left (ItemsStop outer total bytes.now)) result }
 {
     let mut rest = bytes;
-    for _ in 0..total {
-        let after = next(rest, outer)?;
+    let mut left = total as usize;
+    while left > 0 {
+        let (count, after) = skip_some(rest, left, outer)?;
         rest = after;
+        left -= count;
     }
     Ok(rest)
 }
@@ -211,7 +272,7 @@ pub fn skip_all(bytes: &[u8]) -> Result<(), Stop>
 {
     let mut rest = bytes;
     while !rest.is_empty() {
-        let after = next(rest, 0)?;
+        let (_count, after) = skip_some(rest, rest.len(), 0)?;
         rest = after;
     }
     Ok(())

@@ -5,9 +5,10 @@ use Rattle.std.specs.Prelude.{◌≡◌, ℕ, Bool, true, false, ◌==◌, ◌&&
 use Rattle.std.specs.Io.{StartsWith}
 use Rattle.std.specs.List.{starts_with}
 use Rattle.av_unit.specs.declared.unit.Kind.{Kind}
-use Rattle.av_unit.specs.declared.unit.Kind.TheVariants.{Meta, VConfig, AConfig, Key, Inter, Audio, Data}
+use Rattle.av_unit.specs.declared.unit.Kind.TheVariants.{Meta, VConfig, AConfig, Key, Inter, Spare, Audio, Data}
 use Rattle.av_unit.specs.declared.unit.Class.{Class}
 use Rattle.av_unit.specs.Fits.{is_config}
+use Rattle.av_unit.specs.Disposable.{is_disposable}
 use Rattle.av_unit.specs.Media.{Media}
 
 -- the first byte's high four bits: SoundFormat (E.4.2.1), Frame Type (E.4.3.1)
@@ -36,7 +37,8 @@ amf_text text = 2 ∷ 0 ∷ length text ∷ text
 abbrev pub begins_with_text : List ℕ → List ℕ → Bool
 begins_with_text text body = starts_with nat_eq body (amf_text text)
 
--- the kind of a picture of frame type 1 to 4: a key frame, an inter frame, a disposable inter frame, a generated key frame
+-- the kind of a picture of frame type 1 to 4: a key frame, an inter frame, a disposable inter frame, a generated key frame.
+-- What a publisher calls disposable isn't believed.
 abbrev pub picture : ℕ → Kind
 picture frame = if (frame == 1) || (frame == 4) then Key else Inter
 
@@ -80,16 +82,28 @@ placed from rest None = None
 placed from rest (Some kind) =
     if is_config kind && nat_lt 65536 (length rest) then None else Some (record { kind = kind; from = from })
 
--- THE CLASS of a message: the kind of what follows the name, which is taken off once, and the place where that begins
-unfoldable pub class_of : ℕ → List ℕ → Option Class
-class_of message body =
+-- the class by the table: the kind of what follows the name, which is taken off once, and the place where that begins
+unfoldable pub table_class : ℕ → List ℕ → Option Class
+table_class message body =
     let from = from_of message body in
     placed from (drop from body) (kind_of message (drop from body))
 
+-- an inter frame that no other picture needs is a Spare: one of AVC, by its units with lengths of so many bytes
+abbrev pub finer : ℕ → List ℕ → Kind → Kind
+finer size body Inter = if (low body == 7) && is_disposable size body then Spare else Inter
+finer size body kind = kind
+
+abbrev pub finer_class : ℕ → List ℕ → Class → Class
+finer_class size body c = record { kind = finer size (drop c.from body) c.kind; from = c.from }
+
+-- THE CLASS of a message, whose NAL units have lengths of so many bytes
+unfoldable pub class_of : ℕ → List ℕ → ℕ → Option Class
+class_of message body size = option_map (finer_class size body) (table_class message body)
+
 -- the unit of a message, where it has a class
-unfoldable pub unit_from : ℕ → ℕ → List ℕ → Option Media
-unit_from message time body =
-    option_map (λ c. record { kind = c.kind; time = time; body = drop c.from body }) (class_of message body)
+unfoldable pub unit_from : ℕ → ℕ → List ℕ → ℕ → Option Media
+unit_from message time body size =
+    option_map (λ c. record { kind = c.kind; time = time; body = drop c.from body }) (class_of message body size)
 
 -- the message type of a kind (RTMP 1.0, 7.1)
 abbrev pub message_type : Kind → ℕ
@@ -98,11 +112,23 @@ message_type Audio = 8
 message_type VConfig = 9
 message_type Key = 9
 message_type Inter = 9
+message_type Spare = 9
 message_type Meta = 18
 message_type Data = 18
 
+-- what follows the name has its class by itself, unless it is data that begins with that text once more
+abbrev pub HasItselfAgain : List ℕ → Class → Type 0
+HasItselfAgain body c =
+    (c.kind ≡ Data → begins_with_text (codes "@setDataFrame") (drop c.from body) ≡ false)
+    → table_class (message_type c.kind) (drop c.from body) ≡ Some (record { kind = c.kind; from = 0 })
+
+abbrev pub IsClassAgain : ℕ → List ℕ → Class → Type 0
+IsClassAgain size body c =
+    (c.kind ≡ Data → begins_with_text (codes "@setDataFrame") (drop c.from body) ≡ false)
+    → class_of (message_type c.kind) (drop c.from body) size ≡ Some (record { kind = c.kind; from = 0 })
+
 -- sent as a message of its kind, a unit is the same unit again, unless it is data that begins with that text itself
-abbrev pub IsItselfAgain : Media → Type 0
-IsItselfAgain u =
+abbrev pub IsItselfAgain : ℕ → Media → Type 0
+IsItselfAgain size u =
     (u.kind ≡ Data → begins_with_text (codes "@setDataFrame") u.body ≡ false)
-    → unit_from (message_type u.kind) u.time u.body ≡ Some u
+    → unit_from (message_type u.kind) u.time u.body size ≡ Some u

@@ -1,9 +1,11 @@
-ghost use Rattle.std.specs.Prelude.{◌≡◌, ◌≢◌, ◌+◌, ◌<◌, ◌≤◌, ◌↔◌, ◌⊎◌, drop, length, IfSome, IsNone, IsTrue, None, [], ◌∷◌};
-ghost use Rattle.av_unit.specs.Fits.{Fits, is_config};
-ghost use Rattle.av_unit.specs.Classes.{SetsData, IsItselfAgain, class_of, from_of, kind_of, message_type, unit_from};
+ghost use Rattle.std.specs.Prelude.{◌≡◌, ◌==◌, ◌&&◌, nat_lt, ◌≢◌, ◌+◌, ◌<◌, ◌≤◌, ◌↔◌, ◌⊎◌, drop, length, IfSome, IsNone, IsTrue, None, [], ◌∷◌};
+ghost use Rattle.av_unit.specs.Fits.{Fits, is_config, most_bytes};
+ghost use Rattle.av_unit.specs.Disposable.{is_disposable};
+ghost use Rattle.av_unit.specs.Classes.{SetsData, HasItselfAgain, IsClassAgain, IsItselfAgain, class_of, finer, from_of, low, kind_of, message_type, table_class, unit_from};
 ghost use Rattle.av_unit.specs.declared.unit.Kind.{Kind};
 ghost use Rattle.av_unit.specs.Examples.{unit_at, nothing, aac_header, aac_frame, avc, meta, set_meta};
 
+use crate::disposable::is_disposable;
 use crate::{Bytes, Class, Kind, Unit};
 
 // RTMP message types.
@@ -29,11 +31,15 @@ const ON_META_DATA: &[u8; 13] = b"\x02\x00\x0aonMetaData";
 /// published. That is so for every other type, for an empty body, for a video body of frame type
 /// 0 or 5 and above, for an AVC body that is neither a sequence header nor NAL units, and for a
 /// configuration of more than 65,536 bytes.
+///
+/// `size` is how many bytes the lengths of an AVC body's NAL units have (`length_size`): by these an inter
+/// frame that no other picture needs is told apart, a `Spare`. There is none where `size` isn't 1, 2 or 4.
 #[tactic(auto, unfolding(crate::specs::Classes::class_of))]
-pub fn class(message_kind: u8, body: &[u8]) -> Option<Class>
-    ensures value { result ≡ class_of message_kind body.now }
+pub fn class(message_kind: u8, body: &[u8], size: u8) -> Option<Class>
+    ensures value { result ≡ class_of message_kind body.now size }
     ensures type_of_kind { IfSome result (λ c. message_type c.kind ≡ message_kind) }
     ensures others { message_kind ≢ 8 → message_kind ≢ 9 → message_kind ≢ 18 → IsNone result }
+    ensures no_size { size ≡ 0 → IfSome result (λ c. c.kind ≢ Kind.Spare) }
 
     // Sixteen bytes stand before the unit exactly where they are the text `@setDataFrame` of data.
     ensures place { IfSome result (λ c. (c.from ≡ 0) ⊎ (c.from ≡ 16)) }
@@ -43,31 +49,32 @@ pub fn class(message_kind: u8, body: &[u8]) -> Option<Class>
     ensures inside { IfSome result (λ c. c.from < length body.now) }
     ensures config { IfSome result (λ c. IsTrue (is_config c.kind) → length body.now ≤ c.from + 65536) }
     ensures fits { length body.now ≤ 4194304 → IfSome result (λ c. Fits c.kind (drop c.from body.now)) }
+
+    // The unit has its class by itself, unless it is data that begins with that text once more.
+    ensures again { IfSome result (IsClassAgain size body.now) }
 {
-    let from = front(message_kind, body);
-    let rest = &body[from..];
-    let kind = kind_in(message_kind, rest)?;
-    if kind.is_config() && rest.len() > kind.most_bytes() {
-        return None;
-    }
-    Some(Class { kind, from })
+    let Class { kind, from } = table_class(message_kind, body)?;
+    Some(Class {
+        kind: finer(kind, after(body, from), size),
+        from,
+    })
 }
 
-/// The unit that a message is, at a time in milliseconds; `None` exactly where the message has no
-/// class. It takes no memory: the unit keeps the body that was handed in.
-#[tactic(auto, unfolding(crate::specs::Classes::class_of, crate::specs::Classes::unit_from))]
-pub fn unit_of(message_kind: u8, time: u32, body: Bytes) -> Option<Unit>
+/// The unit that a message is, at a time in milliseconds, with lengths of NAL units of `size` bytes; `None`
+/// exactly where the message has no class. It takes no memory: the unit keeps the body that was handed in.
+#[tactic(auto, unfolding(crate::specs::Classes::unit_from))]
+pub fn unit_of(message_kind: u8, time: u32, body: Bytes, size: u8) -> Option<Unit>
     requires { length body ≤ 4194304 }
-    ensures value { result ≡ unit_from message_kind time body }
-    ensures none { IsNone result ↔ (class_of message_kind body ≡ None) }
+    ensures value { result ≡ unit_from message_kind time body size }
+    ensures none { IsNone result ↔ (class_of message_kind body size ≡ None) }
     ensures type_of_kind { IfSome result (λ u. message_type u.kind ≡ message_kind) }
     ensures time { IfSome result (λ u. u.time ≡ time) }
     ensures fits { IfSome result (λ u. Fits u.kind u.body) }
 
     // A relay that is sent the unit makes it the same unit again.
-    ensures again { IfSome result IsItselfAgain }
+    ensures again { IfSome result (IsItselfAgain size) }
 {
-    let Class { kind, from } = class(message_kind, body.as_slice())?;
+    let Class { kind, from } = class(message_kind, body.as_slice(), size)?;
     Some(Unit {
         kind,
         time,
@@ -81,28 +88,67 @@ pub fn message_kind(kind: Kind) -> u8
 {
     match kind {
         Kind::AConfig | Kind::Audio => AUDIO,
-        Kind::VConfig | Kind::Key | Kind::Inter => VIDEO,
+        Kind::VConfig | Kind::Key | Kind::Inter | Kind::Spare => VIDEO,
         Kind::Meta | Kind::Data => DATA_AMF0,
     }
 }
 
 /// Worked examples of the table, on the definition itself.
-#[tactic(auto, unfolding(crate::specs::Classes::class_of))]
+#[tactic(auto, unfolding(crate::specs::Classes::class_of, crate::specs::Classes::table_class, crate::specs::Disposable::is_disposable, crate::specs::Disposable::firsts_of, crate::specs::Disposable::firsts_in, crate::specs::Disposable::unit_front))]
 pub fn class_examples()
-    ensures sound { class_of 8 aac_frame ≡ unit_at Kind.Audio 0 }
-    ensures sound_config { class_of 8 aac_header ≡ unit_at Kind.AConfig 0 }
-    ensures mp3 { class_of 8 (47 ∷ 0 ∷ []) ≡ unit_at Kind.Audio 0 }
-    ensures config { class_of 9 (avc 1 0) ≡ unit_at Kind.VConfig 0 }
-    ensures key { class_of 9 (avc 1 1) ≡ unit_at Kind.Key 0 }
-    ensures generated_key { class_of 9 (avc 4 1) ≡ unit_at Kind.Key 0 }
-    ensures inter { class_of 9 (avc 2 1) ≡ unit_at Kind.Inter 0 }
-    ensures disposable { class_of 9 (avc 3 1) ≡ unit_at Kind.Inter 0 }
-    ensures end_of_sequence { class_of 9 (avc 1 2) ≡ nothing }
-    ensures command_frame { class_of 9 (avc 5 1) ≡ nothing }
-    ensures metadata { class_of 18 meta ≡ unit_at Kind.Meta 0 }
-    ensures named_metadata { class_of 18 set_meta ≡ unit_at Kind.Meta 16 }
-    ensures command { class_of 20 meta ≡ nothing }
+    ensures sound { class_of 8 aac_frame 4 ≡ unit_at Kind.Audio 0 }
+    ensures sound_config { class_of 8 aac_header 4 ≡ unit_at Kind.AConfig 0 }
+    ensures mp3 { class_of 8 (47 ∷ 0 ∷ []) 4 ≡ unit_at Kind.Audio 0 }
+    ensures config { class_of 9 (avc 1 0) 4 ≡ unit_at Kind.VConfig 0 }
+    ensures key { class_of 9 (avc 1 1) 4 ≡ unit_at Kind.Key 0 }
+    ensures generated_key { class_of 9 (avc 4 1) 4 ≡ unit_at Kind.Key 0 }
+    ensures inter { class_of 9 (avc 2 1) 4 ≡ unit_at Kind.Inter 0 }
+    ensures called_disposable { class_of 9 (avc 3 1) 4 ≡ unit_at Kind.Inter 0 }
+    ensures end_of_sequence { class_of 9 (avc 1 2) 4 ≡ nothing }
+    ensures command_frame { class_of 9 (avc 5 1) 4 ≡ nothing }
+    ensures metadata { class_of 18 meta 4 ≡ unit_at Kind.Meta 0 }
+    ensures named_metadata { class_of 18 set_meta 4 ≡ unit_at Kind.Meta 16 }
+    ensures command { class_of 20 meta 4 ≡ nothing }
 {}
+
+// The class by the table, in which no picture is disposable.
+#[tactic(auto, unfolding(crate::specs::Classes::table_class))]
+fn table_class(message_kind: u8, body: &[u8]) -> Option<Class>
+    ensures value { result ≡ table_class message_kind body.now }
+    ensures type_of_kind { IfSome result (λ c. message_type c.kind ≡ message_kind) }
+    ensures others { message_kind ≢ 8 → message_kind ≢ 9 → message_kind ≢ 18 → IsNone result }
+    ensures no_spare { IfSome result (λ c. c.kind ≢ Kind.Spare) }
+    ensures place { IfSome result (λ c. (c.from ≡ 0) ⊎ (c.from ≡ 16)) }
+    ensures text { IfSome result (λ c. (c.from ≡ 16) ↔ SetsData message_kind body.now) }
+    ensures inside { IfSome result (λ c. c.from < length body.now) }
+    ensures config { IfSome result (λ c. IsTrue (is_config c.kind) → length body.now ≤ c.from + 65536) }
+    ensures fits { length body.now ≤ 4194304 → IfSome result (λ c. Fits c.kind (drop c.from body.now)) }
+    ensures again { IfSome result (HasItselfAgain body.now) }
+{
+    let from = front(message_kind, body);
+    let rest = after(body, from);
+    let kind = kind_in(message_kind, rest)?;
+    if is_too_long(kind, rest) {
+        return None;
+    }
+    Some(Class { kind, from })
+}
+
+// What stands behind the first bytes.
+fn after(bytes: &[u8], count: usize) -> &[u8]
+    requires { count ≤ length bytes.now }
+    ensures { result.now ≡ drop count bytes.now }
+{
+    &bytes[count..]
+}
+
+// Whether it is a configuration of more bytes than one may have.
+#[tactic(auto, using(std::proofs::lemmas::Bool::Decides::nat_tests))]
+fn is_too_long(kind: Kind, body: &[u8]) -> bool
+    ensures { result ≡ (is_config kind && nat_lt 65536 (length body.now)) }
+{
+    kind.is_config() && body.len() > 65_536
+}
 
 // How many bytes stand before the unit.
 fn front(message_kind: u8, body: &[u8]) -> usize
@@ -115,6 +161,30 @@ fn front(message_kind: u8, body: &[u8]) -> usize
         SET_DATA_FRAME.len()
     } else {
         0
+    }
+}
+
+// The kind by what no other picture needs: of an AVC body, by its units with lengths of `size` bytes.
+fn finer(kind: Kind, body: &[u8], size: u8) -> Kind
+    ensures value { result ≡ finer size body.now kind }
+    ensures type_of_kind { message_type result ≡ message_type kind }
+    ensures config { is_config result ≡ is_config kind }
+    ensures fits { most_bytes result ≡ most_bytes kind }
+    ensures no_size { size ≡ 0 → kind ≢ Kind.Spare → result ≢ Kind.Spare }
+{
+    match kind {
+        Kind::Inter if is_avc(body) && is_disposable(body, size) => Kind::Spare,
+        _ => kind,
+    }
+}
+
+// Whether a video body's CodecID is AVC.
+fn is_avc(body: &[u8]) -> bool
+    ensures { result ≡ (low body.now == 7) }
+{
+    match body {
+        [first, ..] => first & 0x0F == AVC,
+        [] => false,
     }
 }
 

@@ -1,22 +1,19 @@
 -- A film that is read
-use Rattle.std.proofs.Common.{◌≡◌, ◌⊎◌, inl, inr, ◌≤◌, ◌<◌, ◌+◌, ◌-◌, ℕ, Bool, true, false, List, [], ◌∷◌, ◌++◌, length, take, drop, Option, Some, None, is_some, Result, Ok, Err, refl, sym, ap, ◌∙◌, subst, arith, append_assoc, append-nil, length-append}
+use Rattle.std.proofs.Common.{◌≡◌, ◌⊎◌, inl, inr, ◌≤◌, ◌+◌, ◌-◌, ℕ, Bool, true, false, List, [], ◌∷◌, ◌++◌, length, take, drop, Option, Some, None, is_some, Result, Ok, Err, refl, sym, ap, ◌∙◌, subst, arith, append_assoc, append-nil, length-append}
 use Rattle.std.specs.Prelude.{IfOk}
-use Rattle.std.specs.Option.{option_to_list}
-use Rattle.std.specs.Io.KnownBytes.{IsAtEnd, prepend_known}
-use Rattle.std.proofs.lemmas.List.{length-drop, length-take, take-append-drop}
-use Rattle.relay_outside.specs.Counts.{Rose}
+use Rattle.std.specs.Io.KnownBytes.{prepend_known}
+use Rattle.std.proofs.lemmas.List.{length-drop, take-append-drop}
 use Rattle.flv_tags.specs.declared.tag.Tag.{Tag}
 use Rattle.flv_tags.specs.declared.fail.FlvFail.{FlvFail}
 use Rattle.flv_tags.specs.declared.fail.FlvFail.TheVariants as flv
 use Rattle.flv_tags.specs.Known.{Known}
 use Rattle.flv_tags.specs.Feeds.{IsFedTo, IsRefused, Stands as TagsStand}
-use Rattle.flv_tags.specs.Reads.{IsFile, Reads}
 use Rattle.flv_tags.specs.Stops.{Ends, Stops as TagsStop}
 use Rattle.flv_tags.specs.Written.{IsWritable}
 use Rattle.file_commands.specs.Outcome.{most_bytes}
-use Rattle.segment_command.specs.Outcome.{IsCutOff, IsFirst, IsStopped, IsTooLong}
+use Rattle.segment_command.specs.Films.{IsCutOff, IsFirst, IsStopped, WasRead}
 use Rattle.rtmp_client.specs.Turns.{is_nil}
-use Rattle.client_command.specs.Film.{IsRefusedAt, IsWhole, WasRead}
+use Rattle.client_command.specs.Film.{IsWhole}
 use Rattle.client_command.specs.Giving.{Asks, EndsAs, FeedStops, Fills, IsReadOn, IsReading, MayGo, NextStops, ReadsNext, came_of}
 use Rattle.client_command.specs.Turned.{stop_of}
 use Rattle.client_command.specs.declared.film.Film.{Film}
@@ -109,7 +106,7 @@ end_stops f flv.OutOfMemory r s = tt
 all_fed : (f : Film) → f.ahead ≡ [] → came_of f ≡ f.reader.fed
 all_fed f none = ap (λ (x : List ℕ). f.reader.fed ++ x) none ∙ append-nil f.reader.fed
 
-first_of : (f : Film) (behind : List ℕ) → TagsStand f.reader → IsFirst (f.reader.fed ++ behind) f.reader.given
+pub first_of : (f : Film) (behind : List ℕ) → TagsStand f.reader → IsFirst (f.reader.fed ++ behind) f.reader.given
 first_of f behind s = record { front = f.reader.fed; behind = behind; parts = refl; rest = s.0; reads = s.1 }
 
 pub was_more : (f g : Film) (start left left' : Option (List ℕ)) → f.ahead ≡ [] → g.reader ≡ f.reader → left ≡ prepend_known g.ahead left' → WasRead (came_of f) start left → WasRead (came_of g) start left'
@@ -202,6 +199,11 @@ pub ask_given : (r : Result Bool Stop) (f g : Film) (left left' : Option (List �
 ask_given (Ok true) f g left left' n n' a = ap (λ (x : Known). x.given) a.1
 ask_given (Ok false) f g left left' n n' a = ap (λ (x : Film). x.reader.given) a.0
 ask_given (Err stop) f g left left' n n' a = tt
+
+pub ask_fed : (r : Result Bool Stop) (f g : Film) (left left' : Option (List ℕ)) (n n' : ℕ) → Asks r f g left left' n n' → IfOk r (λ x. g.reader.fed ≡ f.reader.fed)
+ask_fed (Ok true) f g left left' n n' a = ap (λ (x : Known). x.fed) a.1
+ask_fed (Ok false) f g left left' n n' a = ap (λ (x : Film). x.reader.fed) a.0
+ask_fed (Err stop) f g left left' n n' a = tt
 
 -- since the film began
 pub reads_since : (q : Result (Option Tag) Stop) (e f g : Film) (start left : Option (List ℕ)) (m n n' : ℕ) → f.reader.given ≡ e.reader.given → n ≡ m → ReadsNext q f g start left n n' → ReadsNext q e g start left m n'

@@ -1,8 +1,7 @@
 -- What a link gave and took, one step after the other
-use Rattle.std.proofs.Common.{◌≡◌, ℕ, List, [], ◌∷◌, ◌++◌, length, take, drop, Option, Some, None, refl, sym, ap, ◌∙◌, subst, append_assoc, append-nil}
+use Rattle.std.proofs.Common.{◌≡◌, ℕ, List, [], ◌++◌, length, drop, Option, Some, None, refl, sym, ap, ◌∙◌, subst, append_assoc, append-nil}
 use Rattle.std.proofs.lemmas.List.{take-append-drop}
 use Rattle.std.specs.Option.{option_map}
-use Rattle.relay_outside.specs.Counts.{Rose}
 use Rattle.relay_outside.specs.Told.{AreFirstLeft, LinkCounts, LinkTold, with_given, with_taken}
 use Rattle.client_command.specs.Traffic.{HasPassed, IsCalm, Passed}
 

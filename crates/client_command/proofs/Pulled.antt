@@ -2,43 +2,36 @@
 use Rattle.std.proofs.Common.{◌≡◌, ◌⊎◌, inl, inr, ◌++◌, ◌∷◌, ℕ, Bool, true, false, List, [], Option, Some, None, Result, Ok, Err, refl, sym, ap, ◌∙◌, subst, append-nil}
 use Rattle.std.specs.Io.KnownBytes.{append_known}
 use Rattle.relay_outside.specs.Told.{LinkCounts, LinkTold}
-use Rattle.chunk_wire.specs.declared.message.Message.{Message}
-use Rattle.chunk_reader.proofs.Reading.{reads_nothing}
-use Rattle.chunk_reader.specs.ReaderKnown.{ReaderKnown}
 use Rattle.client_owed.specs.declared.types.Asked.{Asked}
 use Rattle.client_owed.specs.declared.types.Gave.{Gave}
 use Rattle.client_owed.specs.declared.types.Gift.{Gift}
 use Rattle.client_owed.specs.declared.types.Gift.TheVariants as gift
 use Rattle.client_owed.specs.Owed.{out}
-use Rattle.client_owed.specs.Pulled.{pulled, pulled_from}
 use Rattle.client_owed.specs.Standing.{Keeps, Past, is_finished, listed}
 use Rattle.rtmp_client.specs.ClientState.{ClientState, Lasting, lasting_of, without_gift}
 use Rattle.rtmp_client.specs.declared.core_fields.Core.{Core}
 use Rattle.rtmp_client.specs.declared.end.ClientEnd.{ClientEnd}
 use Rattle.rtmp_client.specs.declared.end.ClientEnd.TheVariants as end
-use Rattle.rtmp_client.specs.declared.end.ClientTurn.{ClientTurn}
 use Rattle.rtmp_client.specs.declared.end.ClientTurn.TheVariants.{Ended as TurnEnded}
 use Rattle.file_commands.specs.Written.{WritesPart}
 use Rattle.client_command.specs.Closing.{IsRefusal, Tells, client_how, how_by, how_of}
-use Rattle.client_command.specs.Ends.{How, Whole, ByClient, ByFilm, BySource, BySink, ByMemory, status_of}
+use Rattle.client_command.specs.Ends.{How, Whole, ByClient, BySink, ByMemory}
 use Rattle.client_command.specs.Gifts.{IsOn, pull_text}
 use Rattle.client_command.specs.Pulls.{HasPulled, PullBy, PullOutcome, PullSeen, pull_seen}
-use Rattle.client_command.specs.Runs.{Causes, HasRun, most_message}
+use Rattle.client_command.specs.Runs.{Causes, HasRun}
 use Rattle.client_command.specs.Telling.{Plays, PullEnds, PullSteps, PullStops, has_some, is_last, step_by}
-use Rattle.client_command.specs.Traffic.{IsCalm}
 use Rattle.client_command.specs.Turned.{IsDone, IsNew, PutCause, Runs, Stopped, Turned, gifts_of}
 use Rattle.client_command.specs.declared.ending.Ended.{Ended}
 use Rattle.client_command.specs.declared.stop.Stop.{Stop}
 use Rattle.client_command.specs.declared.stop.Stop.TheVariants.{Client, Refused, Source, Sink, Memory}
-use Rattle.client_command.proofs.Passing.{calm_here, passed_same}
-use Rattle.client_command.proofs.Telling.{runs_without}
-use Rattle.client_command.proofs.Turns.{new_runs, run_here}
+use Rattle.client_command.proofs.Passing.{calm_here}
+use Rattle.client_command.proofs.Turns.{by_client_end, new_runs, no_run, run_here}
 use Rattle.segment_command.proofs.Writing.{no_part_put}
 use Rattle.client_command.proofs.Writing.{all_part, append_known_nil}
 
 -- ---- what it was told
 
-on_more : (gs : List Gift) (g : Gift) → IsOn gs → is_last g ≡ false → IsOn (gs ++ g ∷ [])
+pub on_more : (gs : List Gift) (g : Gift) → IsOn gs → is_last g ≡ false → IsOn (gs ++ g ∷ [])
 on_more [] (gift.Tag t) o e = tt
 on_more [] gift.Published o e = tt
 on_more [] gift.Unpublished o e = absurd (cc)
@@ -51,42 +44,38 @@ last_is (gift.Tag t) e = absurd (cc)
 last_is gift.Published e = absurd (cc)
 last_is gift.Unpublished e = refl
 
-some_more : (gs : List Gift) (g : Gift) → true ≡ has_some (gs ++ g ∷ [])
+pub some_more : (gs : List Gift) (g : Gift) → true ≡ has_some (gs ++ g ∷ [])
 some_more [] g = refl
 some_more (x ∷ gs) g = refl
 
 -- ---- a turn
 
-turned_on : (k : Asked) (c d : ClientState) (begun : Bool) (old : PullSeen) (told told' : Option LinkTold) (counts counts' : LinkCounts) (held : Option (List ℕ)) (faults : ℕ) → Plays k c begun old (pull_seen told counts held faults)
+-- what was taken is written as before
+still_plays : (k : Asked) (c d : ClientState) (begun : Bool) (old now new : PullSeen) → Plays k c begun old now → d.parts.taken ≡ c.parts.taken → d.parts.gave ≡ c.parts.gave → new.held ≡ now.held → new.faults ≡ now.faults
+    → Runs k d old.told new.told old.counts new.counts → Plays k d begun old new
+still_plays k c d begun old now new p taken gave held faults r = record {
+  runs = r;
+  gave = gave ∙ p.gave;
+  on = subst IsOn (sym taken) p.on;
+  begun_is = p.begun_is ∙ ap has_some (sym taken);
+  held = held ∙ p.held ∙ ap (λ (x : List Gift). append_known old.held (pull_text x)) (sym taken);
+  faults = faults ∙ p.faults;
+}
+
+pub turn_goes : (k : Asked) (c d : ClientState) (begun : Bool) (old : PullSeen) (told told' : Option LinkTold) (counts counts' : LinkCounts) (held : Option (List ℕ)) (faults : ℕ) → Plays k c begun old (pull_seen told counts held faults)
     → lasting_of d.parts ≡ lasting_of c.parts → Runs k d old.told told' old.counts counts' → Plays k d begun old (pull_seen told' counts' held faults)
-turned_on k c d begun old told told' counts counts' held faults p la r =
-    let taken : d.parts.taken ≡ c.parts.taken = ap (λ (x : Lasting). x.taken) la in
-    record {
-      runs = r;
-      gave = ap (λ (x : Lasting). x.gave) la ∙ p.gave;
-      on = subst IsOn (sym taken) p.on;
-      begun_is = p.begun_is ∙ ap has_some (sym taken);
-      held = p.held ∙ ap (λ (x : List Gift). append_known old.held (pull_text x)) (sym taken);
-      faults = p.faults;
-    }
+turn_goes k c d begun old told told' counts counts' held faults p la r =
+    still_plays k c d begun old (pull_seen told counts held faults) (pull_seen told' counts' held faults) p (ap (λ (x : Lasting). x.taken) la) (ap (λ (x : Lasting). x.gave) la) refl refl r
 
 never_done : (c : Core) → c.finished ≡ is_finished c.gave → c.gave ≡ [] → c.finished ≡ true → ⊥
 unfolding is_finished
 never_done c s g e = let f : true ≡ false = sym e ∙ s ∙ ap is_finished g in absurd (cc)
 
-gifts_none : (c : Core) → c.gift ≡ None → gifts_of c ≡ c.taken
+pub gifts_none : (c : Core) → c.gift ≡ None → gifts_of c ≡ c.taken
 gifts_none c e = ap (λ (x : Option Gift). c.taken ++ listed x) e ∙ append-nil c.taken
 
 client_pulled : (e : ClientEnd) (k : Asked) (old new : PullSeen) → HasPulled k (ByClient e) old new → HasPulled k (client_how e) old new
-client_pulled end.Done k old new h = absurd h.ends.3
-client_pulled end.PeerClosed k old new h = h
-client_pulled end.LinkFault k old new h = h
-client_pulled (end.BadVersion at) k old new h = h
-client_pulled (end.BadChunk cause at) k old new h = h
-client_pulled (end.BadControl at) k old new h = h
-client_pulled (end.BadCommand at) k old new h = h
-client_pulled (end.Refused code) k old new h = h
-client_pulled end.OutOfMemory k old new h = h
+client_pulled e k old new = by_client_end (λ (how : How). HasPulled k how old new) e (λ h. h.ends.3)
 
 pub turn_stops : (k : Asked) (c d : ClientState) (begun : Bool) (old : PullSeen) (told told' : Option LinkTold) (counts counts' : LinkCounts) (held : Option (List ℕ)) (faults : ℕ) → Plays k c begun old (pull_seen told counts held faults)
     → c.parts.gift ≡ None → Turned TurnEnded k c d old.told told' old.counts counts' → PullStops Client k d old (pull_seen told' counts' held faults)
@@ -114,24 +103,12 @@ turn_stops k c d begun old told told' counts counts' held faults p none t =
     why (inl d) = absurd (never_done c.parts p.runs.live.stands.stands.finished p.gave d.finished)
     why (inr h) = h
 
-pub turn_goes : (k : Asked) (c d : ClientState) (begun : Bool) (old : PullSeen) (told told' : Option LinkTold) (counts counts' : LinkCounts) (held : Option (List ℕ)) (faults : ℕ) → Plays k c begun old (pull_seen told counts held faults)
-    → lasting_of d.parts ≡ lasting_of c.parts → Runs k d old.told told' old.counts counts' → Plays k d begun old (pull_seen told' counts' held faults)
-turn_goes = turned_on
-
 -- ---- a gift
 
 -- none waits
 pub none_taken : (k : Asked) (c d : ClientState) (begun : Bool) (old new : PullSeen) → Plays k c begun old new → c.parts.gift ≡ None → d.parts ≡ without_gift c.parts → Runs k d old.told new.told old.counts new.counts → Plays k d begun old new
 none_taken k c d begun old new p none e r =
-    let taken : d.parts.taken ≡ c.parts.taken = ap (λ (x : Core). x.taken) e ∙ gifts_none c.parts none in
-    record {
-      runs = r;
-      gave = ap (λ (x : Core). x.gave) e ∙ p.gave;
-      on = subst IsOn (sym taken) p.on;
-      begun_is = p.begun_is ∙ ap has_some (sym taken);
-      held = p.held ∙ ap (λ (x : List Gift). append_known old.held (pull_text x)) (sym taken);
-      faults = p.faults;
-    }
+    still_plays k c d begun old new new p (ap (λ (x : Core). x.taken) e ∙ gifts_none c.parts none) (ap (λ (x : Core). x.gave) e) refl refl r
 
 -- one was taken
 one_taken : (c : Core) (d : ClientState) (g : Gift) → c.gift ≡ Some g → d.parts ≡ without_gift c → d.parts.taken ≡ c.taken ++ g ∷ []
@@ -145,18 +122,25 @@ run_taken k c d g old told n m some e none r =
     subst (λ (x : List Gift). HasRun k q.y d.input q.reader.given [] x q.outgoing.pending old told) gifts
     (subst (λ (x : List Gave). HasRun k q.y d.input q.reader.given x (gifts_of q) q.outgoing.pending old told) (ap (λ (x : Core). x.gave) e ∙ none) (run_here k d old told n m r))
 
-wrote_steps : (b moved : Bool) (k : Asked) (c d : ClientState) (begun : Bool) (g : Gift) (old : PullSeen) (told : Option LinkTold) (counts : LinkCounts) (held held' : Option (List ℕ)) (faults faults' : ℕ) → is_last g ≡ b
-    → Plays k c begun old (pull_seen told counts held faults) → c.parts.gift ≡ Some g → d.parts ≡ without_gift c.parts → Runs k d old.told told old.counts counts
-    → held' ≡ append_known old.held (pull_text (c.parts.taken ++ g ∷ [])) → faults' ≡ faults → PullSteps (Ok (step_by b moved)) k d true old (pull_seen told counts held' faults')
-wrote_steps true moved k c d begun g old told counts held held' faults faults' l p some e r w f = record {
+-- how a stream was pulled whose last gift was taken
+gift_pulled : (how : How) (k : Asked) (c : Core) (d : ClientState) (g : Gift) (old new : PullSeen) → c.gift ≡ Some g → d.parts ≡ without_gift c → c.gave ≡ [] → Runs k d old.told new.told old.counts new.counts
+    → PullBy how (c.taken ++ g ∷ []) d.parts.reader.given (d.parts.y ++ d.input) old new → HasPulled k how old new
+gift_pulled how k c d g old new some e none r b = record {
   y = d.parts.y;
   rest = d.input;
   ms = d.parts.reader.given;
-  gifts = c.parts.taken ++ g ∷ [];
+  gifts = c.taken ++ g ∷ [];
   more = d.parts.outgoing.pending;
-  run = run_taken k c.parts d g old.told told old.counts counts some e p.gave r;
-  ends = ((c.parts.taken, ap (λ (x : Gift). c.parts.taken ++ x ∷ []) (last_is g l), p.on), w, f ∙ p.faults, r.calm);
+  run = run_taken k c d g old.told new.told old.counts new.counts some e none r;
+  ends = b;
 }
+
+wrote_steps : (b moved : Bool) (k : Asked) (c d : ClientState) (begun : Bool) (g : Gift) (old : PullSeen) (told : Option LinkTold) (counts : LinkCounts) (held held' : Option (List ℕ)) (faults faults' : ℕ) → is_last g ≡ b
+    → Plays k c begun old (pull_seen told counts held faults) → c.parts.gift ≡ Some g → d.parts ≡ without_gift c.parts → Runs k d old.told told old.counts counts
+    → held' ≡ append_known old.held (pull_text (c.parts.taken ++ g ∷ [])) → faults' ≡ faults → PullSteps (Ok (step_by b moved)) k d true old (pull_seen told counts held' faults')
+wrote_steps true moved k c d begun g old told counts held held' faults faults' l p some e r w f =
+    gift_pulled Whole k c.parts d g old (pull_seen told counts held' faults') some e p.gave r
+    ((c.parts.taken, ap (λ (x : Gift). c.parts.taken ++ x ∷ []) (last_is g l), p.on), w, f ∙ p.faults, r.calm)
 wrote_steps false moved k c d begun g old told counts held held' faults faults' l p some e r w f = by_moved moved
   where
     plays : Plays k d true old (pull_seen told counts held' faults')
@@ -191,30 +175,12 @@ pub gift_stops : (stop : Stop) (k : Asked) (c d : ClientState) (begun : Bool) (g
 gift_stops Client k c d begun g old told counts held held' faults faults' p some e r w f = absurd f
 gift_stops (Refused at) k c d begun g old told counts held held' faults faults' p some e r w f = absurd f
 gift_stops Source k c d begun g old told counts held held' faults faults' p some e r w f = absurd f
-gift_stops Sink k c d begun g old told counts held held' faults faults' p some e r w f = record {
-  y = d.parts.y;
-  rest = d.input;
-  ms = d.parts.reader.given;
-  gifts = c.parts.taken ++ g ∷ [];
-  more = d.parts.outgoing.pending;
-  run = run_taken k c.parts d g old.told told old.counts counts some e p.gave r;
-  ends = (w, subst (λ (x : ℕ). Rattle.relay_outside.specs.Counts.Rose x faults') p.faults f, r.calm);
-}
-gift_stops Memory k c d begun g old told counts held held' faults faults' p some e r w f = record {
-  y = d.parts.y;
-  rest = d.input;
-  ms = d.parts.reader.given;
-  gifts = c.parts.taken ++ g ∷ [];
-  more = d.parts.outgoing.pending;
-  run = run_taken k c.parts d g old.told told old.counts counts some e p.gave r;
-  ends = (w, f ∙ p.faults, r.calm);
-}
+gift_stops Sink k c d begun g old told counts held held' faults faults' p some e r w f =
+    gift_pulled BySink k c.parts d g old (pull_seen told counts held' faults') some e p.gave r (w, subst (λ (x : ℕ). Rattle.relay_outside.specs.Counts.Rose x faults') p.faults f, r.calm)
+gift_stops Memory k c d begun g old told counts held held' faults faults' p some e r w f =
+    gift_pulled ByMemory k c.parts d g old (pull_seen told counts held' faults') some e p.gave r (w, f ∙ p.faults, r.calm)
 
 -- ---- the beginning and the end
-
-nothing_told : (k : Asked) → [] ≡ pulled k []
-unfolding pulled_from
-nothing_told k = refl
 
 -- there is no client
 pub unpulled : (k : Asked) (seen : PullSeen) → HasPulled k ByMemory seen seen
@@ -224,15 +190,7 @@ unpulled k seen = record {
   ms = [];
   gifts = [];
   more = out k [] [] [];
-  run = record {
-    took = [];
-    passed = passed_same seen.told seen.told refl;
-    read = record { s = _; r = []; reads = reads_nothing most_message };
-    friendly = tt;
-    owes = refl;
-    given = tt;
-    told = nothing_told k;
-  };
+  run = no_run k seen.told;
   ends = (no_part_put [] seen.held, refl, calm_here seen.counts);
 }
 

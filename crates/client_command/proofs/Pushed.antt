@@ -1,16 +1,12 @@
 -- A film that is pushed
 use Rattle.std.proofs.Common.{◌≡◌, ◌⊎◌, inl, inr, ◌≤◌, ◌<◌, ◌^◌, ◌++◌, ◌∷◌, ℕ, Bool, true, false, nat_eq, List, [], length, drop, Option, Some, None, Result, Ok, Err, refl, sym, ap, ◌∙◌, subst, arith, append-nil, append_assoc}
-use Rattle.std.proofs.lemmas.Bool.Decides.{nat_tests}
 use Rattle.relay_outside.specs.Told.{LinkCounts, LinkTold}
-use Rattle.chunk_reader.proofs.Reading.{reads_nothing}
 use Rattle.chunk_reader.specs.ReaderKnown.{ReaderKnown}
 use Rattle.chunk_reader.specs.Sound.{IsRead}
 use Rattle.chunk_wire.specs.declared.message.Message.{Message}
 use Rattle.flv_tags.specs.declared.tag.Tag.{Tag}
-use Rattle.flv_tags.specs.Layout.{is_kind}
-use Rattle.flv_tags.specs.Known.{Known}
 use Rattle.flv_tags.specs.Written.{IsWritable}
-use Rattle.segment_command.specs.Outcome.{IsFirst}
+use Rattle.segment_command.specs.Films.{IsFirst, WasRead}
 use Rattle.session_owed.specs.Talk.{hand_bytes}
 use Rattle.client_owed.specs.declared.types.Asked.{Asked}
 use Rattle.client_owed.specs.declared.types.Gave.{Gave}
@@ -23,30 +19,28 @@ use Rattle.client_owed.specs.declared.types.Wish.{Wish}
 use Rattle.client_owed.specs.declared.types.Wish.TheVariants as wish
 use Rattle.client_owed.specs.Client.{does}
 use Rattle.client_owed.specs.Owed.{MayGive, out}
-use Rattle.client_owed.specs.Pulled.{gift_for, pulled, pulled_from}
-use Rattle.client_owed.specs.Standing.{HasStarted, Keeps, Past, Stands, gave_more, is_finish, is_finished, with_given}
+use Rattle.client_owed.specs.Pulled.{gift_for, pulled_from}
+use Rattle.client_owed.specs.Standing.{HasStarted, Keeps, Past, Stands, gave_more, is_finished, with_given}
 use Rattle.rtmp_client.specs.ClientState.{ClientState, Lasting, StandsSo, Untouched, has_started, lasting_of, untouched_of}
 use Rattle.rtmp_client.specs.Keeping.{keeps_of, past_of}
-use Rattle.rtmp_client.specs.declared.core_fields.Core.{Core}
 use Rattle.rtmp_client.specs.declared.end.ClientEnd.{ClientEnd}
 use Rattle.rtmp_client.specs.declared.end.ClientEnd.TheVariants as end
-use Rattle.rtmp_client.specs.declared.end.ClientTurn.{ClientTurn}
 use Rattle.rtmp_client.specs.declared.end.ClientTurn.TheVariants.{Ended as TurnEnded}
 use Rattle.client_command.specs.Closing.{IsRefusal, Tells, client_how, how_by, how_of}
-use Rattle.client_command.specs.Ends.{How, Whole, ByClient, ByFilm, BySource, BySink, ByMemory, status_of}
-use Rattle.client_command.specs.Film.{AreFirst, IsWhole, WasRead, sends_in, tags_given}
-use Rattle.client_command.specs.Giving.{Gives, HasGiven, IsOpen, IsReading, NextStops, PushEnds, PushSteps, PushStops, ReadsNext, came_of}
+use Rattle.client_command.specs.Ends.{How, Whole, ByClient, ByFilm, BySource, ByMemory}
+use Rattle.client_command.specs.Film.{AreFirst, IsWhole, sends_in, tags_given}
+use Rattle.client_command.specs.Giving.{Gives, HasGiven, IsOpen, IsReading, NextStops, PushStops, ReadsNext, came_of}
 use Rattle.client_command.specs.Pushes.{HasPushed, PushBy, PushOutcome, PushSeen, push_seen}
-use Rattle.client_command.specs.Runs.{AreFriendly, Causes, HasRun, most_message}
-use Rattle.client_command.specs.Traffic.{IsCalm, Passed}
+use Rattle.client_command.specs.Runs.{AreFriendly, Causes, HasRun}
+use Rattle.client_command.specs.Traffic.{Passed}
 use Rattle.client_command.specs.Turned.{IsDone, IsLive, IsNew, Runs, Stopped, Turned, gifts_of}
 use Rattle.client_command.specs.declared.ending.Ended.{Ended}
 use Rattle.client_command.specs.declared.film.Film.{Film}
 use Rattle.client_command.specs.declared.stop.Stop.{Stop}
 use Rattle.client_command.specs.declared.stop.Stop.TheVariants.{Client, Refused, Source, Sink, Memory}
-use Rattle.client_command.proofs.Passing.{calm_here, passed_same}
-use Rattle.client_command.proofs.Turns.{new_runs, run_here}
-use Rattle.client_command.proofs.Filming.{prepend_none}
+use Rattle.client_command.proofs.Passing.{calm_here}
+use Rattle.client_command.proofs.Turns.{by_client_end, new_runs, no_run, run_here}
+use Rattle.client_command.proofs.Filming.{first_of, prepend_none}
 
 -- ---- one that publishes is told nothing
 
@@ -139,7 +133,7 @@ open_given c d t o l k u = record {
 pub may_send : (c : ClientState) (t : Tag) → IsOpen c → t.time < 2 ^ 32 → IsWritable t → MayGive c.parts.asked.wish c.parts.reader.max (given.Send t)
 may_send c t o time w = (o.pushes, w.kind, subst (λ (x : ℕ). length t.body ≤ x) (sym o.live.max) w.fits, time)
 
-gave_all : (c d : ClientState) (g : Given) → past_of d.parts ≡ with_given (past_of c.parts) (record { at = length c.parts.y; given = g }) → tags_given d.parts.gave ≡ tags_given c.parts.gave ++ sends_in g
+pub gave_all : (c d : ClientState) (g : Given) → past_of d.parts ≡ with_given (past_of c.parts) (record { at = length c.parts.y; given = g }) → tags_given d.parts.gave ≡ tags_given c.parts.gave ++ sends_in g
 gave_all c d g p = ap (λ (x : Past). tags_given x.gave) p ∙ tags_more c.parts.gave (record { at = length c.parts.y; given = g })
 
 pub tag_given : (k : Asked) (c d : ClientState) (f h : Film) (t : Tag) (old : PushSeen) (left left' : Option (List ℕ)) (faults faults' : ℕ) (told : Option LinkTold) (counts : LinkCounts) → Gives k c f old (push_seen left faults told counts)
@@ -175,47 +169,37 @@ pushed_run k c start now n m o r = silent k c.parts.y c.input c.parts.reader.giv
 not_finished : (c : ClientState) → IsOpen c → is_finished c.parts.gave ≡ false
 not_finished c o = sym o.live.stands.stands.finished ∙ o.open_is
 
+-- by one that lives
+pushed_so : (how : How) (k : Asked) (c : ClientState) (old : PushSeen) (read : List ℕ) (left : Option (List ℕ)) (faults : ℕ) (told : Option LinkTold) (counts : LinkCounts) → IsOpen c → Runs k c old.told told old.counts counts → WasRead read old.left left
+    → PushBy how read c.parts.gave c.parts.reader.given (c.parts.y ++ c.input) c.parts.outgoing.pending old (push_seen left faults told counts) → HasPushed k how old (push_seen left faults told counts)
+pushed_so how k c old read left faults told counts o r w e = record {
+  read = read;
+  was_read = w;
+  y = c.parts.y;
+  rest = c.input;
+  ms = c.parts.reader.given;
+  T = c.parts.gave;
+  more = c.parts.outgoing.pending;
+  run = pushed_run k c old.told told old.counts counts o r;
+  ends = e;
+}
+
 pub next_stops : (stop : Stop) (k : Asked) (c : ClientState) (f : Film) (old : PushSeen) (left left' : Option (List ℕ)) (faults faults' : ℕ) (told : Option LinkTold) (counts : LinkCounts) → IsOpen c → c.parts.outgoing.pending ≡ []
     → Gives k c f old (push_seen left faults told counts) → (read : List ℕ) × WasRead read old.left left' × NextStops stop f.reader.given read left' faults faults' → PushStops stop k c old (push_seen left' faults' told counts)
 next_stops Client k c f old left left' faults faults' told counts o none v r = absurd r.2
-next_stops (Refused at) k c f old left left' faults faults' told counts o none v r = record {
-  read = r.0;
-  was_read = r.1;
-  y = c.parts.y;
-  rest = c.input;
-  ms = c.parts.reader.given;
-  T = c.parts.gave;
-  more = c.parts.outgoing.pending;
-  run = pushed_run k c old.told told old.counts counts o v.runs;
-  ends = (subst (λ (l : List Tag). Rattle.client_command.specs.Film.IsRefusedAt r.0 at l left') (sym v.tags) r.2.0, r.2.1 ∙ v.faults, record { none = none; finished = not_finished c o; calm = v.runs.calm });
-}
-next_stops Source k c f old left left' faults faults' told counts o none v r = record {
-  read = r.0;
-  was_read = r.1;
-  y = c.parts.y;
-  rest = c.input;
-  ms = c.parts.reader.given;
-  T = c.parts.gave;
-  more = c.parts.outgoing.pending;
-  run = pushed_run k c old.told told old.counts counts o v.runs;
-  ends = (
-    (r.2.0.0, subst (λ (l : List Tag). Rattle.flv_tags.specs.Reads.Reads r.0 l r.2.0.0) (sym v.tags) r.2.0.1),
-    subst (λ (x : ℕ). Rattle.relay_outside.specs.Counts.Rose x faults') v.faults r.2.1,
-    record { none = none; finished = not_finished c o; calm = v.runs.calm },
-  );
-}
+next_stops (Refused at) k c f old left left' faults faults' told counts o none v r =
+    pushed_so (ByFilm at) k c old r.0 left' faults' told counts o v.runs r.1
+    (subst (λ (l : List Tag). Rattle.client_command.specs.Film.IsRefusedAt r.0 at l left') (sym v.tags) r.2.0, r.2.1 ∙ v.faults, record { none = none; finished = not_finished c o; calm = v.runs.calm })
+next_stops Source k c f old left left' faults faults' told counts o none v r =
+    pushed_so BySource k c old r.0 left' faults' told counts o v.runs r.1 (
+      (r.2.0.0, subst (λ (l : List Tag). Rattle.flv_tags.specs.Reads.Reads r.0 l r.2.0.0) (sym v.tags) r.2.0.1),
+      subst (λ (x : ℕ). Rattle.relay_outside.specs.Counts.Rose x faults') v.faults r.2.1,
+      record { none = none; finished = not_finished c o; calm = v.runs.calm },
+    )
 next_stops Sink k c f old left left' faults faults' told counts o none v r = absurd r.2
-next_stops Memory k c f old left left' faults faults' told counts o none v r = record {
-  read = r.0;
-  was_read = r.1;
-  y = c.parts.y;
-  rest = c.input;
-  ms = c.parts.reader.given;
-  T = c.parts.gave;
-  more = c.parts.outgoing.pending;
-  run = pushed_run k c old.told told old.counts counts o v.runs;
-  ends = (first_as r.0 f.reader.given (tags_given c.parts.gave) [] (ap (λ (l : List Tag). l ++ []) v.tags ∙ append-nil f.reader.given) r.2.0, r.2.1 ∙ v.faults, v.runs.calm);
-}
+next_stops Memory k c f old left left' faults faults' told counts o none v r =
+    pushed_so ByMemory k c old r.0 left' faults' told counts o v.runs r.1
+    (first_as r.0 f.reader.given (tags_given c.parts.gave) [] (ap (λ (l : List Tag). l ++ []) v.tags ∙ append-nil f.reader.given) r.2.0, r.2.1 ∙ v.faults, v.runs.calm)
   where
     first_as : (read : List ℕ) (given tags later : List Tag) → tags ++ later ≡ given → IsFirst read given → AreFirst read tags
     first_as read given tags later e i = (later, subst (IsFirst read) (sym e) i)
@@ -223,68 +207,47 @@ next_stops Memory k c f old left left' faults faults' told counts o none v r = r
 -- there was no memory to give it
 pub lost_given : (k : Asked) (c : ClientState) (f h : Film) (t : Tag) (old : PushSeen) (left left' : Option (List ℕ)) (faults faults' : ℕ) (told : Option LinkTold) (counts : LinkCounts) → IsOpen c → IsReading h → Gives k c f old (push_seen left faults told counts)
     → ReadsNext (Ok (Some t)) f h old.left left' faults faults' → HasPushed k ByMemory old (push_seen left' faults' told counts)
-lost_given k c f h t old left left' faults faults' told counts o reading v r = record {
-  read = came_of h;
-  was_read = r.0;
-  y = c.parts.y;
-  rest = c.input;
-  ms = c.parts.reader.given;
-  T = c.parts.gave;
-  more = c.parts.outgoing.pending;
-  run = pushed_run k c old.told told old.counts counts o v.runs;
-  ends = ((t ∷ [], subst (IsFirst (came_of h)) (r.1 ∙ ap (λ (l : List Tag). l ++ t ∷ []) (sym v.tags)) (record { front = h.reader.fed; behind = h.ahead; parts = refl; rest = reading.stands.0; reads = reading.stands.1 })), r.2 ∙ v.faults, v.runs.calm);
-}
+lost_given k c f h t old left left' faults faults' told counts o reading v r =
+    pushed_so ByMemory k c old (came_of h) left' faults' told counts o v.runs r.0
+    ((t ∷ [], subst (IsFirst (came_of h)) (r.1 ∙ ap (λ (l : List Tag). l ++ t ∷ []) (sym v.tags)) (first_of h h.ahead reading.stands)), r.2 ∙ v.faults, v.runs.calm)
 
 -- or to finish it
 pub lost_end : (k : Asked) (c : ClientState) (f h : Film) (old : PushSeen) (left left' : Option (List ℕ)) (faults faults' : ℕ) (told : Option LinkTold) (counts : LinkCounts) → IsOpen c → Gives k c f old (push_seen left faults told counts)
     → ReadsNext (Ok None) f h old.left left' faults faults' → HasPushed k ByMemory old (push_seen left' faults' told counts)
-lost_end k c f h old left left' faults faults' told counts o v r = record {
-  read = r.0.0;
-  was_read = r.0.1;
-  y = c.parts.y;
-  rest = c.input;
-  ms = c.parts.reader.given;
-  T = c.parts.gave;
-  more = c.parts.outgoing.pending;
-  run = pushed_run k c old.told told old.counts counts o v.runs;
-  ends = (([], subst (IsFirst r.0.0) (sym (append-nil (tags_given c.parts.gave) ∙ v.tags)) r.0.3), r.1 ∙ v.faults, v.runs.calm);
-}
+lost_end k c f h old left left' faults faults' told counts o v r =
+    pushed_so ByMemory k c old r.0.0 left' faults' told counts o v.runs r.0.1
+    (([], subst (IsFirst r.0.0) (sym (append-nil (tags_given c.parts.gave) ∙ v.tags)) r.0.3), r.1 ∙ v.faults, v.runs.calm)
 
 -- ---- turns
 
+-- by one that ended in the turn
+ended_so : (how : How) (k : Asked) (e : ClientEnd) (c : ClientState) (old : PushSeen) (read : List ℕ) (left : Option (List ℕ)) (faults : ℕ) (told told' : Option LinkTold) (counts counts' : LinkCounts) → c.parts.asked.wish ≡ wish.Push → Runs k c old.told told old.counts counts
+    → WasRead read old.left left → (s : Stopped k e c.parts old.told told' old.counts counts') → PushBy how read c.parts.gave c.parts.reader.given (c.parts.y ++ s.rest) s.more old (push_seen left faults told' counts') → HasPushed k how old (push_seen left faults told' counts')
+ended_so how k e c old read left faults told told' counts counts' p r w s b = record {
+  read = read;
+  was_read = w;
+  y = c.parts.y;
+  rest = s.rest;
+  ms = c.parts.reader.given;
+  T = c.parts.gave;
+  more = s.more;
+  run = silent k c.parts.y s.rest c.parts.reader.given c.parts.gave (gifts_of c.parts) s.more old.told told' (wish_of k c old.told told old.counts counts p r) s.run;
+  ends = b;
+}
+
 client_pushed : (e : ClientEnd) (k : Asked) (old new : PushSeen) → HasPushed k (ByClient e) old new → HasPushed k (client_how e) old new
-client_pushed end.Done k old new h = absurd h.ends.2
-client_pushed end.PeerClosed k old new h = h
-client_pushed end.LinkFault k old new h = h
-client_pushed (end.BadVersion at) k old new h = h
-client_pushed (end.BadChunk cause at) k old new h = h
-client_pushed (end.BadControl at) k old new h = h
-client_pushed (end.BadCommand at) k old new h = h
-client_pushed (end.Refused code) k old new h = h
-client_pushed end.OutOfMemory k old new h = h
+client_pushed e k old new = by_client_end (λ (how : How). HasPushed k how old new) e (λ h. h.ends.2)
 
 -- the client ended while it may be given more
 pub turn_stops : (k : Asked) (c d : ClientState) (f : Film) (old : PushSeen) (told told' : Option LinkTold) (counts counts' : LinkCounts) (left : Option (List ℕ)) (faults : ℕ) → IsOpen c → IsReading f → Gives k c f old (push_seen left faults told counts)
     → Turned TurnEnded k c d old.told told' old.counts counts' → PushStops Client k d old (push_seen left faults told' counts')
-turn_stops k c d f old told told' counts counts' left faults o reading v t =
-    let e = t.0 in
-    let s = t.2 in
-    let q = c.parts in
-    let first : IsFirst (came_of f) f.reader.given = record { front = f.reader.fed; behind = f.ahead; parts = refl; rest = reading.stands.0; reads = reading.stands.1 } in (
-      e,
-      t.1,
-      client_pushed e k old (push_seen left faults told' counts') (record {
-        read = came_of f;
-        was_read = v.read;
-        y = q.y;
-        rest = s.rest;
-        ms = q.reader.given;
-        T = q.gave;
-        more = s.more;
-        run = silent k q.y s.rest q.reader.given q.gave (gifts_of q) s.more old.told told' (wish_of k c old.told told old.counts counts o.pushes v.runs) s.run;
-        ends = (([], subst (IsFirst (came_of f)) (sym (append-nil (tags_given q.gave) ∙ v.tags)) first), v.faults, why s.why);
-      }),
-    )
+turn_stops k c d f old told told' counts counts' left faults o reading v t = (
+  t.0,
+  t.1,
+  client_pushed t.0 k old (push_seen left faults told' counts')
+      (ended_so (ByClient t.0) k t.0 c old (came_of f) left faults told told' counts counts' o.pushes v.runs v.read t.2
+      (([], subst (IsFirst (came_of f)) (sym (append-nil (tags_given c.parts.gave) ∙ v.tags)) (first_of f f.ahead reading.stands)), v.faults, why t.2.why)),
+)
   where
     why : (IsDone t.0 c.parts t.2.more old.counts counts' ⊎ Causes t.0 c.parts.reader.given (c.parts.y ++ t.2.rest) old.counts counts') → Causes t.0 c.parts.reader.given (c.parts.y ++ t.2.rest) old.counts counts'
     why (inl d) = absurd (let b : true ≡ false = sym d.finished ∙ o.open_is in cc)
@@ -327,35 +290,14 @@ pub out_stops : (k : Asked) (c d : ClientState) (old : PushSeen) (told told' : O
     → Turned TurnEnded k c d old.told told' old.counts counts' → PushStops Client k d old (push_seen left faults told' counts')
 out_stops k c d old told told' counts counts' left faults v t = (t.0, t.1, by_why t.2.why)
   where
-    run : HasRun k c.parts.y t.2.rest c.parts.reader.given c.parts.gave [] t.2.more old.told told'
-    run = silent k c.parts.y t.2.rest c.parts.reader.given c.parts.gave (gifts_of c.parts) t.2.more old.told told' (wish_of k c old.told told old.counts counts v.pushes v.runs) t.2.run
-
-    whole : IsDone t.0 c.parts t.2.more old.counts counts' → HasPushed k Whole old (push_seen left faults told' counts')
-    whole d = record {
-      read = v.read;
-      was_read = v.was_read;
-      y = c.parts.y;
-      rest = t.2.rest;
-      ms = c.parts.reader.given;
-      T = c.parts.gave;
-      more = t.2.more;
-      run = run;
-      ends = (v.whole, v.faults, record { none = d.none; finished = sym v.runs.live.stands.stands.finished ∙ d.finished; calm = d.calm });
-    }
+    out_so : (how : How) → PushBy how v.read c.parts.gave c.parts.reader.given (c.parts.y ++ t.2.rest) t.2.more old (push_seen left faults told' counts') → HasPushed k how old (push_seen left faults told' counts')
+    out_so how = ended_so how k t.0 c old v.read left faults told told' counts counts' v.pushes v.runs v.was_read t.2
 
     by_why : (IsDone t.0 c.parts t.2.more old.counts counts' ⊎ Causes t.0 c.parts.reader.given (c.parts.y ++ t.2.rest) old.counts counts') → HasPushed k (client_how t.0) old (push_seen left faults told' counts')
-    by_why (inl d) = subst (λ (e : ClientEnd). HasPushed k (client_how e) old (push_seen left faults told' counts')) (sym d.is_done) (whole d)
-    by_why (inr h) = client_pushed t.0 k old (push_seen left faults told' counts') (record {
-      read = v.read;
-      was_read = v.was_read;
-      y = c.parts.y;
-      rest = t.2.rest;
-      ms = c.parts.reader.given;
-      T = c.parts.gave;
-      more = t.2.more;
-      run = run;
-      ends = (([], subst (IsFirst v.read) (sym (append-nil (tags_given c.parts.gave))) v.first), v.faults, h);
-    })
+    by_why (inl d) = subst (λ (e : ClientEnd). HasPushed k (client_how e) old (push_seen left faults told' counts')) (sym d.is_done)
+        (out_so Whole (v.whole, v.faults, record { none = d.none; finished = sym v.runs.live.stands.stands.finished ∙ d.finished; calm = d.calm }))
+    by_why (inr h) = client_pushed t.0 k old (push_seen left faults told' counts')
+        (out_so (ByClient t.0) (([], subst (IsFirst v.read) (sym (append-nil (tags_given c.parts.gave))) v.first), v.faults, h))
 
 -- ---- the status
 
@@ -388,10 +330,6 @@ push_outcome Sink o c k old new e i p t = absurd p
 push_outcome Memory o c k old new e i p t = by_tells ByMemory k old new e p t
 
 -- without a client
-nothing_told : (k : Asked) → [] ≡ pulled k []
-unfolding pulled_from
-nothing_told k = refl
-
 pub no_client : (k : Asked) (seen : PushSeen) (e : Ended) → e ≡ record { status = record { code = 6; place = 0 }; refusal = [] } → PushOutcome k seen seen e
 no_client k seen e i =
     told_so ByMemory k seen seen e
@@ -403,15 +341,7 @@ no_client k seen e i =
       ms = [];
       T = [];
       more = out k [] [] [];
-      run = record {
-        took = [];
-        passed = passed_same seen.told seen.told refl;
-        read = record { s = _; r = []; reads = reads_nothing most_message };
-        friendly = tt;
-        owes = refl;
-        given = tt;
-        told = nothing_told k;
-      };
+      run = no_run k seen.told;
       ends = (([], record { front = []; behind = []; parts = refl; rest = []; reads = nothing_read }), refl, calm_here seen.counts);
     })
     (record { status = ap (λ (x : Ended). x.status) i; refusal = ap (λ (x : Ended). x.refusal) i })

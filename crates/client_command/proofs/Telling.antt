@@ -1,13 +1,11 @@
 -- A client between two turns: what it takes and what it was told
-use Rattle.std.proofs.Common.{◌≡◌, ◌≤◌, ◌++◌, ◌&&◌, ◌==◌, if◌then◌else◌, ℕ, Bool, true, false, List, [], ◌∷◌, length, Option, Some, None, Result, Ok, Err, refl, sym, ap, ◌∙◌, subst, arith, append-nil, append_assoc}
+use Rattle.std.proofs.Common.{◌≡◌, ◌≤◌, ◌++◌, ◌&&◌, ◌==◌, if◌then◌else◌, ℕ, Bool, true, false, List, [], ◌∷◌, length, Option, Some, None, Result, Ok, Err, refl, sym, ap, ◌∙◌, subst, append-nil}
 use Rattle.std.specs.Prelude.{IfSome, drop, codes}
 use Rattle.chunk_reader.specs.Laws.{AreShort}
 use Rattle.chunk_reader.specs.Reads.{Reads}
-use Rattle.chunk_reader.specs.Sound.{IsRead}
 use Rattle.chunk_wire.specs.State.{State}
 use Rattle.chunk_wire.specs.declared.message.Message.{Message}
 use Rattle.flv_tags.specs.Layout.{is_kind}
-use Rattle.flv_tags.specs.Written.{IsWritable}
 use Rattle.relay_outside.specs.Told.{LinkCounts, LinkTold}
 use Rattle.rtmp_command.specs.declared.command.CommandFail.{CommandFail}
 use Rattle.session_owed.specs.Talk.{hand_bytes}
@@ -22,7 +20,7 @@ use Rattle.client_owed.specs.declared.types.Wish.{Wish}
 use Rattle.client_owed.specs.declared.types.Wish.TheVariants as wish
 use Rattle.client_owed.specs.Client.{does}
 use Rattle.client_owed.specs.News.{is_text, news_in}
-use Rattle.client_owed.specs.Pulled.{gift_for, gift_in, pulled, pulled_from, tag_of, tag_on, told_by, told_in}
+use Rattle.client_owed.specs.Pulled.{gift_for, gift_in, pulled, pulled_from, tag_of, tag_on, told_in}
 use Rattle.client_owed.specs.Standing.{Stands, gift_now, listed}
 use Rattle.client_owed.proofs.Standing.{stands_taken}
 use Rattle.rtmp_client.specs.ClientState.{ClientState, StandsBy, StandsSo, TurnMade, lasting_of, Lasting, without_gift}

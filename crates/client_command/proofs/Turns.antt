@@ -1,8 +1,8 @@
 -- What a turn of a client comes to, over what its link tells
-use Rattle.std.proofs.Common.{◌≡◌, ◌⊎◌, inl, inr, ◌<◌, ◌≤◌, ◌+◌, ◌-◌, ◌==◌, ◌&&◌, if◌then◌else◌, ℕ, Bool, true, false, is_some, List, [], ◌∷◌, ◌++◌, length, take, drop, Option, Some, None, Result, Ok, Err, refl, sym, ap, ◌∙◌, subst, arith, append_assoc, append-nil, length-append}
+use Rattle.std.proofs.Common.{◌≡◌, ◌⊎◌, inl, inr, ◌<◌, ◌≤◌, ◌-◌, ◌==◌, ◌&&◌, if◌then◌else◌, ℕ, Bool, true, false, List, [], ◌∷◌, ◌++◌, length, take, drop, Option, Some, None, Result, Ok, Err, refl, sym, ap, ◌∙◌, subst, arith, append_assoc, append-nil}
 use Rattle.std.proofs.lemmas.List.{length-take, take-append-drop, take-take}
 use Rattle.relay_outside.specs.Counts.{Rose}
-use Rattle.relay_outside.specs.Heard.{Came, CameBytes, CameCounts, CameEnd, CameFailed, CameNotYet, HearStep}
+use Rattle.relay_outside.specs.Heard.{Came, CameBytes, CameEnd, CameFailed, CameNotYet, HearStep}
 use Rattle.relay_outside.specs.Said.{SayStep}
 use Rattle.relay_outside.specs.Told.{LinkCounts, LinkTold}
 use Rattle.relay_outside.specs.declared.link.Said.{Said}
@@ -10,6 +10,7 @@ use Rattle.relay_outside.specs.declared.link.Said.TheVariants as said
 use Rattle.ack_window.specs.Controls.{control_in}
 use Rattle.ack_window.specs.declared.control.Control.{Control}
 use Rattle.ack_window.specs.declared.control.BadControl.{BadControl}
+use Rattle.chunk_reader.proofs.Reading.{reads_nothing}
 use Rattle.chunk_reader.specs.ReaderKnown.{ReaderKnown}
 use Rattle.chunk_reader.specs.Sound.{IsRead}
 use Rattle.chunk_wire.specs.declared.message.Message.{Message}
@@ -17,23 +18,23 @@ use Rattle.rtmp_command.specs.declared.command.CommandFail.{CommandFail}
 use Rattle.rtmp_command.specs.declared.command.CommandFail.TheVariants as command
 use Rattle.session_owed.specs.Talk.{hand_bytes}
 use Rattle.client_owed.specs.declared.types.Asked.{Asked}
-use Rattle.client_owed.specs.declared.types.Gave.{Gave}
-use Rattle.client_owed.specs.declared.types.Gift.{Gift}
 use Rattle.client_owed.specs.declared.types.News.{News}
 use Rattle.client_owed.specs.declared.types.News.TheVariants as news
 use Rattle.client_owed.specs.News.{news_in}
 use Rattle.client_owed.specs.Owed.{AreGiven, out}
-use Rattle.client_owed.specs.Pulled.{pulled}
+use Rattle.client_owed.specs.Pulled.{pulled, pulled_from}
 use Rattle.client_owed.specs.Standing.{Keeps, Past, count_of}
-use Rattle.rtmp_client.specs.ClientState.{ClientState, Lasting, StandsBy, StandsSo, TurnMade, lasting_of, life_of}
-use Rattle.rtmp_client.specs.Feeding.{Decides, Fixed, Heard, Hears, IsFed, IsHeard, IsSent, IsStopped}
+use Rattle.rtmp_client.specs.ClientState.{ClientState, Lasting, StandsBy, TurnMade, lasting_of, life_of}
+use Rattle.rtmp_client.specs.Feeding.{Decides, Fixed, Heard, Hears, IsFed, IsSent}
 use Rattle.rtmp_client.specs.Refusing.{ended_by, refused, refused_by}
-use Rattle.rtmp_client.specs.Turns.{CameAs, DoneBy, EmptyBy, EndedBy, Fed, FedAs, FedBy, Quietly, Loudly, Stopping, Finish, Gone, Input, InputBy, IsEnded, Life, SendBy, Sent, SentAs, end_of, is_done, is_hungry, is_nil, life, turn_of}
+use Rattle.rtmp_client.specs.Turns.{CameAs, DoneBy, EmptyBy, EndedBy, Fed, FedAs, FedBy, Quietly, Loudly, Stopping, InputBy, IsEnded, Life, SendBy, SentAs, end_of, is_done, is_hungry, is_nil, life, turn_of}
 use Rattle.rtmp_client.specs.declared.core_fields.Core.{Core}
 use Rattle.rtmp_client.specs.declared.end.ClientEnd.{ClientEnd}
 use Rattle.rtmp_client.specs.declared.end.ClientEnd.TheVariants as end
 use Rattle.rtmp_client.specs.declared.end.ClientTurn.{ClientTurn}
-use Rattle.client_command.specs.Runs.{AreFriendly, Causes, Decided, HasRun, most_message}
+use Rattle.client_command.specs.Closing.{client_how}
+use Rattle.client_command.specs.Ends.{How, ByClient}
+use Rattle.client_command.specs.Runs.{AreFriendly, Causes, HasRun, most_message}
 use Rattle.client_command.specs.Traffic.{IsCalm, Passed}
 use Rattle.client_command.specs.Turned.{IsDone, IsLive, IsNew, Runs, Stopped, Turned, gifts_of}
 use Rattle.client_command.proofs.Passing.{calm_here, calm_then, passed_as, passed_given, passed_same, passed_taken, passed_then}
@@ -394,3 +395,32 @@ new_runs k c told n asked new live =
       friendly = subst AreFriendly (sym given) tt;
       calm = calm_here n;
     }
+
+-- and nothing is done without one
+nothing_told : (k : Asked) → [] ≡ pulled k []
+unfolding pulled_from
+nothing_told k = refl
+
+pub no_run : (k : Asked) (told : Option LinkTold) → HasRun k [] [] [] [] [] (out k [] [] []) told told
+no_run k told = record {
+  took = [];
+  passed = passed_same told told refl;
+  read = record { s = _; r = []; reads = reads_nothing most_message };
+  friendly = tt;
+  owes = refl;
+  given = tt;
+  told = nothing_told k;
+}
+
+-- ---- how a command ends by the end of its client, but where all was sent
+
+pub by_client_end : (P : How → Type 0) (e : ClientEnd) → (P (ByClient end.Done) → ⊥) → P (ByClient e) → P (client_how e)
+by_client_end P end.Done n h = absurd (n h)
+by_client_end P end.PeerClosed n h = h
+by_client_end P end.LinkFault n h = h
+by_client_end P (end.BadVersion at) n h = h
+by_client_end P (end.BadChunk cause at) n h = h
+by_client_end P (end.BadControl at) n h = h
+by_client_end P (end.BadCommand at) n h = h
+by_client_end P (end.Refused code) n h = h
+by_client_end P end.OutOfMemory n h = h

@@ -5,12 +5,12 @@ use Rattle.std.specs.Io.KnownBytes.{append_known}
 use Rattle.std.proofs.lemmas.List.Concat.{flat_map-append}
 use Rattle.flv_tags.specs.declared.tag.Tag.{Tag}
 use Rattle.flv_tags.specs.Written.{header, tag_bytes}
-use Rattle.file_commands.specs.Written.{Writes, WritesPart}
+use Rattle.file_commands.specs.Written.{WritesPart}
 use Rattle.client_owed.specs.declared.types.Gift.{Gift}
 use Rattle.client_owed.specs.declared.types.Gift.TheVariants as gift
 use Rattle.client_command.specs.Gifts.{pull_text, tags_in}
 use Rattle.client_command.specs.declared.stop.Stop.{Stop}
-use Rattle.client_command.specs.Telling.{gift_bytes, gift_head, gift_text, has_some}
+use Rattle.client_command.specs.Telling.{gift_bytes, gift_text, has_some}
 
 append_known_twice : (known : Option (List ℕ)) (xs ys : List ℕ) → append_known (append_known known xs) ys ≡ append_known known (xs ++ ys)
 append_known_twice None xs ys = refl

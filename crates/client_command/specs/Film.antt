@@ -1,10 +1,10 @@
 -- A film that is pushed
-use Rattle.std.specs.Prelude.{◌≡◌, ◌⊎◌, ◌≤◌, ◌++◌, ℕ, List, [], ◌∷◌, length, Option, None}
-use Rattle.std.specs.Io.KnownBytes.{IsAtEnd, prepend_known}
+use Rattle.std.specs.Prelude.{◌⊎◌, ◌≤◌, ◌++◌, ℕ, List, [], ◌∷◌, length, Option}
+use Rattle.std.specs.Io.KnownBytes.{IsAtEnd}
 use Rattle.flv_tags.specs.declared.tag.Tag.{Tag}
-use Rattle.flv_tags.specs.Reads.{IsFile, Reads}
+use Rattle.flv_tags.specs.Reads.{IsFile}
 use Rattle.file_commands.specs.Outcome.{most_bytes}
-use Rattle.segment_command.specs.Outcome.{IsCutOff, IsFirst, IsStopped, IsTooLong}
+use Rattle.segment_command.specs.Films.{IsCutOff, IsFirst, IsStopped, IsTooLong}
 use Rattle.client_owed.specs.declared.types.Gave.{Gave}
 use Rattle.client_owed.specs.declared.types.Given.{Given}
 use Rattle.client_owed.specs.declared.types.Given.TheVariants.{Send, Finish}
@@ -18,10 +18,6 @@ sends_in Finish = []
 abbrev pub tags_given : List Gave → List Tag
 tags_given [] = []
 tags_given (g ∷ T) = sends_in g.given ++ tags_given T
-
--- these bytes of a source were read
-abbrev pub WasRead : List ℕ → Option (List ℕ) → Option (List ℕ) → Type 0
-WasRead read old new = old ≡ prepend_known read new
 
 -- the whole film was read
 pub record IsWhole (read : List ℕ) (tags : List Tag) (left : Option (List ℕ)) : Type 0 where

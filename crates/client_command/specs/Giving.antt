@@ -1,4 +1,3 @@
--- Only proofs and private functions use it.
 -- A film that is read and given to a client
 use Rattle.std.specs.Prelude.{◌≡◌, ◌≤◌, ◌<◌, ◌+◌, ◌++◌, ℕ, Bool, true, false, List, [], ◌∷◌, length, Option, Some, None, Result, Ok, Err}
 use Rattle.std.specs.Io.KnownBytes.{IsAtEnd, prepend_known}
@@ -9,15 +8,15 @@ use Rattle.flv_tags.specs.Feeds.{Stands as TagsStand}
 use Rattle.flv_tags.specs.Reads.{Reads}
 use Rattle.flv_tags.specs.Written.{IsWritable}
 use Rattle.file_commands.specs.Outcome.{most_bytes}
-use Rattle.segment_command.specs.Outcome.{IsFirst, IsStopped, IsCutOff}
+use Rattle.segment_command.specs.Films.{IsCutOff, IsFirst, IsStopped, WasRead}
 use Rattle.flv_tags.specs.Reads.{IsFile}
 use Rattle.client_owed.specs.declared.types.Asked.{Asked}
 use Rattle.client_owed.specs.declared.types.Wish.TheVariants.{Push}
 use Rattle.rtmp_client.specs.ClientState.{ClientState}
 use Rattle.rtmp_client.specs.declared.end.ClientEnd.{ClientEnd}
 use Rattle.client_command.specs.Closing.{client_how}
-use Rattle.client_command.specs.Ends.{How, ByFilm, BySource, ByMemory}
-use Rattle.client_command.specs.Film.{IsRefusedAt, IsWhole, WasRead, tags_given}
+use Rattle.client_command.specs.Ends.{ByFilm, BySource, ByMemory}
+use Rattle.client_command.specs.Film.{IsRefusedAt, IsWhole, tags_given}
 use Rattle.client_command.specs.Pushes.{HasPushed, PushSeen}
 use Rattle.client_command.specs.Turned.{IsLive, Runs}
 use Rattle.client_command.specs.declared.film.Film.{Film}

@@ -1,18 +1,18 @@
 -- HOW `push` ENDS
-use Rattle.std.specs.Prelude.{◌≡◌, ◌++◌, ℕ, Bool, true, false, List, [], ◌∷◌, Option}
+use Rattle.std.specs.Prelude.{◌≡◌, ◌++◌, ℕ, Bool, true, false, List, [], Option}
 use Rattle.relay_outside.specs.Counts.{Rose}
 use Rattle.relay_outside.specs.Told.{LinkCounts, LinkTold}
 use Rattle.chunk_wire.specs.declared.message.Message.{Message}
-use Rattle.flv_tags.specs.declared.tag.Tag.{Tag}
 use Rattle.flv_tags.specs.Reads.{Reads}
 use Rattle.client_owed.specs.declared.types.Asked.{Asked}
 use Rattle.client_owed.specs.declared.types.Gave.{Gave}
 use Rattle.client_owed.specs.Standing.{is_finished}
 use Rattle.client_command.specs.Ends.{How, Whole, ByClient, ByFilm, BySource, BySink, ByMemory, refusal_of, status_of}
-use Rattle.client_command.specs.Film.{AreFirst, IsRefusedAt, IsWhole, WasRead, tags_given}
+use Rattle.client_command.specs.Film.{AreFirst, IsRefusedAt, IsWhole, tags_given}
 use Rattle.client_command.specs.Runs.{Causes, HasRun}
 use Rattle.client_command.specs.Traffic.{IsCalm}
 use Rattle.client_command.specs.declared.ending.Ended.{Ended}
+use Rattle.segment_command.specs.Films.{WasRead}
 
 -- what is seen of the source and of the link
 pub record PushSeen : Type 0 where

@@ -1,5 +1,5 @@
 -- What a client has done over a link, and why it ends
-use Rattle.std.specs.Prelude.{◌≡◌, ◌++◌, ℕ, List, [], ◌∷◌, length, drop, None}
+use Rattle.std.specs.Prelude.{◌≡◌, ◌++◌, ℕ, List, [], ◌∷◌, drop, None}
 use Rattle.relay_outside.specs.Counts.{Rose}
 use Rattle.relay_outside.specs.Told.{LinkCounts, LinkTold}
 use Rattle.std.specs.declared.option.Option.{Option}

@@ -1,8 +1,6 @@
--- Only proofs and private functions use it.
 -- A stream that is played, between two turns and at its end
-use Rattle.std.specs.Prelude.{◌≡◌, ◌++◌, ℕ, Bool, true, false, if◌then◌else◌, List, [], ◌∷◌, Option, Some, None, Result, Ok, Err}
+use Rattle.std.specs.Prelude.{◌≡◌, ◌++◌, ℕ, Bool, true, false, if◌then◌else◌, List, [], ◌∷◌, Some, Result, Ok, Err}
 use Rattle.std.specs.Io.KnownBytes.{append_known}
-use Rattle.relay_outside.specs.Told.{LinkCounts, LinkTold}
 use Rattle.flv_tags.specs.Written.{IsWritable, header, tag_bytes}
 use Rattle.client_owed.specs.declared.types.Asked.{Asked}
 use Rattle.client_owed.specs.declared.types.Gift.{Gift}
@@ -10,7 +8,7 @@ use Rattle.client_owed.specs.declared.types.Gift.TheVariants as gift
 use Rattle.rtmp_client.specs.ClientState.{ClientState}
 use Rattle.rtmp_client.specs.declared.end.ClientEnd.{ClientEnd}
 use Rattle.client_command.specs.Closing.{client_how}
-use Rattle.client_command.specs.Ends.{How, Whole, ByClient, BySink, ByMemory}
+use Rattle.client_command.specs.Ends.{Whole, BySink, ByMemory}
 use Rattle.client_command.specs.Gifts.{IsOn, pull_text}
 use Rattle.client_command.specs.Pulls.{HasPulled, PullSeen}
 use Rattle.client_command.specs.Turned.{Runs}

@@ -1,4 +1,3 @@
--- Only proofs and private functions use it.
 -- A client that runs over a link, and what its turns come to
 use Rattle.std.specs.Prelude.{◌≡◌, ◌⊎◌, ◌++◌, ℕ, true, List, [], Option, Some, None}
 use Rattle.relay_outside.specs.Counts.{Rose}

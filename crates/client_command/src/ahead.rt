@@ -7,7 +7,7 @@ use std::marker::Model;
 
 /// The bytes of a film that came and weren't read yet. Contracts see their list.
 #[derive(Drop)]
-pub(crate) struct Ahead {
+pub struct Ahead {
     bytes: Bytes,
     offset: usize,
 }
@@ -24,7 +24,7 @@ impl Model for Ahead {
 
 impl Ahead {
     /// Nothing came.
-    pub(crate) fn new(alloc: Global) -> Ahead
+    pub fn new(alloc: Global) -> Ahead
         ensures { result ≡ [] }
     {
         Ahead {
@@ -34,7 +34,7 @@ impl Ahead {
     }
 
     /// Bytes came, where none were left.
-    pub(crate) fn receive(&mut self, alloc: Global, bytes: &[u8]) -> Result<(), OutOfMemory>
+    pub fn receive(&mut self, alloc: Global, bytes: &[u8]) -> Result<(), OutOfMemory>
         ensures ok { OnOk result (self.new ≡ bytes.now) }
         ensures err { OnErr result (self.new ≡ self.old) }
     {
@@ -46,7 +46,7 @@ impl Ahead {
     }
 
     /// Whether none are left.
-    pub(crate) fn is_empty(&self) -> bool
+    pub fn is_empty(&self) -> bool
         ensures { result ≡ is_nil self.now }
     {
         match self.left() {
@@ -56,14 +56,14 @@ impl Ahead {
     }
 
     /// The bytes that are left.
-    pub(crate) fn left(&self) -> &[u8]
+    pub fn left(&self) -> &[u8]
         ensures { result.now ≡ self.now }
     {
         &self.bytes.as_slice()[self.offset..]
     }
 
     /// The first of them were read. Where none are left nothing is kept.
-    pub(crate) fn used(&mut self, alloc: Global, count: usize)
+    pub fn used(&mut self, alloc: Global, count: usize)
         requires { count ≤ length self.old }
         ensures { self.new ≡ drop count self.old }
     {

@@ -1,15 +1,14 @@
 //! A film that is pushed.
-ghost use Rattle.std.specs.Prelude.{◌≡◌, ◌≤◌, ◌<◌, ◌+◌, ◌^◌, [], ℕ, List, length, IfErr, IfOk};
+ghost use Rattle.std.specs.Prelude.{◌≡◌, ◌≤◌, ◌<◌, ◌+◌, ◌^◌, [], ℕ, List, length, true, false, None, IfErr, IfOk};
 ghost use Rattle.std.specs.declared.option.Option.{Option};
-ghost use Rattle.client_command.specs.Film.{WasRead};
 ghost use Rattle.client_command.specs.Giving.{Asks, EndsAs, FeedStops, Fills, IsReadOn, IsReading, MayGo, ReadsNext, came_of};
+ghost use Rattle.segment_command.specs.Films.{WasRead};
 
 use crate::ahead::Ahead;
 use crate::stop::Stop;
 use flv_tags::{Tag, TagFed, TagReader};
 use relay_outside::{Got, Source};
 use std::alloc::Global;
-use std::sync::Wait;
 
 /// How many bytes of a film are read at most.
 const MOST_BYTES: u64 = 1 << 36;
@@ -19,14 +18,14 @@ const PIECE: usize = 16_384;
 
 /// A film that is read: its reader, the bytes that came and weren't read yet, and how many came.
 #[derive(Drop)]
-pub(crate) struct Film {
-    pub(crate) reader: TagReader,
-    pub(crate) ahead: Ahead,
-    pub(crate) came: u64,
+pub struct Film {
+    pub reader: TagReader,
+    pub ahead: Ahead,
+    pub came: u64,
 }
 
 /// A film of which nothing came.
-pub(crate) fn new_film(alloc: Global) -> Film
+pub fn new_film(alloc: Global) -> Film
     ensures reading { IsReading result }
     ensures none { came_of result ≡ [] }
     ensures given { result.reader.given ≡ [] }
@@ -49,7 +48,8 @@ fn ask<S: Source>(
     requires none { film.old.ahead ≡ [] }
     requires some { 0 < length piece.old }
     requires room { film.old.came + length piece.old ≤ 2 ^ 36 }
-    ensures { Asks result film.old film.new (S.left input.old) (S.left input.new) (S.faults input.old) (S.faults input.new) }
+    ensures asks { Asks result film.old film.new (S.left input.old) (S.left input.new) (S.faults input.old) (S.faults input.new) }
+    ensures some { IfOk result (λ came. came ≡ true → 0 < length film.new.ahead) }
 {
     match input.get(piece) {
         Got::Bytes(count) => {
@@ -66,7 +66,8 @@ fn ask<S: Source>(
 fn ask_past<S: Source>(film: &Film, piece: &mut [u8], input: &mut S) -> Result<bool, Stop>
     requires full { film.now.came ≡ 2 ^ 36 }
     requires some { 0 < length piece.old }
-    ensures { Asks result film.now film.now (S.left input.old) (S.left input.new) (S.faults input.old) (S.faults input.new) }
+    ensures asks { Asks result film.now film.now (S.left input.old) (S.left input.new) (S.faults input.old) (S.faults input.new) }
+    ensures none { IfOk result (λ came. came ≡ false) }
 {
     match input.get(piece) {
         Got::Bytes(_) => Err(Stop::Refused { at: film.came }),
@@ -79,7 +80,8 @@ fn ask_past<S: Source>(film: &Film, piece: &mut [u8], input: &mut S) -> Result<b
 fn more<S: Source>(alloc: Global, film: &mut Film, input: &mut S) -> Result<bool, Stop>
     requires reading { IsReading film.old }
     requires none { film.old.ahead ≡ [] }
-    ensures { Asks result film.old film.new (S.left input.old) (S.left input.new) (S.faults input.old) (S.faults input.new) }
+    ensures asks { Asks result film.old film.new (S.left input.old) (S.left input.new) (S.faults input.old) (S.faults input.new) }
+    ensures some { IfOk result (λ came. came ≡ true → 0 < length film.new.ahead) }
 {
     let mut piece = [0u8; PIECE];
     let room = MOST_BYTES - film.came;
@@ -96,6 +98,7 @@ fn read(alloc: Global, film: &mut Film) -> Result<Option<Tag>, Stop>
     ensures ok { IfOk result (λ tag. IsReadOn film.old film.new tag) }
     ensures fine { IfOk result (MayGo film.new) }
     ensures err { IfErr result (λ stop. FeedStops stop film.old) }
+    ensures on { IfOk result (λ tag. tag ≡ None → length film.new.reader.fed ≡ length film.old.reader.fed + length film.old.ahead) }
 {
     let TagFed { used, tag } = film.reader.feed(alloc, film.ahead.left())?;
     film.ahead.used(alloc, used);
@@ -116,9 +119,11 @@ fn fill<S: Source>(alloc: Global, film: &mut Film, input: &mut S) -> Result<bool
     requires reading { IsReading film.old }
     ensures reading { IfOk result (λ _. IsReading film.new) }
     ensures given { IfOk result (λ _. film.new.reader.given ≡ film.old.reader.given) }
+    ensures fed { IfOk result (λ _. film.new.reader.fed ≡ film.old.reader.fed) }
     ensures faults { IfOk result (λ _. S.faults input.new ≡ S.faults input.old) }
     ensures goes { (start : Option (List ℕ)) → WasRead (came_of film.old) start (S.left input.old)
         → Fills result film.old film.new start (S.left input.new) (S.faults input.old) (S.faults input.new) }
+    ensures some { IfOk result (λ some. some ≡ true → 0 < length film.new.ahead) }
 {
     if film.ahead.is_empty() {
         return more(alloc, film, input);
@@ -126,19 +131,22 @@ fn fill<S: Source>(alloc: Global, film: &mut Film, input: &mut S) -> Result<bool
     Ok(true)
 }
 
-/// The next tag of a film. None where it was read to its end.
-pub(crate) fn next<W: Wait, S: Source>(
-    rt: &W,
-    alloc: Global,
-    film: &mut Film,
-    input: &mut S,
-) -> Result<Option<Tag>, Stop>
+/// How many bytes of a film were read, up to the end of the last tag or beyond.
+pub fn bytes_read(film: &Film) -> u64
+    requires { IsReading film.now }
+    ensures { result ≡ length film.now.reader.fed }
+{
+    film.came - film.ahead.left().len() as u64
+}
+
+/// The next tag of a film, of which at most 2^36 bytes are read. None where it was read to its end.
+pub fn next<S: Source>(alloc: Global, film: &mut Film, input: &mut S) -> Result<Option<Tag>, Stop>
     requires reading { IsReading film.old }
     ensures fine { IfOk result (MayGo film.new) }
     ensures goes { (start : Option (List ℕ)) → WasRead (came_of film.old) start (S.left input.old)
         → ReadsNext result film.old film.new start (S.left input.new) (S.faults input.old) (S.faults input.new) }
 {
-    for _ in rt.forever() {
+    loop {
         match fill(alloc, film, input) {
             Err(stop) => return Err(stop),
             Ok(false) => return end(film),
@@ -149,5 +157,4 @@ pub(crate) fn next<W: Wait, S: Source>(
             },
         }
     }
-    unreachable!()
 }

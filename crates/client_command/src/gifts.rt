@@ -17,7 +17,7 @@ use relay_outside::Sink;
 use std::alloc::Global;
 
 /// Whether a gift tells that the stream is over.
-pub(crate) fn is_last(gift: &Gift) -> bool
+pub fn is_last(gift: &Gift) -> bool
     ensures { result ≡ is_last gift.now }
 {
     match gift {
@@ -56,12 +56,7 @@ fn text_of(alloc: Global, begun: bool, gift: &Gift) -> Result<Bytes, OutOfMemory
 }
 
 /// Writes a gift behind those before, of which there are some where it is begun.
-pub(crate) fn write_gift<K: Sink>(
-    alloc: Global,
-    begun: bool,
-    gift: &Gift,
-    out: &mut K,
-) -> Result<(), Stop>
+pub fn write_gift<K: Sink>(alloc: Global, begun: bool, gift: &Gift, out: &mut K) -> Result<(), Stop>
     requires { IsFine gift.now }
     ensures text { (gifts : List Gift) (held : Option (List ℕ)) → begun ≡ has_some gifts → K.holds out.old ≡ append_known held (pull_text gifts)
         → MatchResult result (λ _. K.holds out.new ≡ append_known held (pull_text (gifts ++ gift.now ∷ [])))

@@ -31,7 +31,13 @@ mod stop;
 mod turning;
 mod words;
 
+pub use ahead::Ahead;
 pub use ending::Ended;
+pub use film::{Film, bytes_read, new_film, next};
+pub use gifts::{is_last, write_gift};
 pub use pulling::pull;
-pub use pushing::push;
+pub use pushing::{give_tag, push};
+pub use starting::start;
+pub use stop::Stop;
+pub use turning::taken;
 pub use words::{Target, target_of};

@@ -30,8 +30,8 @@ use rtmp_client::{Client, ClientTurn};
 use std::alloc::Global;
 use std::sync::Wait;
 
-// Gives the client a tag.
-fn give_tag(client: &mut Client, tag: Tag) -> Result<(), OutOfMemory>
+/// Gives a client that publishes a tag.
+pub fn give_tag(client: &mut Client, tag: Tag) -> Result<(), OutOfMemory>
     requires may { IsOpen client.old }
     requires started { has_started client.old.parts.phase ≡ true }
     requires nothing { client.old.parts.outgoing.pending ≡ [] }
@@ -46,8 +46,7 @@ fn give_tag(client: &mut Client, tag: Tag) -> Result<(), OutOfMemory>
 }
 
 // Gives the client the next tag of the film, or tells it that no more will come.
-fn give_next<W: Wait, S: Source>(
-    rt: &W,
+fn give_next<S: Source>(
     alloc: Global,
     client: &mut Client,
     film: &mut Film,
@@ -63,7 +62,7 @@ fn give_next<W: Wait, S: Source>(
         → PushSteps result k client.new film.new old (push_seen (S.left input.new) (S.faults input.new) told counts) }
 {
     give_step();
-    match next(rt, alloc, film, input) {
+    match next(alloc, film, input) {
         Err(stop) => Err(stop),
         Ok(Some(tag)) => match give_tag(client, tag) {
             Ok(()) => Ok(Step::Moved),
@@ -77,8 +76,7 @@ fn give_next<W: Wait, S: Source>(
 }
 
 // A turn of the client, which is given the next tag where nothing else is to be done.
-fn step<W: Wait, S: Source, L: Link>(
-    rt: &W,
+fn step<S: Source, L: Link>(
     alloc: Global,
     client: &mut Client,
     film: &mut Film,
@@ -97,7 +95,7 @@ fn step<W: Wait, S: Source, L: Link>(
         ClientTurn::Moved => Ok(Step::Moved),
         ClientTurn::Idle => {
             if client.started() && client.pending() == 0 {
-                return give_next(rt, alloc, client, film, input);
+                return give_next(alloc, client, film, input);
             }
             Ok(Step::Idle)
         }
@@ -122,7 +120,7 @@ fn give_all<W: Wait, S: Source, L: Link, R: Rest>(
         → PushEnds result k client.new old (push_seen (S.left input.new) (S.faults input.new) (L.told link.new) (L.counts link.new)) }
 {
     for _ in rt.forever() {
-        match step(rt, alloc, client, film, input, link) {
+        match step(alloc, client, film, input, link) {
             Ok(Step::Moved) => rest.moved(),
             Ok(Step::Idle) => rest.pause(),
             Ok(Step::Over) => return Ok(()),

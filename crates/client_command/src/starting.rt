@@ -20,12 +20,7 @@ fn bytes_of(alloc: Global, text: &[u8]) -> Result<Bytes, OutOfMemory>
 }
 
 /// A client that asks for the stream.
-pub(crate) fn start(
-    alloc: Global,
-    wish: Wish,
-    app: &[u8],
-    name: &[u8],
-) -> Result<Client, OutOfMemory>
+pub fn start(alloc: Global, wish: Wish, app: &[u8], name: &[u8]) -> Result<Client, OutOfMemory>
     requires { AreShort app.now name.now }
     ensures asked { IfOk result (λ c. c.parts.asked ≡ record { wish = wish; app = app.now; name = name.now }) }
     ensures fresh { IfOk result IsNew }

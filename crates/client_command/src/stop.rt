@@ -18,7 +18,7 @@ pub(crate) enum Step {
 
 /// Why a command ends before.
 #[derive(Clone, Copy, Debug, Drop, PartialEq, Eq)]
-pub(crate) enum Stop {
+pub enum Stop {
     /// The client has ended.
     Client,
     /// The film is refused at that byte.

@@ -25,7 +25,7 @@ pub(crate) fn turn_once<L: Link>(alloc: Global, client: &mut Client, link: &mut 
 }
 
 /// Takes the gift that waits, if there is one. It can be written.
-pub(crate) fn taken(client: &mut Client) -> Option<Gift>
+pub fn taken(client: &mut Client) -> Option<Gift>
     requires live { IsLive client.old }
     ensures live { IsLive client.new }
     ensures fine { IfSome result IsFine }

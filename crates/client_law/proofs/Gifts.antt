@@ -27,6 +27,7 @@ is_media kind.VConfig = refl
 is_media kind.AConfig = refl
 is_media kind.Key = refl
 is_media kind.Inter = refl
+is_media kind.Spare = refl
 is_media kind.Audio = refl
 is_media kind.Data = refl
 
@@ -36,6 +37,7 @@ no_command kind.VConfig = refl
 no_command kind.AConfig = refl
 no_command kind.Key = refl
 no_command kind.Inter = refl
+no_command kind.Spare = refl
 no_command kind.Audio = refl
 no_command kind.Data = refl
 

@@ -117,6 +117,7 @@ module _ (desk : Ask → Grant) (who window : ℕ) where
   reply_shown s (reply.NotYet end) p h = refl
   reply_shown s (reply.Left player) p h = refl
   reply_shown s (reply.Counts a b c e f) p h = refl
+  reply_shown s (reply.NoSlot slots) p h = refl
 
   shows_by : (f : Option ℕ) (j : ℕ) (s : State) → PlaysFrom f j s → Plays s → (i : Item) → shows s i ≡ shown 1 i
   shows_by None j s h p = absurd (h p)

@@ -16,3 +16,4 @@ pub mod Stages
 pub mod Items
 pub mod Pulling
 pub mod PullBytes
+pub mod SessionReadable

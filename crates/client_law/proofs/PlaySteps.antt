@@ -54,13 +54,13 @@ module _ (desk : Ask → Grant) where
   abbrev pub play_of : List ℕ → List ℕ → Ask
   play_of app name = record { role = role.Play; app = app; name = name_in name; key = key_in name }
 
-  abbrev pub asking_play : ℕ → List ℕ → Grant → Step State
-  asking_play window app g = stepped (with_phase (idle window app (1 ∷ [])) (dialog.asked role.Play 1 (Some g))) (dialog.refused_by role.Play 1 (Some g)) (option_map dialog.call_of (dialog.calls_by role.Play (Some g)))
+  abbrev pub asking_play : ℕ → List ℕ → List ℕ → Grant → Step State
+  asking_play window app name g = stepped (with_phase (idle window app (1 ∷ [])) (dialog.asked role.Play 1 (Some g))) (dialog.refused_by role.Play 1 (Some g)) (option_map dialog.call_of (dialog.calls_by role.Play name (Some g)))
 
   abbrev pub play_on : ℕ → List ℕ → Message
   play_on id name = record { kind = 20; stream = id; time = 0; body = items_spelling (asks wish.Pull name) }
 
-  pub play_does : (window : ℕ) (app name : List ℕ) → length name < 2 ^ 16 → does desk (idle window app (1 ∷ [])) (play_on 1 name) ≡ asking_play window app (desk (play_of app name))
+  pub play_does : (window : ℕ) (app name : List ℕ) → length name < 2 ^ 16 → does desk (idle window app (1 ∷ [])) (play_on 1 name) ≡ asking_play window app (name_in name) (desk (play_of app name))
   unfolding by_heard dialog.after dialog.says dialog.makes
   play_does window app name l = command_does desk (idle window app (1 ∷ [])) 1 (play_on 1 name).body ∙ ap (by_heard desk (idle window app (1 ∷ [])) (play_on 1 name)) (heard_play name l)
 
@@ -100,6 +100,7 @@ play_answered window app (reply.Skip from to) = inr refl
 play_answered window app (reply.NotYet end) = inr refl
 play_answered window app (reply.Left player) = inr refl
 play_answered window app (reply.Counts a b c e f) = inr refl
+play_answered window app (reply.NoSlot slots) = inr refl
 
 -- where no role is active a reply does nothing
 pub idle_told : (window : ℕ) (app ids : List ℕ) (r : Reply) → told (idle window app ids) r ≡ record { state = idle window app ids; says = [] }

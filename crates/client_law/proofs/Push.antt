@@ -57,7 +57,7 @@ unfolding upto
 every_upto Q f zero h = h 0
 every_upto Q f (suc n) h = every_join Q (upto f n) (f (suc n)) (every_upto Q f n h) (h (suc n))
 
-every_if : (Q : Message → Type 0) (b : Bool) (l : List Message) → Every Q l → Every Q (said_if b l)
+pub every_if : (Q : Message → Type 0) (b : Bool) (l : List Message) → Every Q l → Every Q (said_if b l)
 every_if Q true l h = h
 every_if Q false l h = tt
 
@@ -89,6 +89,7 @@ module _ {S : Type 0} (Q : Message → Type 0) (d : Dialogue S) (ack : (n : ℕ)
   shown_so s (reply.NotYet end) = tt
   shown_so s (reply.Left player) = tt
   shown_so s (reply.Counts a b c e f) = tt
+  shown_so s (reply.NoSlot slots) = tt
 
   every_items : (s : S) (n : ℕ) (C : List Own) → Every Q (items_at d s n C)
   unfolding items_at
@@ -117,6 +118,7 @@ media_kind kind.VConfig = refl
 media_kind kind.AConfig = refl
 media_kind kind.Key = refl
 media_kind kind.Inter = refl
+media_kind kind.Spare = refl
 media_kind kind.Audio = refl
 media_kind kind.Data = refl
 
@@ -129,7 +131,7 @@ phase_shows : (k : Asked) (p : dialog_phase.Phase) (i : Item) → k.wish ≡ wis
 phase_shows k (phase.Plays p) i e = item_stays k p.id i e
 phase_shows k phase.Idle i e = tt
 phase_shows k (phase.Asked r id) i e = tt
-phase_shows k (phase.Publishes id) i e = tt
+phase_shows k (phase.Publishes id size) i e = tt
 
 shows_stays : (k : Asked) (s : State) (i : Item) → k.wish ≡ wish.Push → Every (NoStart k) (shows s i)
 unfolding shows

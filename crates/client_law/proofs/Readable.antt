@@ -90,7 +90,7 @@ not_one kind e = grind (arith, nat_tests)
 kind_written : (kind : ℕ) → is_kind kind ≡ true → is_written kind ≡ true
 kind_written kind e = grind (arith, nat_tests)
 
-sizes_nothing : (m : Message) → nat_eq m.kind 1 ≡ false → refused_size m ≡ None
+pub sizes_nothing : (m : Message) → nat_eq m.kind 1 ≡ false → refused_size m ≡ None
 unfolding refused_size
 sizes_nothing m e = ap (λ b. if b && (nat_le 4 (length m.body) && (nat_eq (be32_of m.body) 0 || nat_le (2 ^ 31) (be32_of m.body))) then Some (be32_of m.body) else None) e
 
@@ -101,10 +101,10 @@ module _ (max : ℕ) (least : 4096 ≤ max) (most : max ≤ 4194304) where
   command_fits : (stream : ℕ) (vs : Items) → stream < 2 ^ 32 → length (items_spelling vs) ≤ 4096 → Q (Rattle.client_owed.specs.Client.command stream vs)
   command_fits stream vs s l = record { kind = refl; stream = s; time = omega arith; short = omega (arith, l); fits = omega (arith, l, least); sized = sizes_nothing (Rattle.client_owed.specs.Client.command stream vs) refl }
 
-  ack_fits : (n : ℕ) → Q (ack_message n)
+  pub ack_fits : (n : ℕ) → IsReadable max (ack_message n)
   ack_fits n = record { kind = refl; stream = omega arith; time = omega arith; short = omega arith; fits = omega (arith, least); sized = sizes_nothing (ack_message n) refl }
 
-  user_fits : (value : ℕ) → Q (message_of (User 7 value))
+  pub user_fits : (value : ℕ) → IsReadable max (message_of (User 7 value))
   user_fits value = record { kind = refl; stream = omega arith; time = omega arith; short = omega arith; fits = omega (arith, least); sized = sizes_nothing (message_of (User 7 value)) refl }
 
   size_fits : Q chunk_size

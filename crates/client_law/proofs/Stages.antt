@@ -12,7 +12,8 @@ use Rattle.command_dialog.specs.declared.types.Ask.{Ask}
 use Rattle.command_dialog.specs.declared.types.Grant.{Grant}
 use Rattle.command_dialog.specs.declared.types.Grant.TheVariants as grant
 use Rattle.command_dialog.specs.State.{State, fresh, playing_in}
-use Rattle.command_dialog.specs.Words.{app_in}
+use Rattle.command_dialog.specs.Words.{app_in, name_in}
+use Rattle.command_dialog.specs.declared.types.Act.TheVariants as act
 use Rattle.command_dialog.specs.Dialog as dialog
 use Rattle.stream_model.specs.declared.calls.Call.TheVariants as call
 use Rattle.stream_model.specs.declared.replies.Reply.{Reply}
@@ -216,12 +217,12 @@ module _ (desk : Ask → Grant) (who window : ℕ) (k : Asked) (C : List Own) (i
     replies o L more t (Some r) s st i e h =
         subst (λ (q : State). Asked_to o L (told_of d o t (told q r))) (sym st) (tells o L more t (told (asked_state window app) r) i e h (play_answered window app r))
 
-    grants : (lo o : ℕ) (L more : List Message) (t : Talk State) (g : Grant) → lo ≤ o → id ≡ 1 → L ++ more ≡ (sends_last id) → Now two None lo t → Asked_to o L (goes d C o (started d o t (asking_play desk window app g)) (asking_play desk window app g).makes)
+    grants : (lo o : ℕ) (L more : List Message) (t : Talk State) (g : Grant) → lo ≤ o → id ≡ 1 → L ++ more ≡ (sends_last id) → Now two None lo t → Asked_to o L (goes d C o (started d o t (asking_play desk window app (name_in k.name) g)) (asking_play desk window app (name_in k.name) g).makes)
     unfolding loud
     grants lo o L more t grant.NoName l i e h = inl (refuses lo o L more t why.NoName l e h)
     grants lo o L more t grant.Refused l i e h = inl (refuses lo o L more t why.Refused l e h)
     grants lo o L more t (grant.Place place) l i e h =
-        replies o L more (calling d o (started d o t (asking_play desk window app (grant.Place place))) call.Join) (reply_at o C) refl refl i e
+        replies o L more (calling d o (started d o t (asking_play desk window app (name_in k.name) (grant.Place place))) (Rattle.command_dialog.specs.Dialog.call_of (act.Join place (name_in k.name)))) (reply_at o C) refl refl i e
         (so_quiet two None lo o t.said t.states t.state (asked_state window app) [] l refl not_some h)
 
     plays : (lo : ℕ) (x : Message) (L : List Message) (t : Talk State) (m : ℕ × Message) → lo ≤ m.0 → m.1 ≡ x → Created lo (x ∷ L) t → Asked_to m.0 L (one d C t m)
@@ -243,7 +244,7 @@ module _ (desk : Ask → Grant) (who window : ℕ) (k : Asked) (C : List Own) (i
             subst (λ (u : Talk State). Asked_to m.0 L u) (sym o) (inl (two, known_created k, record { state = refl; stuck = refl; more = a.more; left = h.1; now = passed }))
         by_id (inl q) =
             let g = desk (play_of desk app k.name) in
-            let v = asking_play desk window app g in
+            let v = asking_play desk window app (name_in k.name) g in
             let o : one d C t m ≡ goes d C m.0 (started d m.0 t v) v.makes =
             one_open Quiet desk who window C t m (play_on desk 1 k.name) (idle window app (1 ∷ [])) v a.stuck a.state (mine ∙ ap (λ (n : ℕ). play_on desk n k.name) (sym q)) (play_does desk window app k.name short_name) in
             subst (λ (u : Talk State). Asked_to m.0 L u) (sym o) (grants lo m.0 L a.more t g l (sym q) h.1 a.now)

@@ -5,6 +5,8 @@ use Rattle.std.specs.Int.Count.{count_leading_zeros}
 use Rattle.std.proofs.lemmas.Bool.{ne_eqb}
 use Rattle.std.proofs.lemmas.Bool.Decides.{nat_tests}
 use Rattle.av_unit.specs.Classes.{unit_from}
+use Rattle.av_unit.specs.Media.{Media}
+use Rattle.client_law.specs.Loud.{size_after}
 use Rattle.amf0_value.specs.Tree.{Items, item, no_items}
 use Rattle.amf0_value.specs.Pattern.{pattern}
 use Rattle.amf0_value.specs.Encoding.{items_spelling, spelling, ItemsHaveNumbers}
@@ -76,8 +78,16 @@ abbrev pub idle : ℕ → List ℕ → List ℕ → State
 idle window app ids = record { window = window; app = Some app; ids = ids; phase = phase.Idle }
 
 -- it publishes on the first
-abbrev pub live : ℕ → List ℕ → State
-live window app = record { window = window; app = Some app; ids = 1 ∷ []; phase = phase.Publishes 1 }
+abbrev pub live : ℕ → List ℕ → ℕ → State
+live window app size = record { window = window; app = Some app; ids = 1 ∷ []; phase = phase.Publishes 1 size }
+
+-- it has pushed a unit, or nothing
+abbrev pub live_after : ℕ → List ℕ → ℕ → Option Media → State
+live_after window app size o = with_phase (live window app size) (dialog.sized o (phase.Publishes 1 size))
+
+pub live_is : (window : ℕ) (app : List ℕ) (size : ℕ) (o : Option Media) → live_after window app size o ≡ live window app (size_after o size)
+live_is window app size None = refl
+live_is window app size (Some u) = refl
 
 abbrev pub stepped : State → List Message → Option Rattle.stream_model.specs.declared.calls.Call.Call → Step State
 stepped s says makes = record { state = s; says = says; makes = makes }
@@ -107,13 +117,13 @@ module _ (desk : Ask → Grant) where
   abbrev pub ask_of : List ℕ → List ℕ → Ask
   ask_of app name = record { role = role.Publish; app = app; name = name_in name; key = key_in name }
 
-  abbrev pub asking : ℕ → List ℕ → Grant → Step State
-  asking window app g = stepped (with_phase (idle window app (1 ∷ [])) (dialog.asked role.Publish 1 (Some g))) (dialog.refused_by role.Publish 1 (Some g)) (option_map dialog.call_of (dialog.calls_by role.Publish (Some g)))
+  abbrev pub asking : ℕ → List ℕ → List ℕ → Grant → Step State
+  asking window app name g = stepped (with_phase (idle window app (1 ∷ [])) (dialog.asked role.Publish 1 (Some g))) (dialog.refused_by role.Publish 1 (Some g)) (option_map dialog.call_of (dialog.calls_by role.Publish name (Some g)))
 
   abbrev publish_on : ℕ → List ℕ → Message
   publish_on id name = record { kind = 20; stream = id; time = 0; body = items_spelling (asks wish.Push name) }
 
-  pub ask_does : (window : ℕ) (app name : List ℕ) → length name < 2 ^ 16 → does desk (idle window app (1 ∷ [])) (publish_on 1 name) ≡ asking window app (desk (ask_of app name))
+  pub ask_does : (window : ℕ) (app name : List ℕ) → length name < 2 ^ 16 → does desk (idle window app (1 ∷ [])) (publish_on 1 name) ≡ asking window app (name_in name) (desk (ask_of app name))
   unfolding by_heard dialog.after dialog.says dialog.makes
   ask_does window app name l = command_does (idle window app (1 ∷ [])) 1 (publish_on 1 name).body ∙ ap (by_heard (idle window app (1 ∷ [])) (publish_on 1 name)) (heard_publish name l)
 
@@ -150,34 +160,38 @@ module _ (desk : Ask → Grant) where
       by_kind (inr (inl q)) = subst (λ n. does desk (idle window app ids) (media stream time n body) ≡ stepped (idle window app ids) [] None) (sym q) (idle_9 window stream time app ids body)
       by_kind (inr (inr q)) = subst (λ n. does desk (idle window app ids) (media stream time n body) ≡ stepped (idle window app ids) [] None) (sym q) (idle_18 window stream time app ids body)
 
-  abbrev pub pushes : ℕ → ℕ → List ℕ → Option Rattle.stream_model.specs.declared.calls.Call.Call
-  pushes kind time body = option_map dialog.call_of (option_map act.Push (unit_from kind time body))
+  abbrev pub pushes : Option Media → Option Rattle.stream_model.specs.declared.calls.Call.Call
+  pushes o = option_map dialog.call_of (option_map act.Push o)
 
-  live_8 : (window time : ℕ) (app body : List ℕ) → does desk (live window app) (media 1 time 8 body) ≡ stepped (live window app) [] (pushes 8 time body)
+  -- the message is pushed as the unit that it is, if it is one
+  abbrev pub publishing : ℕ → List ℕ → ℕ → Option Media → Step State
+  publishing window app size o = stepped (live_after window app size o) [] (pushes o)
+
+  live_8 : (window time size : ℕ) (app body : List ℕ) → does desk (live window app size) (media 1 time 8 body) ≡ publishing window app size (unit_from 8 time body size)
   unfolding does control_in meaning dialog.does dialog.after dialog.says dialog.makes
-  live_8 window time app body = refl
+  live_8 window time size app body = refl
 
-  live_9 : (window time : ℕ) (app body : List ℕ) → does desk (live window app) (media 1 time 9 body) ≡ stepped (live window app) [] (pushes 9 time body)
+  live_9 : (window time size : ℕ) (app body : List ℕ) → does desk (live window app size) (media 1 time 9 body) ≡ publishing window app size (unit_from 9 time body size)
   unfolding does control_in meaning dialog.does dialog.after dialog.says dialog.makes
-  live_9 window time app body = refl
+  live_9 window time size app body = refl
 
-  live_18 : (window time : ℕ) (app body : List ℕ) → does desk (live window app) (media 1 time 18 body) ≡ stepped (live window app) [] (pushes 18 time body)
+  live_18 : (window time size : ℕ) (app body : List ℕ) → does desk (live window app size) (media 1 time 18 body) ≡ publishing window app size (unit_from 18 time body size)
   unfolding does control_in meaning dialog.does dialog.after dialog.says dialog.makes
-  live_18 window time app body = refl
+  live_18 window time size app body = refl
 
-  pub live_media : (window time kind : ℕ) (app body : List ℕ) → is_kind kind ≡ true → does desk (live window app) (media 1 time kind body) ≡ stepped (live window app) [] (pushes kind time body)
-  live_media window time kind app body e = by_kind (kinds kind e)
+  pub live_media : (window time kind size : ℕ) (app body : List ℕ) → is_kind kind ≡ true → does desk (live window app size) (media 1 time kind body) ≡ publishing window app size (unit_from kind time body size)
+  live_media window time kind size app body e = by_kind (kinds kind e)
     where
-      by_kind : (kind ≡ 8) ⊎ ((kind ≡ 9) ⊎ (kind ≡ 18)) → does desk (live window app) (media 1 time kind body) ≡ stepped (live window app) [] (pushes kind time body)
-      by_kind (inl q) = subst (λ n. does desk (live window app) (media 1 time n body) ≡ stepped (live window app) [] (pushes n time body)) (sym q) (live_8 window time app body)
-      by_kind (inr (inl q)) = subst (λ n. does desk (live window app) (media 1 time n body) ≡ stepped (live window app) [] (pushes n time body)) (sym q) (live_9 window time app body)
-      by_kind (inr (inr q)) = subst (λ n. does desk (live window app) (media 1 time n body) ≡ stepped (live window app) [] (pushes n time body)) (sym q) (live_18 window time app body)
+      by_kind : (kind ≡ 8) ⊎ ((kind ≡ 9) ⊎ (kind ≡ 18)) → does desk (live window app size) (media 1 time kind body) ≡ publishing window app size (unit_from kind time body size)
+      by_kind (inl q) = subst (λ n. does desk (live window app size) (media 1 time n body) ≡ publishing window app size (unit_from n time body size)) (sym q) (live_8 window time size app body)
+      by_kind (inr (inl q)) = subst (λ n. does desk (live window app size) (media 1 time n body) ≡ publishing window app size (unit_from n time body size)) (sym q) (live_9 window time size app body)
+      by_kind (inr (inr q)) = subst (λ n. does desk (live window app size) (media 1 time n body) ≡ publishing window app size (unit_from n time body size)) (sym q) (live_18 window time size app body)
 
   -- ---- the end of it
 
-  pub live_delete : (window : ℕ) (app : List ℕ) → does desk (live window app) (delete_stream 1) ≡ stepped (idle window app []) [] (Some call.End)
+  pub live_delete : (window size : ℕ) (app : List ℕ) → does desk (live window app size) (delete_stream 1) ≡ stepped (idle window app []) [] (Some call.End)
   unfolding by_heard dialog.after dialog.says dialog.makes pattern count_leading_zeros
-  live_delete window app = command_does (live window app) 0 (delete_stream 1).body ∙ ap (by_heard (live window app) (delete_stream 1)) (heard_delete 1 patterns_low.0)
+  live_delete window size app = command_does (live window app size) 0 (delete_stream 1).body ∙ ap (by_heard (live window app size) (delete_stream 1)) (heard_delete 1 patterns_low.0)
 
   -- where no role is active it says nothing, makes no call, and leaves it so
   pub record Silent (s : Step State) : Type 0 where

@@ -1,5 +1,5 @@
 -- The dialogue of a session over the messages of a client that publishes
-use Rattle.std.proofs.Common.{◌≡◌, ◌≢◌, ℕ, ◌+◌, ◌<◌, ◌≤◌, ◌^◌, ◌⊎◌, inl, inr, Bool, true, false, if◌then◌else◌, List, [], ◌∷◌, ◌++◌, length, Option, Some, None, refl, sym, ap, ◌∙◌, subst, arith, append-nil, append_assoc}
+use Rattle.std.proofs.Common.{◌≡◌, ◌≢◌, ℕ, ◌+◌, ◌<◌, ◌≤◌, ◌^◌, ◌⊎◌, inl, inr, Bool, true, false, if◌then◌else◌, nat_le, List, [], ◌∷◌, ◌++◌, length, Option, Some, None, refl, sym, ap, ◌∙◌, subst, arith, append-nil, append_assoc}
 use Rattle.std.proofs.lemmas.Bool.{cases_eq}
 use Rattle.av_unit.specs.Classes.{unit_from}
 use Rattle.av_unit.specs.Media.{Media}
@@ -15,8 +15,9 @@ use Rattle.command_dialog.specs.declared.types.Act.TheVariants as act
 use Rattle.command_dialog.specs.declared.types.Role.TheVariants as role
 use Rattle.command_dialog.specs.declared.types.Phase.TheVariants as phase
 use Rattle.command_dialog.specs.State.{State, fresh, with_phase}
-use Rattle.command_dialog.specs.Words.{app_in}
+use Rattle.command_dialog.specs.Words.{app_in, name_in}
 use Rattle.command_dialog.specs.Dialog as dialog
+use Rattle.stream_model.specs.declared.calls.Call.{Call}
 use Rattle.stream_model.specs.declared.calls.Call.TheVariants as call
 use Rattle.stream_model.specs.declared.calls.Entry.{Entry}
 use Rattle.stream_model.specs.declared.replies.Reply.{Reply}
@@ -33,9 +34,9 @@ use Rattle.client_owed.specs.declared.types.Given.{Given}
 use Rattle.client_owed.specs.declared.types.Given.TheVariants.{Finish, Send}
 use Rattle.client_owed.specs.Client.{ask, connect, create_stream, delete_stream}
 use Rattle.client_owed.specs.Owed.{EndsAt, Follow, MayGive, sent_on}
-use Rattle.client_law.specs.Loud.{Every, EverySaid, bare, listed, sents, unit_in, units}
+use Rattle.client_law.specs.Loud.{Every, EverySaid, bare, listed, sents, size_after, tag_unit, units, units_from}
 use Rattle.client_law.proofs.Alike.{said_join}
-use Rattle.client_law.proofs.Steps.{Silent, asking, ask_of, ask_does, ask_passed, connect_does, create_does, idle, idle_delete, idle_media, live, live_delete, live_media, pushes}
+use Rattle.client_law.proofs.Steps.{Silent, asking, ask_of, ask_does, ask_passed, connect_does, create_does, idle, idle_delete, idle_media, live, live_after, live_delete, live_is, live_media, publishing, pushes}
 
 pushed_more : (es : List Entry) (e : Entry) → pushed (es ++ e ∷ []) ≡ pushed es ++ unit_of e.call
 unfolding pushed
@@ -108,27 +109,31 @@ module _ (Q : Message → Type 0) (desk : Ask → Grant) (who window : ℕ) wher
 
   -- ---- it publishes
 
-  told_live : (app : List ℕ) (r : Reply) → (told (live window app) r).state ≡ live window app
+  told_live : (app : List ℕ) (size : ℕ) (o : Option Media) (r : Reply) → (told (live_after window app size o) r).state ≡ live window app (size_after o size)
   unfolding told dialog.told
-  told_live app r = refl
+  told_live app size None r = refl
+  told_live app size (Some u) r = refl
 
   -- after a tag: it publishes on, with its unit
-  record Pushed (app : List ℕ) (l : List Media) (t u : Talk State) : Type 0 where
-    state : u.state ≡ live window app
-    made : pushed u.made ≡ pushed t.made ++ l
+  record Pushed (app : List ℕ) (size : ℕ) (o : Option Media) (t u : Talk State) : Type 0 where
+    state : u.state ≡ live window app (size_after o size)
+    made : pushed u.made ≡ pushed t.made ++ listed o
 
-  tag_made : (C : List Own) (o : ℕ) (app : List ℕ) (t : Talk State) (m : Option Media) (rest : List (ℕ × Message))
-      → (walk d C (goes d C o (started d o t (record { state = live window app; says = []; makes = Rattle.std.proofs.Common.option_map dialog.call_of (Rattle.std.proofs.Common.option_map act.Push m) })) (Rattle.std.proofs.Common.option_map dialog.call_of (Rattle.std.proofs.Common.option_map act.Push m))) rest).stuck ≡ false
-      → Pushed app (listed m) t (goes d C o (started d o t (record { state = live window app; says = []; makes = Rattle.std.proofs.Common.option_map dialog.call_of (Rattle.std.proofs.Common.option_map act.Push m) })) (Rattle.std.proofs.Common.option_map dialog.call_of (Rattle.std.proofs.Common.option_map act.Push m)))
-  tag_made C o app t None rest e = record { state = refl; made = sym (append-nil (pushed t.made)) }
-  tag_made C o app t (Some u) rest e = by_reply (reply_at o C) e
+  -- the talk after a tag
+  abbrev gone : List Own → ℕ → List ℕ → ℕ → Talk State → Option Media → Talk State
+  gone C o app size t m = goes d C o (started d o t (publishing desk window app size m)) (pushes desk m)
+
+  tag_made : (C : List Own) (o : ℕ) (app : List ℕ) (size : ℕ) (t : Talk State) (m : Option Media) (rest : List (ℕ × Message))
+      → (walk d C (gone C o app size t m) rest).stuck ≡ false → Pushed app size m t (gone C o app size t m)
+  tag_made C o app size t None rest e = record { state = refl; made = sym (append-nil (pushed t.made)) }
+  tag_made C o app size t (Some u) rest e = by_reply (reply_at o C) e
     where
       t' : Talk State
-      t' = calling d o (started d o t (record { state = live window app; says = []; makes = Some (call.Push u) })) (call.Push u)
+      t' = calling d o (started d o t (publishing desk window app size (Some u))) (call.Push u)
 
-      by_reply : (r : Option Reply) → (walk d C (resumed d o t' r) rest).stuck ≡ false → Pushed app (u ∷ []) t (resumed d o t' r)
+      by_reply : (r : Option Reply) → (walk d C (resumed d o t' r) rest).stuck ≡ false → Pushed app size (Some u) t (resumed d o t' r)
       by_reply None f = absurd (not_both true refl (unstuck C t' rest f))
-      by_reply (Some r) f = record { state = told_live app r; made = pushed_more t.made (entry_of d o (call.Push u)) }
+      by_reply (Some r) f = record { state = told_live app size (Some u) r; made = pushed_more t.made (entry_of d o (call.Push u)) }
 
   finish_made : (C : List Own) (o : ℕ) (t : Talk State) (s : Step State) → s.makes ≡ Some call.End → pushed (goes d C o (started d o t s) s.makes).made ≡ pushed t.made
   finish_made C o t s e = ap (λ c. pushed (goes d C o (started d o t s) c).made) e ∙ by_reply (reply_at o C)
@@ -138,33 +143,35 @@ module _ (Q : Message → Type 0) (desk : Ask → Grant) (who window : ℕ) wher
       by_reply (Some r) = pushed_more t.made (entry_of d o call.End) ∙ append-nil (pushed t.made)
 
   -- EACH TAG IS THE MESSAGE WHOSE UNIT IS PUBLISHED
-  pub tags_walk : (w : Wish) (max from to : ℕ) (C : List Own) (app : List ℕ) (T : List Gave) (R : List (ℕ × Message)) (t : Talk State) → t.state ≡ live window app → bare R ≡ sents 1 T → Follow w max from to T
-      → (walk d C t R).stuck ≡ false → pushed (walk d C t R).made ≡ pushed t.made ++ units T
-  unfolding sents units
-  tags_walk w max from to C app [] [] t st b f e = walk_none C t ∙ sym (append-nil (pushed t.made))
-  tags_walk w max from to C app [] (r ∷ R) t st b f e = absurd (bare_some r R b)
-  tags_walk w max from to C app (g ∷ T) [] t st b f e = absurd (none_bare (sent_on 1 g.given) (sents 1 T) b)
-  tags_walk w max from to C app (g ∷ T) (r ∷ R) t st b f e =
-      by_given g.given (head_bare (sent_on 1 g.given) (sents 1 T) r R b).0 f.1 f.2 (head_bare (sent_on 1 g.given) (sents 1 T) r R b).1 (λ u su eu. tags_walk w max g.at to C app T R u su (head_bare (sent_on 1 g.given) (sents 1 T) r R b).1 f.3 eu) e
+  pub tags_walk : (w : Wish) (max from to : ℕ) (C : List Own) (app : List ℕ) (size : ℕ) (T : List Gave) (R : List (ℕ × Message)) (t : Talk State) → t.state ≡ live window app size → bare R ≡ sents 1 T → Follow w max from to T
+      → (walk d C t R).stuck ≡ false → pushed (walk d C t R).made ≡ pushed t.made ++ units_from size T
+  unfolding sents units_from
+  tags_walk w max from to C app size [] [] t st b f e = walk_none C t ∙ sym (append-nil (pushed t.made))
+  tags_walk w max from to C app size [] (r ∷ R) t st b f e = absurd (bare_some r R b)
+  tags_walk w max from to C app size (g ∷ T) [] t st b f e = absurd (none_bare (sent_on 1 g.given) (sents 1 T) b)
+  tags_walk w max from to C app size (g ∷ T) (r ∷ R) t st b f e =
+      by_given g.given (head_bare (sent_on 1 g.given) (sents 1 T) r R b).0 f.1 f.2 (head_bare (sent_on 1 g.given) (sents 1 T) r R b).1
+      (λ next u su eu. tags_walk w max g.at to C app next T R u su (head_bare (sent_on 1 g.given) (sents 1 T) r R b).1 f.3 eu) e
     where
       by_given : (x : Given) → r.1 ≡ sent_on 1 x → MayGive w max x → EndsAt x T → bare R ≡ sents 1 T
-          → ((u : Talk State) → u.state ≡ live window app → (walk d C u R).stuck ≡ false → pushed (walk d C u R).made ≡ pushed u.made ++ units T)
-          → (walk d C t (r ∷ R)).stuck ≡ false → pushed (walk d C t (r ∷ R)).made ≡ pushed t.made ++ (unit_in x ++ units T)
+          → ((next : ℕ) (u : Talk State) → u.state ≡ live window app next → (walk d C u R).stuck ≡ false → pushed (walk d C u R).made ≡ pushed u.made ++ units_from next T)
+          → (walk d C t (r ∷ R)).stuck ≡ false → pushed (walk d C t (r ∷ R)).made ≡ pushed t.made ++ (listed (tag_unit size x) ++ units_from (size_after (tag_unit size x) size) T)
       by_given (Send tag) rx may ends br ih e =
-          let v : Step State = record { state = live window app; says = []; makes = pushes desk tag.kind tag.time tag.body } in
-          let u = goes d C r.0 (started d r.0 t v) v.makes in
-          let o : one d C t r ≡ u = one_open C t r (sent_on 1 (Send tag)) (live window app) v (unstuck C t (r ∷ R) e) st rx (live_media desk window tag.time tag.kind app tag.body may.1) in
+          let m = unit_from tag.kind tag.time tag.body size in
+          let u = gone C r.0 app size t m in
+          let o : one d C t r ≡ u = one_open C t r (sent_on 1 (Send tag)) (live window app size) (publishing desk window app size m) (unstuck C t (r ∷ R) e) st rx (live_media desk window tag.time tag.kind size app tag.body may.1) in
           let whole : walk d C t (r ∷ R) ≡ walk d C u R = walk_first C t r R ∙ ap (λ q. walk d C q R) o in
           let goes_on : (walk d C u R).stuck ≡ false = ap (λ (q : Talk State). q.stuck) (sym whole) ∙ e in
-          let p = tag_made C r.0 app t (unit_from tag.kind tag.time tag.body) R goes_on in
-          ap (λ (q : Talk State). pushed q.made) whole ∙ ih u p.state goes_on ∙ ap (λ l. l ++ units T) p.made ∙ append_assoc (pushed t.made) (listed (unit_from tag.kind tag.time tag.body)) (units T)
+          let p = tag_made C r.0 app size t m R goes_on in
+          ap (λ (q : Talk State). pushed q.made) whole ∙ ih (size_after m size) u p.state goes_on ∙ ap (λ l. l ++ units_from (size_after m size) T) p.made
+          ∙ append_assoc (pushed t.made) (listed m) (units_from (size_after m size) T)
       by_given Finish rx may ends br ih e =
           let v : Step State = record { state = idle window app []; says = []; makes = Some call.End } in
           let u = goes d C r.0 (started d r.0 t v) v.makes in
-          let o : one d C t r ≡ u = one_open C t r (delete_stream 1) (live window app) v (unstuck C t (r ∷ R) e) st rx (live_delete desk window app) in
+          let o : one d C t r ≡ u = one_open C t r (delete_stream 1) (live window app size) v (unstuck C t (r ∷ R) e) st rx (live_delete desk window size app) in
           let none : R ≡ [] = no_more R (br ∙ ap (sents 1) ends) in
           ap (λ (q : Talk State). pushed q.made) (walk_first C t r R ∙ ap (λ q. walk d C q R) o ∙ ap (walk d C u) none) ∙ walk_none C u ∙ finish_made C r.0 t v refl
-          ∙ sym (append-nil (pushed t.made)) ∙ ap (λ l. pushed t.made ++ units l) (sym ends)
+          ∙ sym (append-nil (pushed t.made)) ∙ ap (λ l. pushed t.made ++ units_from size l) (sym ends)
 
   -- ---- it publishes nothing
 
@@ -206,27 +213,33 @@ module _ (Q : Message → Type 0) (desk : Ask → Grant) (who window : ℕ) wher
   abbrev asked_state : List ℕ → State
   asked_state app = with_phase (idle window app (1 ∷ [])) (phase.Asked role.Publish 1)
 
-  abbrev denied : List ℕ → Told State
-  denied app = record { state = idle window app (1 ∷ []); says = dialog.answers 1 (answer.PublishRefused why.InUse) ∷ [] }
+  abbrev denied : Why → List ℕ → Told State
+  denied w app = record { state = idle window app (1 ∷ []); says = dialog.answers 1 (answer.PublishRefused w) ∷ [] }
 
   abbrev begun : List ℕ → Told State
-  begun app = record { state = live window app; says = dialog.answers 1 answer.PublishStart ∷ [] }
+  begun app = record { state = live window app 0; says = dialog.answers 1 answer.PublishStart ∷ [] }
 
-  answered_so : (app : List ℕ) (r : Reply) → (told (asked_state app) r ≡ begun app) ⊎ (told (asked_state app) r ≡ denied app)
+  answered_so : (app : List ℕ) (r : Reply) → (told (asked_state app) r ≡ begun app) ⊎ ((w : Why) × (told (asked_state app) r ≡ denied w app))
   unfolding told dialog.told
   answered_so app (reply.Began n) = inl refl
-  answered_so app (reply.InUse by) = inr refl
-  answered_so app (reply.Pushed n) = inr refl
-  answered_so app (reply.NotPublisher n) = inr refl
-  answered_so app (reply.Ended n) = inr refl
-  answered_so app (reply.Joined player from) = inr refl
-  answered_so app reply.Full = inr refl
-  answered_so app reply.NotPlayer = inr refl
-  answered_so app (reply.Sent from n item) = inr refl
-  answered_so app (reply.Skip from to) = inr refl
-  answered_so app (reply.NotYet end) = inr refl
-  answered_so app (reply.Left player) = inr refl
-  answered_so app (reply.Counts a b c e f) = inr refl
+  answered_so app (reply.InUse by) = inr (why.InUse, refl)
+  answered_so app (reply.Pushed n) = inr (why.InUse, refl)
+  answered_so app (reply.NotPublisher n) = inr (why.InUse, refl)
+  answered_so app (reply.Ended n) = inr (why.InUse, refl)
+  answered_so app (reply.Joined player from) = inr (why.InUse, refl)
+  answered_so app reply.Full = inr (why.InUse, refl)
+  answered_so app reply.NotPlayer = inr (why.InUse, refl)
+  answered_so app (reply.Sent from n item) = inr (why.InUse, refl)
+  answered_so app (reply.Skip from to) = inr (why.InUse, refl)
+  answered_so app (reply.NotYet end) = inr (why.InUse, refl)
+  answered_so app (reply.Left player) = inr (why.InUse, refl)
+  answered_so app (reply.Counts a b c e f) = inr (why.InUse, refl)
+  answered_so app (reply.NoSlot slots) = inr (why.Full, refl)
+
+  -- a Begin publishes nothing, with a name or without one
+  begin_none : (b : Bool) (name : List ℕ) → unit_of (if b then call.BeginAs name else call.Begin) ≡ []
+  begin_none true name = refl
+  begin_none false name = refl
 
   module _ (refused : (w : Why) → Q (dialog.answers 1 (answer.PublishRefused w))) (w : Wish) (max from to : ℕ) (C : List Own) (app name : List ℕ) (T : List Gave) (f : Follow w max from to T) where
     abbrev publish : ℕ → Message
@@ -236,26 +249,31 @@ module _ (Q : Message → Type 0) (desk : Ask → Grant) (who window : ℕ) wher
     idle_outcome : (id : ℕ) (R : List (ℕ × Message)) (u : Talk State) → u.state ≡ idle window app (1 ∷ []) → pattern id < 2 ^ 64 → bare R ≡ sents id T → EverySaid Q u.said → Outcome id T (walk d C u R)
     idle_outcome id R u st p b h = inl (idle_walk w max from to id C app T R u st p b f h)
 
-    told_outcome : (R : List (ℕ × Message)) (o : ℕ) (t : Talk State) (r : Told State) → pattern 1 < 2 ^ 64 → bare R ≡ sents 1 T → EverySaid Q t.said → pushed t.made ≡ [] → (r ≡ begun app) ⊎ (r ≡ denied app)
+    told_outcome : (R : List (ℕ × Message)) (o : ℕ) (t : Talk State) (r : Told State) → pattern 1 < 2 ^ 64 → bare R ≡ sents 1 T → EverySaid Q t.said → pushed t.made ≡ [] → (r ≡ begun app) ⊎ ((w : Why) × (r ≡ denied w app))
         → Outcome 1 T (walk d C (told_of d o t r) R)
     told_outcome R o t r p b h m (inl e) =
         subst (λ (y : Told State). Outcome 1 T (walk d C (told_of d o t y) R)) (sym e)
-        (inr (refl, λ q. tags_walk w max from to C app T R (told_of d o t (begun app)) refl b f q ∙ ap (λ l. l ++ units T) m))
-    told_outcome R o t r p b h m (inr e) =
+        (inr (refl, λ q. tags_walk w max from to C app 0 T R (told_of d o t (begun app)) refl b f q ∙ ap (λ l. l ++ units T) m))
+    told_outcome R o t r p b h m (inr (v, e)) =
         subst (λ (y : Told State). Outcome 1 T (walk d C (told_of d o t y) R)) (sym e)
-        (idle_outcome 1 R (told_of d o t (denied app)) refl p b (said_join Q t.said (o, (denied app).says) h (refused why.InUse, tt)))
+        (idle_outcome 1 R (told_of d o t (denied v app)) refl p b (said_join Q t.said (o, (denied v app).says) h (refused v, tt)))
 
     grant_outcome : (R : List (ℕ × Message)) (o : ℕ) (t : Talk State) (g : Grant) → pattern 1 < 2 ^ 64 → bare R ≡ sents 1 T → EverySaid Q t.said → pushed t.made ≡ []
-        → Outcome 1 T (walk d C (goes d C o (started d o t (asking desk window app g)) (asking desk window app g).makes) R)
-    grant_outcome R o t grant.NoName p b h m = idle_outcome 1 R (started d o t (asking desk window app grant.NoName)) refl p b (said_join Q t.said (o, (asking desk window app grant.NoName).says) h (refused why.NoName, tt))
-    grant_outcome R o t grant.Refused p b h m = idle_outcome 1 R (started d o t (asking desk window app grant.Refused)) refl p b (said_join Q t.said (o, (asking desk window app grant.Refused).says) h (refused why.Refused, tt))
+        → Outcome 1 T (walk d C (goes d C o (started d o t (asking desk window app (name_in name) g)) (asking desk window app (name_in name) g).makes) R)
+    grant_outcome R o t grant.NoName p b h m = idle_outcome 1 R (started d o t (asking desk window app (name_in name) grant.NoName)) refl p b (said_join Q t.said (o, (asking desk window app (name_in name) grant.NoName).says) h (refused why.NoName, tt))
+    grant_outcome R o t grant.Refused p b h m = idle_outcome 1 R (started d o t (asking desk window app (name_in name) grant.Refused)) refl p b (said_join Q t.said (o, (asking desk window app (name_in name) grant.Refused).says) h (refused why.Refused, tt))
     grant_outcome R o t (grant.Place place) p b h m = by_reply (reply_at o C)
       where
+        begin : Call
+        begin = dialog.call_of (act.Begin place (name_in name))
+
         t' : Talk State
-        t' = calling d o (started d o t (asking desk window app (grant.Place place))) call.Begin
+        t' = calling d o (started d o t (asking desk window app (name_in name) (grant.Place place))) begin
 
         made : pushed t'.made ≡ []
-        made = pushed_more t.made (entry_of d o call.Begin) ∙ append-nil (pushed t.made) ∙ m
+        made =
+            pushed_more t.made (entry_of d o begin) ∙ ap (λ l. pushed t.made ++ l) (begin_none (nat_le (length (name_in name)) 64) (name_in name))
+            ∙ append-nil (pushed t.made) ∙ m
 
         by_reply : (r : Option Reply) → Outcome 1 T (walk d C (resumed d o t' r) R)
         by_reply None = inl (subst (λ (u : Talk State). EverySaid Q u.said) (sym (stuck_walk C t' R refl)) (said_join Q t.said (o, []) h tt))
@@ -272,7 +290,7 @@ module _ (Q : Message → Type 0) (desk : Ask → Grant) (who window : ℕ) wher
             let o : one d C t r ≡ u = one_open C t r (publish id) (idle window app (1 ∷ [])) v q st rx (ask_passed desk window id app name l ne) in
             subst (λ (y : Talk State). Outcome id T y) (sym (walk_first C t r R ∙ ap (λ y. walk d C y R) o)) (idle_outcome id R u refl p b (said_join Q t.said (r.0, []) h tt))
         by_id (inl e) =
-            let v = asking desk window app (desk (ask_of desk app name)) in
+            let v = asking desk window app (name_in name) (desk (ask_of desk app name)) in
             let u = goes d C r.0 (started d r.0 t v) v.makes in
             let rx1 : r.1 ≡ publish 1 = rx ∙ ap publish (sym e) in
             let b1 : bare R ≡ sents 1 T = b ∙ ap (λ (i : ℕ). sents i T) (sym e) in

@@ -11,6 +11,7 @@ use Rattle.client_owed.specs.Client.{ask, connect, create_stream}
 use Rattle.client_owed.specs.Owed.{sent_on}
 use Rattle.av_unit.specs.Classes.{unit_from}
 use Rattle.av_unit.specs.Media.{Media}
+use Rattle.command_dialog.specs.Dialog.{size_by}
 
 abbrev pub is_loud : Message → Bool
 is_loud m = nat_lt 6 m.kind
@@ -74,12 +75,21 @@ abbrev pub listed : Option Media → List Media
 listed None = []
 listed (Some u) = u ∷ []
 
--- the unit that a tag is, where it has a class
-abbrev pub unit_in : Given → List Media
-unit_in (Send t) = listed (unit_from t.kind t.time t.body)
-unit_in Finish = []
+-- the unit that a tag is, where it has a class, by the length size that the tags before it tell
+abbrev pub tag_unit : ℕ → Given → Option Media
+tag_unit size (Send t) = unit_from t.kind t.time t.body size
+tag_unit size Finish = None
+
+-- the length size after a unit: that of the unit, where it is a video configuration
+abbrev pub size_after : Option Media → ℕ → ℕ
+size_after None size = size
+size_after (Some u) size = size_by u.kind u.body size
+
+-- the units of tags, behind tags that tell this length size
+unfoldable pub units_from : ℕ → List Gave → List Media
+units_from size [] = []
+units_from size (g ∷ T) = listed (tag_unit size g.given) ++ units_from (size_after (tag_unit size g.given) size) T
 
 -- THE UNITS of the tags
-unfoldable pub units : List Gave → List Media
-units [] = []
-units (g ∷ T) = unit_in g.given ++ units T
+abbrev pub units : List Gave → List Media
+units T = units_from 0 T

@@ -1,4 +1,4 @@
-ghost use Rattle.std.specs.Prelude.{◌≡◌, ℕ, List, [], ◌∷◌, ◌++◌};
+ghost use Rattle.std.specs.Prelude.{◌≡◌, ◌≤◌, ℕ, List, [], ◌∷◌, ◌++◌};
 ghost use Rattle.chunk_wire.specs.declared.message.Message.{Message};
 ghost use Rattle.client_owed.specs.declared.types.Asked.{Asked};
 ghost use Rattle.client_owed.specs.declared.types.Gave.{Gave};
@@ -13,7 +13,12 @@ ghost use Rattle.relay_session.specs.Session.{session};
 ghost use Rattle.session_owed.specs.Published.{published};
 ghost use Rattle.session_owed.specs.Talk.{Own};
 ghost use Rattle.client_law.specs.Laws.{HaveRead, HaveSent};
+ghost use Rattle.client_law.specs.Room.{HaveRoom};
+ghost use Rattle.chunk_law.specs.ReadBack.{AreReadable};
+ghost use Rattle.session_owed.specs.Owed as session_owed;
 ghost use Rattle.client_law.specs.Loud.{Rise, asked_by, loud, sents, units};
+
+use command_dialog::laws::{what_is_said_can_be_written, what_is_said_is_on_a_stream};
 
 /// But for control messages, what a client owes is the commands that its phase has called for, and then what it was given.
 pub fn order_law()
@@ -51,3 +56,13 @@ pub fn pull_bytes_law()
     ensures { (k : Asked) (who window max : ℕ) (desk : Ask → Grant) (x y : List ℕ) (ms ns : List (ℕ × Message)) (T : List Gave) (C : List Own)
         → k.wish ≡ Pull → HavePlayed k (session who window desk) max x y ms ns T C → IsTold k ns C }
 {}
+
+/// What a session owes can be written, and read by what takes messages of up to so many bytes, where each item that it was sent has
+/// room in one.
+pub fn session_readable_law()
+    ensures { (who window max n : ℕ) (desk : Ask → Grant) (ms : List (ℕ × Message)) (C : List Own) → 4096 ≤ max → max ≤ 4194304 → HaveRoom max C
+        → AreReadable max (session_owed.owed (session who window desk) n ms C) }
+{
+    what_is_said_can_be_written();
+    what_is_said_is_on_a_stream();
+}

@@ -5,4 +5,6 @@
 
 mod laws;
 
-pub use laws::{item_law, order_law, pull_bytes_law, pull_law, push_bytes_law, push_law};
+pub use laws::{
+    item_law, order_law, pull_bytes_law, pull_law, push_bytes_law, push_law, session_readable_law,
+};

@@ -1,10 +1,11 @@
 -- The order of refusals, that no act takes an item, and some worked examples.
-use Rattle.std.proofs.Common.{◌≡◌, ℕ, List, [], ◌∷◌, Some, None, refl}
+use Rattle.std.proofs.Common.{◌≡◌, ℕ, Bool, true, false, if◌then◌else◌, nat_le, length, List, [], ◌∷◌, Some, None, refl}
 use Rattle.std.specs.Prelude.{codes}
 use Rattle.std.specs.Int.Count.{count_leading_zeros}
 use Rattle.av_unit.specs.declared.head.Want.{Want}
 use Rattle.amf0_value.specs.Pattern.{pattern}
 use Rattle.rtmp_command.specs.declared.answer.Why.TheVariants as why
+use Rattle.stream_model.specs.declared.calls.Call.{Call}
 use Rattle.stream_model.specs.declared.calls.Call.TheVariants as call
 use Rattle.stream_model.specs.declared.replies.Reply.TheVariants as reply
 use Rattle.command_dialog.specs.declared.types.Role.{Role}
@@ -21,9 +22,15 @@ use Rattle.command_dialog.specs.Words.{app_in, name_in, key_in}
 use Rattle.command_dialog.specs.Meaning.{asks_while, free_from, least_free, closed_in}
 use Rattle.command_dialog.specs.Dialog.{refuses, says, told, call_of}
 
+no_name_takes : (b : Bool) (with_name : List ℕ → Call) (without_name : Call) (name : List ℕ) (player : ℕ) (want : Want)
+    → (with_name name ≡ call.Take player want → ⊥) → (without_name ≡ call.Take player want → ⊥)
+    → (if b then with_name name else without_name) ≡ call.Take player want → ⊥
+no_name_takes true with_name without_name name player want h k e = h e
+no_name_takes false with_name without_name name player want h k e = k e
+
 pub no_take : (a : Act) (player : ℕ) (want : Want) → call_of a ≡ call.Take player want → ⊥
-no_take (act.Begin place) player want e = absurd cc
-no_take (act.Join place) player want e = absurd cc
+no_take (act.Begin place name) player want e = no_name_takes (nat_le (length name) 64) call.BeginAs call.Begin name player want (λ e. absurd cc) (λ e. absurd cc) e
+no_take (act.Join place name) player want e = no_name_takes (nat_le (length name) 64) call.JoinAs call.Join name player want (λ e. absurd cc) (λ e. absurd cc) e
 no_take (act.Push unit) player want e = absurd cc
 no_take act.End player want e = absurd cc
 no_take (act.Leave n) player want e = absurd cc
@@ -33,7 +40,7 @@ no_take (act.Leave n) player want e = absurd cc
 pub is_busy : (p : Phase) (r : Role) (id : ℕ) (app text : List ℕ) → (p ≡ phase.Idle → ⊥) → asks_while p r id app text ≡ meant.Busy r id
 is_busy phase.Idle r id app text ne = absurd (ne refl)
 is_busy (phase.Asked q n) r id app text ne = refl
-is_busy (phase.Publishes n) r id app text ne = refl
+is_busy (phase.Publishes n size) r id app text ne = refl
 is_busy (phase.Plays p) r id app text ne = refl
 
 pub busy_refused : (s : State) (r : Role) (id : ℕ) → says s None (meant.Busy r id) ≡ refuses r id why.RoleActive
@@ -51,6 +58,11 @@ guard_refused s a id = refl
 pub in_use_refused : (s : State) (id by : ℕ) → (told (with_phase s (phase.Asked role.Publish id)) (reply.InUse by)).says ≡ refuses role.Publish id why.InUse
 unfolding told
 in_use_refused s id by = refl
+
+pub no_slot_refused : (s : State) (r : Role) (id slots : ℕ) → (told (with_phase s (phase.Asked r id)) (reply.NoSlot slots)).says ≡ refuses r id why.Full
+unfolding told
+no_slot_refused s role.Publish id slots = refl
+no_slot_refused s role.Play id slots = refl
 
 pub full_refused : (s : State) (id : ℕ) → (told (with_phase s (phase.Asked role.Play id)) reply.Full).says ≡ refuses role.Play id why.Full
 unfolding told

@@ -100,21 +100,22 @@ pub does_said : (desk : Ask → Grant) (s : State) (m : Message) → All IsSaid 
 unfolding does
 does_said desk s m = does_said_by desk s m (meaning s m)
 
--- what is told at a reply is one of two
-pub publish_by : (P : List Message → Type 0) (id : ℕ) (r : Reply) → P (answers id answer.PublishStart ∷ []) → P (refuses role.Publish id why.InUse) → P (told_publish id r)
+-- what is told at a reply is a start or a refusal
+pub publish_by : (P : List Message → Type 0) (id : ℕ) (r : Reply) → P (answers id answer.PublishStart ∷ []) → ((w : Why) → P (refuses role.Publish id w)) → P (told_publish id r)
 publish_by P id (reply.Began n) h k = h
-publish_by P id (reply.InUse by) h k = k
-publish_by P id (reply.Pushed n) h k = k
-publish_by P id (reply.NotPublisher live) h k = k
-publish_by P id (reply.Ended n) h k = k
-publish_by P id (reply.Joined player from) h k = k
-publish_by P id reply.Full h k = k
-publish_by P id reply.NotPlayer h k = k
-publish_by P id (reply.Sent from n item) h k = k
-publish_by P id (reply.Skip from to) h k = k
-publish_by P id (reply.NotYet end) h k = k
-publish_by P id (reply.Left player) h k = k
-publish_by P id (reply.Counts began pushed ended joined skips) h k = k
+publish_by P id (reply.InUse by) h k = k why.InUse
+publish_by P id (reply.Pushed n) h k = k why.InUse
+publish_by P id (reply.NotPublisher live) h k = k why.InUse
+publish_by P id (reply.Ended n) h k = k why.InUse
+publish_by P id (reply.Joined player from) h k = k why.InUse
+publish_by P id reply.Full h k = k why.InUse
+publish_by P id reply.NotPlayer h k = k why.InUse
+publish_by P id (reply.Sent from n item) h k = k why.InUse
+publish_by P id (reply.Skip from to) h k = k why.InUse
+publish_by P id (reply.NotYet end) h k = k why.InUse
+publish_by P id (reply.Left player) h k = k why.InUse
+publish_by P id (reply.Counts began pushed ended joined skips) h k = k why.InUse
+publish_by P id (reply.NoSlot slots) h k = k why.Full
 
 pub play_by : (P : List Message → Type 0) (id : ℕ) (r : Reply) → P (message_of (control.User 0 id) ∷ answers id answer.PlayStart ∷ []) → P (refuses role.Play id why.Full) → P (told_play id r)
 play_by P id (reply.Began n) h k = k
@@ -130,9 +131,10 @@ play_by P id (reply.Skip from to) h k = k
 play_by P id (reply.NotYet end) h k = k
 play_by P id (reply.Left player) h k = k
 play_by P id (reply.Counts began pushed ended joined skips) h k = k
+play_by P id (reply.NoSlot slots) h k = k
 
 said_publish : (id : ℕ) (r : Reply) → All IsSaid (told_publish id r)
-said_publish id r = publish_by (All IsSaid) id r (just IsSaid _ (said_answer id _)) (said_refusal role.Publish id _)
+said_publish id r = publish_by (All IsSaid) id r (just IsSaid _ (said_answer id _)) (λ w. said_refusal role.Publish id w)
 
 said_play : (id : ℕ) (r : Reply) → All IsSaid (told_play id r)
 said_play id r = play_by (All IsSaid) id r (both IsSaid _ _ (said_event 0 id) (said_answer id _)) (said_refusal role.Play id _)
@@ -141,7 +143,7 @@ said_in : (p : Phase) (r : Reply) → All IsSaid (told_in p r)
 said_in (phase.Asked role.Publish id) r = said_publish id r
 said_in (phase.Asked role.Play id) r = said_play id r
 said_in phase.Idle r = All-nil IsSaid
-said_in (phase.Publishes id) r = All-nil IsSaid
+said_in (phase.Publishes id size) r = All-nil IsSaid
 said_in (phase.Plays p) r = All-nil IsSaid
 
 pub told_said : (s : State) (r : Reply) → All IsSaid (told s r).says
@@ -162,6 +164,7 @@ shown_kind kind.VConfig id time body lt most = record { kind = inr (inr (inl ref
 shown_kind kind.AConfig id time body lt most = record { kind = inr (inl refl); short = lt; time = most }
 shown_kind kind.Key id time body lt most = record { kind = inr (inr (inl refl)); short = lt; time = most }
 shown_kind kind.Inter id time body lt most = record { kind = inr (inr (inl refl)); short = lt; time = most }
+shown_kind kind.Spare id time body lt most = record { kind = inr (inr (inl refl)); short = lt; time = most }
 shown_kind kind.Audio id time body lt most = record { kind = inr (inl refl); short = lt; time = most }
 shown_kind kind.Data id time body lt most = record { kind = inr (inr (inr (inl refl))); short = lt; time = most }
 
@@ -174,7 +177,7 @@ phase_shows : (p : Phase) (i : Item) → HasRoom i → All IsShown (shown_in p i
 phase_shows (phase.Plays p) i room = item_shown p.id i room
 phase_shows phase.Idle i room = All-nil IsShown
 phase_shows (phase.Asked r id) i room = All-nil IsShown
-phase_shows (phase.Publishes id) i room = All-nil IsShown
+phase_shows (phase.Publishes id size) i room = All-nil IsShown
 
 pub shows_shown : (s : State) (i : Item) → HasRoom i → All IsShown (shows s i)
 unfolding shows

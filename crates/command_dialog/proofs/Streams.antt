@@ -3,6 +3,7 @@ use Rattle.std.proofs.Common.{◌≡◌, ◌≤◌, ℕ, List, [], ◌∷◌, �
 use Rattle.std.specs.Prelude.{◌||◌, All, Result, Ok, Err, codes}
 use Rattle.std.proofs.lemmas.Bool.{eqb-true}
 use Rattle.std.proofs.lemmas.List.Elements.{All-nil, All-cons}
+use Rattle.av_unit.specs.Media.{Media}
 use Rattle.av_unit.specs.declared.item.Item.{Item}
 use Rattle.av_unit.specs.declared.item.Item.TheVariants as item
 use Rattle.amf0_value.specs.declared.walk.Brief.{Brief}
@@ -33,7 +34,7 @@ use Rattle.command_dialog.specs.declared.types.DialogFail.{DialogFail}
 use Rattle.command_dialog.specs.State.{State, fresh}
 use Rattle.command_dialog.specs.Words.{is_text}
 use Rattle.command_dialog.specs.Meaning.{meaning, commands_by, after_connect, is_open, least_free, connects, creates, asks_while, asks_by, asks, closed_in, closes_some, closes, turned, turns}
-use Rattle.command_dialog.specs.Dialog.{answers, connected, refuses, refused_by, asked, phase_without, without, granted, says, after, does_by, does, told_in, publishes_after, plays_after, phase_after, told, shown, shown_in, shows}
+use Rattle.command_dialog.specs.Dialog.{answers, connected, refuses, refused_by, asked, phase_without, published_in, sized, without, granted, says, after, does_by, does, told_in, publishes_after, plays_after, phase_after, told, shown, shown_in, shows}
 use Rattle.command_dialog.specs.Writable.{IsOn, AreIds, IsPhaseOn, HasIds}
 use Rattle.command_dialog.proofs.Free.{is_free}
 use Rattle.command_dialog.proofs.Said.{just, both, publish_by, play_by}
@@ -92,7 +93,7 @@ creates_on ids transaction (Some id) e = (is_free ids id e).1
 while_on : (p : Phase) (r : Role) (id : ℕ) (app text : List ℕ) → id ≤ 16 → IsMeantOn (asks_while p r id app text)
 while_on phase.Idle r id app text le = le
 while_on (phase.Asked q n) r id app text le = le
-while_on (phase.Publishes n) r id app text le = le
+while_on (phase.Publishes n size) r id app text le = le
 while_on (phase.Plays p) r id app text le = le
 
 by_on : (p : Phase) (r : Role) (id : ℕ) (app : List ℕ) (b : Brief) → id ≤ 16 → IsMeantOn (asks_by p r id app b)
@@ -126,7 +127,7 @@ turns_are_on (phase.Plays p) stream w (brief.Text text) le = tt
 turns_are_on (phase.Plays p) stream w brief.Other le = tt
 turns_are_on phase.Idle stream w b le = tt
 turns_are_on (phase.Asked r id) stream w b le = tt
-turns_are_on (phase.Publishes id) stream w b le = tt
+turns_are_on (phase.Publishes id size) stream w b le = tt
 
 -- where the first test fails, by the tests after it
 other : (b : Bool) (x y : Result Meant DialogFail) → IsReadOn x → IsReadOn y → IsReadOn (cond b x y)
@@ -162,27 +163,37 @@ asked_on r id (Some grant.NoName) le = tt
 asked_on r id None le = tt
 
 phase_on : (id : ℕ) (p : Phase) → IsPhaseOn p → IsPhaseOn (phase_without id p)
-phase_on id (phase.Publishes n) le = either IsPhaseOn (nat_eq n id) phase.Idle (phase.Publishes n) (λ e. tt) le
+phase_on id (phase.Publishes n size) le = either IsPhaseOn (nat_eq n id) phase.Idle (phase.Publishes n size) (λ e. tt) le
 phase_on id (phase.Plays p) le = either IsPhaseOn (nat_eq p.id id) phase.Idle (phase.Plays p) (λ e. tt) le
 phase_on id phase.Idle le = tt
 phase_on id (phase.Asked r n) le = le
 
-after_ids : (s : State) (g : Option Grant) (m : Meant) → HasIds s → IsMeantOn m → HasIds (after s g m)
+sized_on : (o : Option Media) (p : Phase) → IsPhaseOn p → IsPhaseOn (sized o p)
+sized_on (Some u) (phase.Publishes id size) le = le
+sized_on (Some u) phase.Idle le = tt
+sized_on (Some u) (phase.Asked r id) le = le
+sized_on (Some u) (phase.Plays p) le = le
+sized_on None (phase.Publishes id size) le = le
+sized_on None phase.Idle le = tt
+sized_on None (phase.Asked r id) le = le
+sized_on None (phase.Plays p) le = le
+
+after_ids : (s : State) (m : Message) (g : Option Grant) (meant : Meant) → HasIds s → IsMeantOn meant → HasIds (after s m g meant)
 unfolding after
-after_ids s g meant.Passed on le = on
-after_ids s g (meant.Connects transaction app) on le = record { ids = on.ids; role = on.role }
-after_ids s g (meant.Creates transaction id) on le = record { ids = on_more s.ids id on.ids le; role = on.role }
-after_ids s g (meant.Busy r id) on le = on
-after_ids s g (meant.Asks a id) on le = record { ids = on.ids; role = asked_on a.role id g le }
-after_ids s g (meant.Closes id) on le = record { ids = on_without s.ids id on.ids; role = phase_on id s.phase on.role }
-after_ids s g (meant.Turns p) on le = record { ids = on.ids; role = le }
-after_ids s g meant.Media on le = on
+after_ids s m g meant.Passed on le = on
+after_ids s m g (meant.Connects transaction app) on le = record { ids = on.ids; role = on.role }
+after_ids s m g (meant.Creates transaction id) on le = record { ids = on_more s.ids id on.ids le; role = on.role }
+after_ids s m g (meant.Busy r id) on le = on
+after_ids s m g (meant.Asks a id) on le = record { ids = on.ids; role = asked_on a.role id g le }
+after_ids s m g (meant.Closes id) on le = record { ids = on_without s.ids id on.ids; role = phase_on id s.phase on.role }
+after_ids s m g (meant.Turns p) on le = record { ids = on.ids; role = le }
+after_ids s m g meant.Media on le = record { ids = on.ids; role = sized_on (published_in s.phase m) s.phase on.role }
 
 pub fresh_ids : (window : ℕ) → HasIds (fresh window)
 fresh_ids window = record { ids = tt; role = tt }
 
 does_ids_by : (desk : Ask → Grant) (s : State) (m : Message) (r : Result Meant DialogFail) → HasIds s → IsReadOn r → HasIds (does_by desk s m r).state
-does_ids_by desk s m (Ok meant) on le = after_ids s (granted desk meant) meant on le
+does_ids_by desk s m (Ok meant) on le = after_ids s m (granted desk meant) meant on le
 does_ids_by desk s m (Err e) on le = on
 
 pub does_ids : (desk : Ask → Grant) (s : State) (m : Message) → HasIds s → HasIds (does desk s m).state
@@ -229,7 +240,7 @@ unfolding does
 does_on desk s m on = does_on_by desk s m (meaning s m) (meaning_on s m on)
 
 -- ---- at a reply
-publishes_by : (P : Phase → Type 0) (id : ℕ) (r : Reply) → P (phase.Publishes id) → P phase.Idle → P (publishes_after id r)
+publishes_by : (P : Phase → Type 0) (id : ℕ) (r : Reply) → P (phase.Publishes id 0) → P phase.Idle → P (publishes_after id r)
 publishes_by P id (reply.Began n) h k = h
 publishes_by P id (reply.InUse by) h k = k
 publishes_by P id (reply.Pushed n) h k = k
@@ -243,6 +254,7 @@ publishes_by P id (reply.Skip from to) h k = k
 publishes_by P id (reply.NotYet end) h k = k
 publishes_by P id (reply.Left player) h k = k
 publishes_by P id (reply.Counts began pushed ended joined skips) h k = k
+publishes_by P id (reply.NoSlot slots) h k = k
 
 played_on : (id : ℕ) (r : Reply) → id ≤ 16 → IsPhaseOn (plays_after id r)
 played_on id (reply.Began n) le = tt
@@ -258,12 +270,13 @@ played_on id (reply.Skip from to) le = tt
 played_on id (reply.NotYet end) le = tt
 played_on id (reply.Left player) le = tt
 played_on id (reply.Counts began pushed ended joined skips) le = tt
+played_on id (reply.NoSlot slots) le = tt
 
 phase_told : (p : Phase) (r : Reply) → IsPhaseOn p → IsPhaseOn (phase_after p r)
 phase_told (phase.Asked role.Publish id) r le = publishes_by IsPhaseOn id r le tt
 phase_told (phase.Asked role.Play id) r le = played_on id r le
 phase_told phase.Idle r le = tt
-phase_told (phase.Publishes id) r le = le
+phase_told (phase.Publishes id size) r le = le
 phase_told (phase.Plays p) r le = le
 
 pub told_ids : (s : State) (r : Reply) → HasIds s → HasIds (told s r).state
@@ -271,10 +284,10 @@ unfolding told
 told_ids s r on = record { ids = on.ids; role = phase_told s.phase r on.role }
 
 said_on : (p : Phase) (r : Reply) → IsPhaseOn p → All IsOn (told_in p r)
-said_on (phase.Asked role.Publish id) r le = publish_by (All IsOn) id r (just IsOn _ le) (refuses_on role.Publish id _ le)
+said_on (phase.Asked role.Publish id) r le = publish_by (All IsOn) id r (just IsOn _ le) (λ w. refuses_on role.Publish id w le)
 said_on (phase.Asked role.Play id) r le = play_by (All IsOn) id r (both IsOn _ _ (omega arith) le) (refuses_on role.Play id _ le)
 said_on phase.Idle r le = All-nil IsOn
-said_on (phase.Publishes id) r le = All-nil IsOn
+said_on (phase.Publishes id size) r le = All-nil IsOn
 said_on (phase.Plays p) r le = All-nil IsOn
 
 pub told_on : (s : State) (r : Reply) → HasIds s → All IsOn (told s r).says
@@ -292,7 +305,7 @@ phase_shows_on : (p : Phase) (i : Item) → IsPhaseOn p → All IsOn (shown_in p
 phase_shows_on (phase.Plays p) i le = item_on p.id i le
 phase_shows_on phase.Idle i le = All-nil IsOn
 phase_shows_on (phase.Asked r id) i le = All-nil IsOn
-phase_shows_on (phase.Publishes id) i le = All-nil IsOn
+phase_shows_on (phase.Publishes id size) i le = All-nil IsOn
 
 pub shows_on : (s : State) (i : Item) → HasIds s → All IsOn (shows s i)
 unfolding shows

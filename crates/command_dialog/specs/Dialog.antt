@@ -1,8 +1,11 @@
 -- THE DIALOGUE: what a message of a peer does by its meaning and its grant, what the stream's reply does, and how a player is shown
 -- an item (RTMP 1.0, section 7.2).
-use Rattle.std.specs.Prelude.{ℕ, List, [], ◌∷◌, ◌++◌, Option, Some, None, option_map, true, false, not, filter, ◌==◌, if◌then◌else◌, Result, Ok, Err}
+use Rattle.std.specs.Prelude.{ℕ, List, [], ◌∷◌, ◌++◌, length, Option, Some, None, option_map, true, false, not, filter, ◌==◌, nat_le, if◌then◌else◌, Result, Ok, Err}
 use Rattle.av_unit.specs.Media.{Media}
 use Rattle.av_unit.specs.Classes.{unit_from, message_type}
+use Rattle.av_unit.specs.Disposable.{length_size}
+use Rattle.av_unit.specs.declared.unit.Kind.{Kind}
+use Rattle.av_unit.specs.declared.unit.Kind.TheVariants as kind
 use Rattle.av_unit.specs.declared.item.Item.{Item}
 use Rattle.av_unit.specs.declared.item.Item.TheVariants as item
 use Rattle.rtmp_command.specs.declared.answer.Why.{Why}
@@ -68,17 +71,25 @@ says s g meant.Media = []
 
 -- ---- what is asked of a stream
 
-abbrev pub calls_by : Role → Option Grant → Option Act
-calls_by role.Publish (Some (grant.Place place)) = Some (act.Begin place)
-calls_by role.Play (Some (grant.Place place)) = Some (act.Join place)
-calls_by r _ = None
+-- with the name that was asked for
+abbrev pub calls_by : Role → List ℕ → Option Grant → Option Act
+calls_by role.Publish name (Some (grant.Place place)) = Some (act.Begin place name)
+calls_by role.Play name (Some (grant.Place place)) = Some (act.Join place name)
+calls_by r name _ = None
 
 -- the role on the message stream ends
 abbrev pub ends : ℕ → Phase → Option Act
-ends id (phase.Publishes n) = if n == id then Some act.End else None
+ends id (phase.Publishes n size) = if n == id then Some act.End else None
 ends id (phase.Plays p) = if p.id == id then Some (act.Leave p.player) else None
 ends id phase.Idle = None
 ends id (phase.Asked r n) = None
+
+-- the unit that is published by a message, where a publish is granted
+abbrev pub published_in : Phase → Message → Option Media
+published_in (phase.Publishes id size) m = unit_from m.kind m.time m.body size
+published_in phase.Idle m = None
+published_in (phase.Asked r id) m = None
+published_in (phase.Plays p) m = None
 
 -- THE ONE CALL that is made at the stream
 unfoldable pub makes : State → Message → Option Grant → Meant → Option Act
@@ -86,10 +97,10 @@ makes s m g meant.Passed = None
 makes s m g (meant.Connects transaction app) = None
 makes s m g (meant.Creates transaction id) = None
 makes s m g (meant.Busy r id) = None
-makes s m g (meant.Asks a id) = calls_by a.role g
+makes s m g (meant.Asks a id) = calls_by a.role a.name g
 makes s m g (meant.Closes id) = ends id s.phase
 makes s m g (meant.Turns p) = None
-makes s m g meant.Media = option_map act.Push (unit_from m.kind m.time m.body)
+makes s m g meant.Media = option_map act.Push (published_in s.phase m)
 
 -- ---- where the dialogue stands after it
 
@@ -98,26 +109,41 @@ asked r id (Some (grant.Place place)) = phase.Asked r id
 asked r id _ = phase.Idle
 
 abbrev pub phase_without : ℕ → Phase → Phase
-phase_without id (phase.Publishes n) = if n == id then phase.Idle else phase.Publishes n
+phase_without id (phase.Publishes n size) = if n == id then phase.Idle else phase.Publishes n size
 phase_without id (phase.Plays p) = if p.id == id then phase.Idle else phase.Plays p
 phase_without id p = p
+
+-- the length size after a unit: that of the unit, where it is a video configuration
+abbrev pub size_by : Kind → List ℕ → ℕ → ℕ
+size_by kind.VConfig body size = length_size body
+size_by kind.Meta body size = size
+size_by kind.AConfig body size = size
+size_by kind.Key body size = size
+size_by kind.Inter body size = size
+size_by kind.Spare body size = size
+size_by kind.Audio body size = size
+size_by kind.Data body size = size
+
+abbrev pub sized : Option Media → Phase → Phase
+sized (Some u) (phase.Publishes id size) = phase.Publishes id (size_by u.kind u.body size)
+sized _ p = p
 
 abbrev pub without : ℕ → List ℕ → List ℕ
 without id ids = filter (λ n. not (n == id)) ids
 
 -- THE STATE after it
-unfoldable pub after : State → Option Grant → Meant → State
-after s g meant.Passed = s
-after s g (meant.Connects transaction app) = with_app s app
-after s g (meant.Creates transaction id) = with_ids s (s.ids ++ id ∷ [])
-after s g (meant.Busy r id) = s
-after s g (meant.Asks a id) = with_phase s (asked a.role id g)
-after s g (meant.Closes id) = with_phase (with_ids s (without id s.ids)) (phase_without id s.phase)
-after s g (meant.Turns p) = with_phase s (phase.Plays p)
-after s g meant.Media = s
+unfoldable pub after : State → Message → Option Grant → Meant → State
+after s m g meant.Passed = s
+after s m g (meant.Connects transaction app) = with_app s app
+after s m g (meant.Creates transaction id) = with_ids s (s.ids ++ id ∷ [])
+after s m g (meant.Busy r id) = s
+after s m g (meant.Asks a id) = with_phase s (asked a.role id g)
+after s m g (meant.Closes id) = with_phase (with_ids s (without id s.ids)) (phase_without id s.phase)
+after s m g (meant.Turns p) = with_phase s (phase.Plays p)
+after s m g meant.Media = with_phase s (sized (published_in s.phase m) s.phase)
 
 abbrev pub stepped : State → Message → Option Grant → Meant → Step
-stepped s m g meant = record { state = after s g meant; says = says s g meant; makes = makes s m g meant }
+stepped s m g meant = record { state = after s m g meant; says = says s g meant; makes = makes s m g meant }
 
 -- ---- a message by itself, where the grants of a desk are known
 
@@ -137,6 +163,7 @@ does desk s m = does_by desk s m (meaning s m)
 
 abbrev pub told_publish : ℕ → Reply → List Message
 told_publish id (reply.Began n) = answers id answer.PublishStart ∷ []
+told_publish id (reply.NoSlot slots) = refuses role.Publish id why.Full
 told_publish id _ = refuses role.Publish id why.InUse
 
 abbrev pub told_play : ℕ → Reply → List Message
@@ -149,7 +176,7 @@ told_in (phase.Asked role.Play id) r = told_play id r
 told_in _ r = []
 
 abbrev pub publishes_after : ℕ → Reply → Phase
-publishes_after id (reply.Began n) = phase.Publishes id
+publishes_after id (reply.Began n) = phase.Publishes id 0
 publishes_after id _ = phase.Idle
 
 -- the switches are on, and the player isn't paused
@@ -169,9 +196,13 @@ told s r = record { state = with_phase s (phase_after s.phase r); says = told_in
 
 -- ---- the call that an act is
 
+-- A name of more than 64 bytes is no name of a broadcast: only a stream, which answers both calls alike, could be granted by it
+abbrev pub named : (List ℕ → Call) → Call → List ℕ → Call
+named with_name without_name name = if nat_le (length name) 64 then with_name name else without_name
+
 abbrev pub call_of : Act → Call
-call_of (act.Begin place) = call.Begin
-call_of (act.Join place) = call.Join
+call_of (act.Begin place name) = named call.BeginAs call.Begin name
+call_of (act.Join place name) = named call.JoinAs call.Join name
 call_of (act.Push unit) = call.Push unit
 call_of act.End = call.End
 call_of (act.Leave player) = call.Leave player

@@ -4,3 +4,4 @@ pub mod Meaning
 pub mod Dialog
 pub mod Past
 pub mod Writable
+pub mod Sizes

@@ -114,7 +114,7 @@ commands_by s stream (Err e) = Err (dialog_fail e)
 
 -- whether a granted publish is on this message stream
 abbrev pub publishes_on : ℕ → Phase → Bool
-publishes_on stream (phase.Publishes id) = id == stream
+publishes_on stream (phase.Publishes id size) = id == stream
 publishes_on stream _ = false
 
 -- audio, video and data (7.1.2, 7.1.4 and 7.1.5)

@@ -42,7 +42,7 @@ abbrev pub playing_in : Phase → Option Playing
 playing_in (phase.Plays p) = Some p
 playing_in phase.Idle = None
 playing_in (phase.Asked r id) = None
-playing_in (phase.Publishes id) = None
+playing_in (phase.Publishes id size) = None
 
 -- the length of an app, where there is one
 abbrev pub app_length : Option (List ℕ) → ℕ

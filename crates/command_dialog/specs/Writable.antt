@@ -41,7 +41,7 @@ AreIds (id ∷ ids) = (id ≤ 16) × AreIds ids
 abbrev pub IsPhaseOn : Phase → Type 0
 IsPhaseOn phase.Idle = Unit {0}
 IsPhaseOn (phase.Asked r id) = id ≤ 16
-IsPhaseOn (phase.Publishes id) = id ≤ 16
+IsPhaseOn (phase.Publishes id size) = id ≤ 16
 IsPhaseOn (phase.Plays p) = p.id ≤ 16
 
 -- the ids that are open, and that of the role, are at most 16

@@ -1,20 +1,45 @@
-ghost use Rattle.std.specs.Prelude.{◌≡◌, None, Some, IfOk, MatchOption};
-ghost use Rattle.command_dialog.specs.Dialog.{call_of};
+ghost use Rattle.std.specs.Prelude.{◌≡◌, ◌≤◌, length, None, Some, IfOk, MatchOption};
+ghost use Rattle.stream_model.specs.declared.calls.Call.TheVariants as call;
+ghost use Rattle.command_dialog.specs.Dialog.{named, call_of};
 ghost use Rattle.command_dialog.specs.Meaning.{ask_in};
 
 use crate::types::{Act, Ask, Meant};
-use av_unit::{OutOfMemory, UnitArc};
+use av_unit::{Bytes, OutOfMemory, UnitArc};
 use std::alloc::Global;
-use stream_model::Call;
+use stream_model::{Call, ShortName};
+
+// A name of a broadcast has so many bytes at most.
+const MOST_NAME: usize = 64;
+
+fn begin(name: Bytes) -> Call
+    ensures { result ≡ named call.BeginAs call.Begin name }
+{
+    if name.len() <= MOST_NAME {
+        Call::BeginAs(ShortName::new(name))
+    } else {
+        Call::Begin
+    }
+}
+
+fn join(name: Bytes) -> Call
+    ensures { result ≡ named call.JoinAs call.Join name }
+{
+    if name.len() <= MOST_NAME {
+        Call::JoinAs(ShortName::new(name))
+    } else {
+        Call::Join
+    }
+}
 
 impl Act {
-    /// The call at the stream. A pushed unit is put where it can be shared; its bytes aren't copied.
+    /// The call at the stream. A pushed unit is put where it can be shared; its bytes and those of a name aren't
+    /// copied.
     pub fn into_call(self, alloc: Global) -> Result<Call, OutOfMemory>
         ensures { IfOk result (λ call. call ≡ call_of self) }
     {
         match self {
-            Act::Begin(_) => Ok(Call::Begin),
-            Act::Join(_) => Ok(Call::Join),
+            Act::Begin { place: _, name } => Ok(begin(name)),
+            Act::Join { place: _, name } => Ok(join(name)),
             Act::Push(unit) => Ok(Call::Push(UnitArc::new(alloc, unit)?)),
             Act::End => Ok(Call::End),
             Act::Leave(player) => Ok(Call::Leave { player }),

@@ -1,17 +1,18 @@
-ghost use Rattle.std.specs.Prelude.{◌≡◌, ◌≤◌, ◌⊎◌, length, Ok, Err, IfOk, OnOk, OnErr, MatchResult};
-ghost use Rattle.command_dialog.specs.State.{fresh, playing_in, app_length};
+ghost use Rattle.std.specs.Prelude.{◌≡◌, ◌≤◌, ◌⊎◌, length, option_map, Ok, Err, IfOk, OnOk, OnErr, MatchResult};
+ghost use Rattle.std.specs.Option.{option_copied};
+ghost use Rattle.command_dialog.specs.State.{fresh, with_phase, playing_in, app_length};
 ghost use Rattle.command_dialog.specs.Meaning.{meaning, commands};
-ghost use Rattle.command_dialog.specs.Dialog.{says, makes, after, told};
+ghost use Rattle.command_dialog.specs.Dialog.{published_in, says, makes, after, sized, told};
 
 use crate::lists::{App, MessageList};
 use crate::meaning::{
-    ask, asked_role, close, connect, fail_of, free_id, is_published, remove, role_without,
+    ask, asked_role, close, connect, fail_of, free_id, is_published, remove, role_without, sized,
     told_role, turn,
 };
 use crate::says::{
-    begun, call_by, connected, created, end_of, joined, nothing, push_of, refuse, refuse_by,
+    begun, call_by, connected, created, end_of, joined, nothing, refuse, refuse_by, unit_in,
 };
-use crate::types::{Act, Acts, DialogFail, Grant, Meant, Phase, Playing, Role, Switch};
+use crate::types::{Act, Acts, Ask, DialogFail, Grant, Meant, Phase, Playing, Role, Switch};
 use av_unit::OutOfMemory;
 use chunk_wire::Message;
 use rtmp_command::{Heard, Why, hear};
@@ -147,13 +148,12 @@ impl Dialog {
         requires short { length message.body ≤ 4194304 }
         ensures says { IfOk result (λ acts. acts.says ≡ says self.old grant meant) }
         ensures makes { IfOk result (λ acts. acts.makes ≡ makes self.old message grant meant) }
-        ensures state { IfOk result (λ _. self.new ≡ after self.old grant meant) }
+        ensures state { IfOk result (λ _. self.new ≡ after self.old message grant meant) }
         ensures err { OnErr result (self.new ≡ self.old) }
         ensures memory { OnErr result (result ≡ Err DialogFail.OutOfMemory) }
     {
         let says = self.said(alloc, &meant, grant)?;
-        let makes = self.made(message, &meant, grant);
-        self.change(meant, grant)?;
+        let makes = self.change(message, meant, grant)?;
         Ok(Acts { says, makes })
     }
 
@@ -181,42 +181,68 @@ impl Dialog {
         }
     }
 
-    /// The call that is made at the stream.
-    #[tactic(auto, unfolding(crate::specs::Dialog::makes))]
-    fn made(&self, message: Message, meant: &Meant, grant: Option<Grant>) -> Option<Act>
+    /// The call that is made at the stream, and where the dialogue stands then.
+    #[tactic(auto, unfolding(crate::specs::Dialog::makes, crate::specs::Dialog::after))]
+    fn change(
+        &mut self,
+        message: Message,
+        meant: Meant,
+        grant: Option<Grant>,
+    ) -> Result<Option<Act>, OutOfMemory>
         requires { length message.body ≤ 4194304 }
-        ensures { result ≡ makes self.now message grant meant.now }
-    {
-        match meant {
-            Meant::Asks { ask, id: _ } => call_by(ask.role, grant),
-            Meant::Closes { id } => end_of(*id, self.phase),
-            Meant::Media => push_of(message),
-            Meant::Passed | Meant::Connects { .. } | Meant::Creates { .. } => None,
-            Meant::Busy { .. } | Meant::Turns(_) => None,
-        }
-    }
-
-    /// Goes to where the dialogue stands then.
-    #[tactic(auto, unfolding(crate::specs::Dialog::after))]
-    fn change(&mut self, meant: Meant, grant: Option<Grant>) -> Result<(), OutOfMemory>
-        ensures ok { OnOk result (self.new ≡ after self.old grant meant) }
+        ensures makes { IfOk result (λ act. act ≡ makes self.old message grant meant) }
+        ensures ok { OnOk result (self.new ≡ after self.old message grant meant) }
         ensures err { OnErr result (self.new ≡ self.old) }
     {
         match meant {
-            Meant::Passed | Meant::Busy { .. } | Meant::Media => {}
+            Meant::Passed | Meant::Busy { .. } => Ok(None),
             Meant::Connects {
                 transaction: _,
                 app,
-            } => self.app = Some(app),
-            Meant::Creates { transaction: _, id } => self.ids.push(id)?,
-            Meant::Asks { ask, id } => self.phase = asked_role(ask.role, id, grant),
+            } => {
+                self.app = Some(app);
+                Ok(None)
+            }
+            Meant::Creates { transaction: _, id } => {
+                self.ids.push(id)?;
+                Ok(None)
+            }
+            Meant::Asks { ask, id } => {
+                let Ask {
+                    role,
+                    app: _,
+                    name,
+                    key: _,
+                } = ask;
+                self.phase = asked_role(role, id, grant);
+                Ok(call_by(role, name, grant))
+            }
             Meant::Closes { id } => {
+                let makes = end_of(id, self.phase);
                 remove(&mut self.ids, id);
                 self.phase = role_without(id, self.phase);
+                Ok(makes)
             }
-            Meant::Turns(playing) => self.phase = Phase::Plays(playing),
+            Meant::Turns(playing) => {
+                self.phase = Phase::Plays(playing);
+                Ok(None)
+            }
+            Meant::Media => Ok(self.publish(message)),
         }
-        Ok(())
+    }
+
+    // The message is pushed as the unit that it is, if it is one.
+    fn publish(&mut self, message: Message) -> Option<Act>
+        requires { length message.body ≤ 4194304 }
+        ensures makes { result ≡ option_map Act.Push (published_in self.old.phase message) }
+        ensures state { self.new ≡ with_phase self.old (sized (published_in self.old.phase message) self.old.phase) }
+    {
+        let unit = unit_in(self.phase, message);
+        self.phase = sized(&unit, self.phase);
+        match unit {
+            Some(unit) => Some(Act::Push(unit)),
+            None => None,
+        }
     }
 
     /// Does what the stream's reply to a Begin or Join makes: the answer to the peer. Where no such call
@@ -261,6 +287,13 @@ impl Dialog {
             Phase::Asked { .. } => None,
             Phase::Publishes { .. } => None,
         }
+    }
+
+    /// The application to which the peer has connected, if it has, where it is kept.
+    pub fn app(&self) -> Option<&App>
+        ensures { option_copied result ≡ self.now.app }
+    {
+        self.app.as_ref()
     }
 
     /// How many bytes of its peer the dialogue keeps: the length of the app, at most 64.

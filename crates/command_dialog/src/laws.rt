@@ -23,6 +23,8 @@ ghost use Rattle.command_dialog.specs.Words.{app_in, name_in, key_in};
 ghost use Rattle.command_dialog.specs.Meaning.{asks_while, is_open, least_free, closed_in};
 ghost use Rattle.command_dialog.specs.Dialog.{refuses, says, does, told, shows, call_of};
 ghost use Rattle.command_dialog.specs.Writable.{IsSaid, IsShown, HasRoom, IsOn, HasIds};
+ghost use Rattle.command_dialog.specs.Past.{Event, state_of};
+ghost use Rattle.command_dialog.specs.Sizes.{pushed_of, last_size};
 
 /// No message asks a stream for an item.
 pub fn no_act_is_a_take()
@@ -57,7 +59,7 @@ pub fn the_least_free_id_is_given()
 {}
 
 /// A publish or play is refused by the first of these: a role is active, no place has that name, the
-/// guard refuses, the stream is in use or full.
+/// guard refuses, the stream is in use or full, the open table has no slot for the name.
 pub fn the_first_refusal_is_told()
     ensures active { (p : Phase) (r : Role) (id : ℕ) (app text : List ℕ) → (p ≡ phase.Idle → ⊥) → asks_while p r id app text ≡ meant.Busy r id }
     ensures busy { (s : State) (r : Role) (id : ℕ) → says s None (meant.Busy r id) ≡ refuses r id why.RoleActive }
@@ -67,6 +69,15 @@ pub fn the_first_refusal_is_told()
         → (told (with_phase s (phase.Asked role.Publish id)) (reply.InUse by)).says ≡ refuses role.Publish id why.InUse }
     ensures full { (s : State) (id : ℕ)
         → (told (with_phase s (phase.Asked role.Play id)) reply.Full).says ≡ refuses role.Play id why.Full }
+    ensures no_slot { (s : State) (r : Role) (id slots : ℕ)
+        → (told (with_phase s (phase.Asked r id)) (reply.NoSlot slots)).says ≡ refuses r id why.Full }
+{}
+
+/// By the last video configuration that was pushed since the Begin a picture is told apart that no other picture needs: how many
+/// bytes the lengths of NAL units have while a publish is granted, 0 where there was no such configuration.
+pub fn the_last_configuration_tells_the_size()
+    ensures { (window : ℕ) (past : List Event) (id size : ℕ) → (state_of window past).phase ≡ phase.Publishes id size
+        → size ≡ last_size (pushed_of window past) }
 {}
 
 /// Some texts with the app, the name and the key that they are, and the least free of some ids.

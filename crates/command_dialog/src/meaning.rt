@@ -1,14 +1,14 @@
 ghost use Rattle.std.specs.Prelude.{◌≡◌, IfOk};
 ghost use Rattle.command_dialog.specs.Meaning.{is_open, least_free, connects, asks, asks_while, dialog_fail};
 ghost use Rattle.command_dialog.specs.Meaning.{publishes_on, closed_in, closes, turned, turns};
-ghost use Rattle.command_dialog.specs.Dialog.{asked, phase_after, phase_without, without};
+ghost use Rattle.command_dialog.specs.Dialog.{asked, phase_after, phase_without, size_by, sized, without};
 
 use crate::lists::App;
 use crate::types::{Ask, DialogFail, Grant, Meant, Phase, Playing, Role, Switch};
 use crate::words::{bytes_of, key_of, name_of};
 use amf0_value::bits_of;
 use amf0_value::walk::Brief;
-use av_unit::{Bytes, OutOfMemory, Want};
+use av_unit::{Bytes, Kind, OutOfMemory, Unit, Want, length_size};
 use rtmp_command::CommandFail;
 use std::alloc::Global;
 use stream_model::Reply;
@@ -121,7 +121,7 @@ pub fn is_published(phase: &Phase, stream: u32) -> bool
     ensures { result ≡ publishes_on stream phase.now }
 {
     match phase {
-        Phase::Publishes { id } => *id == stream,
+        Phase::Publishes { id, size: _ } => *id == stream,
         Phase::Idle | Phase::Asked { .. } | Phase::Plays(_) => false,
     }
 }
@@ -147,7 +147,7 @@ pub fn told_role(phase: Phase, reply: &Reply) -> Phase
             role: Role::Publish,
             id,
         } => match reply {
-            Reply::Began { .. } => Phase::Publishes { id },
+            Reply::Began { .. } => Phase::Publishes { id, size: 0 },
             _ => Phase::Idle,
         },
         Phase::Asked {
@@ -166,7 +166,7 @@ pub fn told_role(phase: Phase, reply: &Reply) -> Phase
             _ => Phase::Idle,
         },
         Phase::Idle => Phase::Idle,
-        Phase::Publishes { id } => Phase::Publishes { id },
+        Phase::Publishes { id, size } => Phase::Publishes { id, size },
         Phase::Plays(playing) => Phase::Plays(playing),
     }
 }
@@ -252,11 +252,11 @@ pub fn role_without(id: u32, phase: Phase) -> Phase
     ensures { result ≡ phase_without id phase }
 {
     match phase {
-        Phase::Publishes { id: n } => {
+        Phase::Publishes { id: n, size } => {
             if n == id {
                 Phase::Idle
             } else {
-                Phase::Publishes { id: n }
+                Phase::Publishes { id: n, size }
             }
         }
         Phase::Plays(playing) => {
@@ -268,6 +268,33 @@ pub fn role_without(id: u32, phase: Phase) -> Phase
         }
         Phase::Idle => Phase::Idle,
         Phase::Asked { role, id } => Phase::Asked { role, id },
+    }
+}
+
+// The length size after a unit.
+fn size_by(unit: &Unit, size: u8) -> u8
+    ensures { result ≡ size_by unit.now.kind unit.now.body size }
+{
+    match unit.kind {
+        Kind::VConfig => length_size(unit.body.as_slice()),
+        Kind::Meta | Kind::AConfig | Kind::Key | Kind::Inter => size,
+        Kind::Spare | Kind::Audio | Kind::Data => size,
+    }
+}
+
+/// The role after a unit is pushed.
+pub fn sized(unit: &Option<Unit>, phase: Phase) -> Phase
+    ensures { result ≡ sized unit.now phase }
+{
+    match unit {
+        Some(unit) => match phase {
+            Phase::Publishes { id, size } => Phase::Publishes {
+                id,
+                size: size_by(unit, size),
+            },
+            Phase::Idle | Phase::Asked { .. } | Phase::Plays(_) => phase,
+        },
+        None => phase,
     }
 }
 

@@ -1,14 +1,13 @@
-ghost use Rattle.std.specs.Prelude.{◌≡◌, ◌≤◌, [], ◌∷◌, length, option_map, IfOk};
-ghost use Rattle.av_unit.specs.Classes.{unit_from};
+ghost use Rattle.std.specs.Prelude.{◌≡◌, ◌≤◌, [], ◌∷◌, length, IfOk};
 ghost use Rattle.av_unit.specs.declared.item.Item.TheVariants as item;
 ghost use Rattle.ack_window.specs.Controls.{message_of};
 ghost use Rattle.command_dialog.specs.Dialog as dialog;
-ghost use Rattle.command_dialog.specs.Dialog.{answers, refuses, refused_by, calls_by, told_publish, told_play, ends, shown};
+ghost use Rattle.command_dialog.specs.Dialog.{answers, refuses, refused_by, calls_by, published_in, told_publish, told_play, ends, shown};
 
 use crate::lists::MessageList;
 use crate::types::{Act, Grant, Phase, Role};
 use ack_window::{Control, control_message};
-use av_unit::{OutOfMemory, unit_of};
+use av_unit::{Bytes, OutOfMemory, Unit, unit_of};
 use chunk_wire::Message;
 use rtmp_command::{Answer, Why, answer_body};
 use std::alloc::Global;
@@ -111,14 +110,14 @@ pub fn refuse_by(
     }
 }
 
-/// The call that a publish or play makes by its grant.
-pub fn call_by(role: Role, grant: Option<Grant>) -> Option<Act>
-    ensures { result ≡ calls_by role grant }
+/// The call that a publish or play of a name makes by its grant.
+pub fn call_by(role: Role, name: Bytes, grant: Option<Grant>) -> Option<Act>
+    ensures { result ≡ calls_by role name grant }
 {
     match grant {
         Some(Grant::Place(place)) => match role {
-            Role::Publish => Some(Act::Begin(place)),
-            Role::Play => Some(Act::Join(place)),
+            Role::Publish => Some(Act::Begin { place, name }),
+            Role::Play => Some(Act::Join { place, name }),
         },
         Some(Grant::NoName) => None,
         Some(Grant::Refused) => None,
@@ -126,10 +125,10 @@ pub fn call_by(role: Role, grant: Option<Grant>) -> Option<Act>
     }
 }
 
-/// The unit of a message is pushed. It takes over the message's body.
-pub fn push_of(message: Message) -> Option<Act>
+/// The unit that is published by a message, where a publish is granted. It takes over the message's body.
+pub fn unit_in(phase: Phase, message: Message) -> Option<Unit>
     requires { length message.body ≤ 4194304 }
-    ensures { result ≡ option_map Act.Push (unit_from message.kind message.time message.body) }
+    ensures { result ≡ published_in phase message }
 {
     let Message {
         kind,
@@ -137,9 +136,9 @@ pub fn push_of(message: Message) -> Option<Act>
         time,
         body,
     } = message;
-    match unit_of(kind, time, body) {
-        None => None,
-        Some(unit) => Some(Act::Push(unit)),
+    match phase {
+        Phase::Publishes { id: _, size } => unit_of(kind, time, body, size),
+        Phase::Idle | Phase::Asked { .. } | Phase::Plays(_) => None,
     }
 }
 
@@ -149,6 +148,7 @@ pub fn begun(alloc: Global, id: u32, reply: &Reply) -> Result<MessageList, OutOf
 {
     match reply {
         Reply::Began { .. } => one(alloc, id, &Answer::PublishStart),
+        Reply::NoSlot { .. } => refuse(alloc, Role::Publish, id, Why::Full),
         _ => refuse(alloc, Role::Publish, id, Why::InUse),
     }
 }
@@ -168,7 +168,7 @@ pub fn end_of(id: u32, phase: Phase) -> Option<Act>
     ensures { result ≡ ends id phase }
 {
     match phase {
-        Phase::Publishes { id: n } => { if n == id { Some(Act::End) } else { None } }
+        Phase::Publishes { id: n, size: _ } => { if n == id { Some(Act::End) } else { None } }
         Phase::Plays(playing) => {
             if playing.id == id {
                 Some(Act::Leave(playing.player))

@@ -33,12 +33,12 @@ pub enum Grant {
     Place(u32),
 }
 
-/// A call that is to be made at a stream: at the place that a Begin or Join names, and from then on
-/// at that same place.
+/// A call that is to be made at a stream: at the place of a Begin or Join, and from then on at that
+/// same place. These two have the name that was asked for.
 #[derive(Debug, PartialEq, Eq, Drop)]
 pub enum Act {
-    Begin(u32),
-    Join(u32),
+    Begin { place: u32, name: Bytes },
+    Join { place: u32, name: Bytes },
     Push(Unit),
     End,
     /// The place of the player in that stream is given back.
@@ -63,12 +63,14 @@ pub struct Playing {
 }
 
 /// The role of a peer: none, one whose call at the stream has had no reply yet, or a granted one. The
-/// ids are those of message streams.
+/// ids are those of message streams. `size` is how many bytes the lengths of NAL units have by the last
+/// video configuration that was pushed since the publish began; 0 where there was none, or it tells no
+/// such number.
 #[derive(Clone, Copy, Debug, PartialEq, Eq)]
 pub enum Phase {
     Idle,
     Asked { role: Role, id: u32 },
-    Publishes { id: u32 },
+    Publishes { id: u32, size: u8 },
     Plays(Playing),
 }
 

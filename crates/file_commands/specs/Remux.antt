@@ -21,7 +21,7 @@ as_item (Some u) = AUnit u ∷ []
 
 -- the unit of a tag, if it has a class
 abbrev pub items_of : Tag → List Item
-items_of t = as_item (unit_from t.kind t.time t.body)
+items_of t = as_item (unit_from t.kind t.time t.body 0)
 
 -- a Begin and the units of tags
 abbrev pub items : List Tag → List Item

@@ -66,7 +66,7 @@ fn write_unit(
     Ok(())
 }
 
-// Writes the unit of a tag, if it has a class.
+// Writes the unit of a tag, if it has a class. No picture is told apart as disposable: it makes no difference to the text.
 fn write_tag(
     alloc: Global,
     writer: &mut TsWriter,
@@ -78,7 +78,7 @@ fn write_tag(
     ensures { OnOk result (Writes (items_of tag) writer.old.past writer.new.past left_out.old left_out.new out.old out.new) }
 {
     let Tag { kind, time, body } = tag;
-    match unit_of(kind, time, body) {
+    match unit_of(kind, time, body, 0) {
         Some(unit) => write_unit(alloc, writer, left_out, unit, out),
         None => Ok(()),
     }

@@ -7,7 +7,7 @@ use Rattle.std.specs.Int.{byte_at, bytes_high_first}
 use Rattle.av_unit.specs.declared.item.Item.{Item}
 use Rattle.av_unit.specs.declared.item.Item.TheVariants.{Begin, Unit as AUnit, End}
 use Rattle.av_unit.specs.declared.unit.Kind.{Kind}
-use Rattle.av_unit.specs.declared.unit.Kind.TheVariants.{Meta, VConfig, AConfig, Key, Inter, Audio, Data}
+use Rattle.av_unit.specs.declared.unit.Kind.TheVariants.{Meta, VConfig, AConfig, Key, Inter, Spare, Audio, Data}
 use Rattle.av_unit.specs.Classes.{message_type}
 use Rattle.av_unit.specs.Fits as fits
 use Rattle.av_unit.specs.Media.{Media}
@@ -116,6 +116,7 @@ kind_is VConfig = refl
 kind_is AConfig = refl
 kind_is Key = refl
 kind_is Inter = refl
+kind_is Spare = refl
 kind_is Audio = refl
 kind_is Data = refl
 
@@ -125,6 +126,7 @@ most_is VConfig = omega arith
 most_is AConfig = omega arith
 most_is Key = omega arith
 most_is Inter = omega arith
+most_is Spare = omega arith
 most_is Audio = omega arith
 most_is Data = omega arith
 

@@ -4,7 +4,7 @@ use Rattle.std.specs.Prelude.{◌&&◌, ◌||◌, not, nat_le, nat_lt, if◌then
 use Rattle.std.proofs.lemmas.Bool.Decides.{nat_tests}
 use Rattle.av_unit.specs.Media.{Media}
 use Rattle.av_unit.specs.declared.unit.Kind.{Kind}
-use Rattle.av_unit.specs.declared.unit.Kind.TheVariants.{Meta, VConfig, AConfig, Key, Inter, Audio, Data}
+use Rattle.av_unit.specs.declared.unit.Kind.TheVariants.{Meta, VConfig, AConfig, Key, Inter, Spare, Audio, Data}
 use Rattle.av_unit.specs.declared.item.Item.{Item}
 use Rattle.av_unit.specs.declared.item.Item.TheVariants.{Begin, Unit as AUnit, End}
 use Rattle.ts_writer.specs.declared.left.Wrote.{Wrote}
@@ -72,6 +72,7 @@ kind_due Meta s time body ps f is may = absurd (cc)
 kind_due VConfig s time body ps f is may = absurd (cc)
 kind_due AConfig s time body ps f is may = absurd (cc)
 kind_due Inter s time body ps f is may = absurd (cc)
+kind_due Spare s time body ps f is may = absurd (cc)
 kind_due Data s time body ps f is may = absurd (cc)
 
 next_tables : (past : List Item) (u : Media) → wrote_of past (AUnit u) ≡ AWritten → may_begin past u ≡ true → BeginsWithTables (item_text past (AUnit u))
@@ -86,6 +87,7 @@ kind_opens Meta s ps may = absurd (cc)
 kind_opens VConfig s ps may = absurd (cc)
 kind_opens AConfig s ps may = absurd (cc)
 kind_opens Inter s ps may = absurd (cc)
+kind_opens Spare s ps may = absurd (cc)
 kind_opens Data s ps may = absurd (cc)
 
 -- ---- one unit more

@@ -5,7 +5,7 @@ use Rattle.std.proofs.lemmas.List.{length-reverse}
 use Rattle.std.proofs.lemmas.Grind.{reverse_onto}
 use Rattle.av_unit.specs.Media.{Media}
 use Rattle.av_unit.specs.declared.unit.Kind.{Kind}
-use Rattle.av_unit.specs.declared.unit.Kind.TheVariants.{Meta, VConfig, AConfig, Key, Inter, Audio, Data}
+use Rattle.av_unit.specs.declared.unit.Kind.TheVariants.{Meta, VConfig, AConfig, Key, Inter, Spare, Audio, Data}
 use Rattle.av_unit.specs.declared.item.Item.{Item}
 use Rattle.av_unit.specs.declared.item.Item.TheVariants.{Begin, Unit as AUnit, End}
 use Rattle.ts_writer.specs.declared.left.Left.{Left}
@@ -39,6 +39,7 @@ kind_pictures VConfig time body s b e = read_is (video_config body)
 kind_pictures AConfig time body s b e = e
 kind_pictures Key time body s b e = e
 kind_pictures Inter time body s b e = e
+kind_pictures Spare time body s b e = e
 kind_pictures Audio time body s b e = e
 kind_pictures Data time body s b e = e
 
@@ -69,6 +70,7 @@ kind_opens VConfig s time body ps pictures w e = refl
 kind_opens AConfig s time body ps pictures w e = refl
 kind_opens Key s time body ps pictures w e = refl
 kind_opens Inter s time body ps pictures w e = refl
+kind_opens Spare s time body ps pictures w e = refl
 kind_opens Audio s time body ps pictures w e = sound_opens s time body ps pictures w e
 kind_opens Data s time body ps pictures w e = refl
 

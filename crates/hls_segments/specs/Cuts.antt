@@ -3,7 +3,7 @@
 use Rattle.std.specs.Prelude.{ℕ, ◌+◌, ◌-◌, ◌%◌, ◌^◌, Bool, true, false, ◌&&◌, ◌||◌, not, nat_lt, nat_le, if◌then◌else◌, List, [], ◌∷◌, ◌++◌, length}
 use Rattle.av_unit.specs.Media.{Media}
 use Rattle.av_unit.specs.declared.unit.Kind.{Kind}
-use Rattle.av_unit.specs.declared.unit.Kind.TheVariants.{Meta, VConfig, AConfig, Key, Inter, Audio, Data}
+use Rattle.av_unit.specs.declared.unit.Kind.TheVariants.{Meta, VConfig, AConfig, Key, Inter, Spare, Audio, Data}
 use Rattle.av_unit.specs.declared.item.Item.{Item}
 use Rattle.av_unit.specs.declared.item.Item.TheVariants.{Begin, Unit as AUnit, End}
 use Rattle.ts_writer.specs.declared.left.Wrote.{Wrote}
@@ -43,6 +43,7 @@ may_begin_by Meta s before = false
 may_begin_by VConfig s before = false
 may_begin_by AConfig s before = false
 may_begin_by Inter s before = false
+may_begin_by Spare s before = false
 may_begin_by Data s before = false
 
 -- WHERE A SEGMENT MAY BEGIN: at a key picture, and at sound before which stand tables that list no pictures

@@ -2,7 +2,7 @@
 -- Where a segment may begin, by what a writer answers and appends
 use Rattle.std.specs.Prelude.{ℕ, Bool, true, false, ◌==◌, ◌&&◌, not, List, [], ◌∷◌}
 use Rattle.av_unit.specs.declared.unit.Kind.{Kind}
-use Rattle.av_unit.specs.declared.unit.Kind.TheVariants.{Meta, VConfig, AConfig, Key, Inter, Audio, Data}
+use Rattle.av_unit.specs.declared.unit.Kind.TheVariants.{Meta, VConfig, AConfig, Key, Inter, Spare, Audio, Data}
 use Rattle.av_unit.specs.declared.item.Item.{Item}
 use Rattle.av_unit.specs.declared.item.Item.TheVariants.{Begin, Unit as AUnit, End}
 use Rattle.ts_writer.specs.declared.left.Wrote.{Wrote}
@@ -22,6 +22,7 @@ opens Meta pictures text = false
 opens VConfig pictures text = false
 opens AConfig pictures text = false
 opens Inter pictures text = false
+opens Spare pictures text = false
 opens Data pictures text = false
 
 abbrev pub is_read : Wrote → Bool
@@ -36,6 +37,7 @@ pictures_by Meta before wrote = before
 pictures_by AConfig before wrote = before
 pictures_by Key before wrote = before
 pictures_by Inter before wrote = before
+pictures_by Spare before wrote = before
 pictures_by Audio before wrote = before
 pictures_by Data before wrote = before
 

@@ -38,7 +38,8 @@ fn opens(kind: Kind, pictures: bool, text: &[u8]) -> bool
     match kind {
         Kind::Key => true,
         Kind::Audio => !pictures && has_tables(text),
-        Kind::Meta | Kind::VConfig | Kind::AConfig | Kind::Inter | Kind::Data => false,
+        Kind::Meta | Kind::VConfig | Kind::AConfig | Kind::Inter | Kind::Spare | Kind::Data =>
+            false,
     }
 }
 
@@ -65,7 +66,13 @@ fn pictures_by(kind: Kind, before: bool, wrote: Wrote) -> bool
 {
     match kind {
         Kind::VConfig => is_read(wrote),
-        Kind::Meta | Kind::AConfig | Kind::Key | Kind::Inter | Kind::Audio | Kind::Data => before,
+        Kind::Meta
+        | Kind::AConfig
+        | Kind::Key
+        | Kind::Inter
+        | Kind::Spare
+        | Kind::Audio
+        | Kind::Data => before,
     }
 }
 

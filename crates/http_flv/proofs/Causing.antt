@@ -20,7 +20,7 @@ use Rattle.relay_session.specs.declared.seat_answers.Made.TheVariants as made
 use Rattle.http_flv.specs.Causes.{Did, MayBe, came_to}
 use Rattle.http_flv.specs.Out.{Decision, JoinAt, Later, Tell, decide}
 use Rattle.http_flv.specs.Turns.{AfterJoin, AfterKept, CameAs, DroppedBy, HeardBy, Input, IsDone, IsJoined, IsSent, IsTaken, IsTried, JoinMade, JoinedBy, KeptOn, Life, ReadBy, SendBy, Sent, SentAs, TakeMade, Taken, TakenBy, ToldBy, answer, life, takes, told}
-use Rattle.http_flv.proofs.Sounding.{NoTake}
+use Rattle.http_flv.proofs.Sounding.{NoTake, join_takes}
 use Rattle.http_flv.specs.declared.core_fields.Core.{Core}
 use Rattle.http_flv.specs.declared.end.HttpEnd.{HttpEnd}
 use Rattle.http_flv.specs.declared.stage.Stage.{Stage}
@@ -200,7 +200,7 @@ module _ {P S : Type 0} (asks : P → S → ℕ → Entry → Made → P → S �
     done_kept : (dec : Decision) (c d : Core) → IsDone dec c d → NoTake c.kept → NoTake d.kept
     done_kept Later c d t n = subst NoTake (sym t.1) n
     done_kept (Tell r) c d t n = subst NoTake (sym t.1) n
-    done_kept (JoinAt p) c d t n = subst NoTake (sym t.1) refl
+    done_kept (JoinAt p name) c d t n = subst NoTake (sym t.1) (join_takes c.who (length d.x) name)
 
     did_heard : (b : List ℕ) (u v : Life P S) (a : HttpTurn) (w : Life P S) (moved : Bool) → 0 < length b → NoTake v.parts.kept → HeardBy asks desk b v a w → Goes moved u.parts v.parts → Did a u w
     did_heard b u v a w moved some n (inl t) g =

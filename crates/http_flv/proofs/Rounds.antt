@@ -1,5 +1,5 @@
 -- The steps of a turn, put together
-use Rattle.std.proofs.Common.{◌≡◌, inl, inr, ◌≤◌, ℕ, Bool, true, false, not, ◌||◌, List, length, take, refl, sym, ap, ◌∙◌, subst, arith, Option, Some, None, Result, Ok}
+use Rattle.std.proofs.Common.{◌≡◌, inl, inr, ◌≤◌, ℕ, Bool, true, false, not, ◌||◌, List, length, take, refl, sym, ap, ◌∙◌, subst, arith, Option, Some, None, Result, Ok, Err}
 use Rattle.std.proofs.lemmas.List.{length-take}
 use Rattle.relay_outside.specs.Heard.{Came}
 use Rattle.relay_outside.specs.declared.link.Said.{Said}
@@ -12,10 +12,12 @@ use Rattle.relay_session.specs.Turns.{is_nil, is_not_yet}
 use Rattle.relay_session.specs.declared.seat_answers.Made.{Made}
 use Rattle.relay_session.specs.declared.seat_answers.Made.TheVariants as made
 use Rattle.http_flv.specs.Keeping.{take_entry}
-use Rattle.http_flv.specs.Turns.{AfterJoin, AfterKept, IsSent, IsTaken, IsTried, JoinedBy, KeptOn, Life, SendBy, Sent, SentAs, TakeAsked, Taken, ToldBy, answer, gone_of, life, noted, told}
+use Rattle.http_flv.specs.Turns.{AfterJoin, AfterKept, IsJoined, IsSent, IsTaken, IsTried, JoinedBy, KeptOn, Life, PlaceBy, SendBy, Sent, SentAs, TakeAsked, Taken, ToldBy, answer, gone_of, life, noted, told, unheard}
 use Rattle.http_flv.specs.declared.core_fields.Core.{Core}
 use Rattle.http_flv.specs.declared.end.HttpEnd.{HttpEnd}
 use Rattle.http_flv.specs.declared.end.HttpEnd.TheVariants as end
+use Rattle.http_flv.specs.declared.stage.Stage.{Stage}
+use Rattle.http_flv.specs.declared.stage.Stage.TheVariants as stage
 use Rattle.http_flv.specs.declared.turn.HttpTurn.{HttpTurn}
 use Rattle.http_flv.specs.declared.turn.HttpTurn.TheVariants.{Idle, Ended}
 
@@ -38,6 +40,24 @@ module _ {P S : Type 0} (asks : P → S → ℕ → Entry → Made → P → S �
     came = made.Answer r;
     asked = subst (λ (m : ℕ). asks v.port v.seat place (take_entry v.parts.who m player) (made.Answer r) w.port w.seat) e k;
     taken = inr (ap gone_of (subst (λ (m : ℕ). w.parts ≡ noted v.parts (take_entry v.parts.who m player) r) e i), f);
+  }
+
+  -- a Join was made, and heard or not
+  pub tried_heard : (v w : Life P S) (place : ℕ) (e : Entry) (r : Reply) → v.parts.stage ≡ stage.Joining place → asks v.port v.seat place e (made.Answer r) w.port w.seat → IsJoined place v.parts e r w.parts → IsTried asks v e (Ok true) w
+  tried_heard v w place e r s k i = record {
+    place = place;
+    came = made.Answer r;
+    asked = record { there = subst (λ (t : Stage). PlaceBy t place) (sym s) refl; asked = k };
+    became = inl (refl, i);
+  }
+
+  pub tried_unheard : (v w : Life P S) (place : ℕ) (e : Entry) (r : Reply) → v.parts.stage ≡ stage.Joining place → asks v.port v.seat place e (made.Answer r) w.port w.seat → gone_of w.parts ≡ gone_of (unheard v.parts e r)
+      → IsTried asks v e (Err end.OutOfMemory) w
+  tried_unheard v w place e r s k i = record {
+    place = place;
+    came = made.Answer r;
+    asked = record { there = subst (λ (t : Stage). PlaceBy t place) (sym s) refl; asked = k };
+    became = inr (refl, i);
   }
 
   -- a call that waited is the one that was tried

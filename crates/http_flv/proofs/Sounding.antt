@@ -1,5 +1,5 @@
 -- What a player keeps stays sound when a head is read
-use Rattle.std.proofs.Common.{◌≡◌, ◌≤◌, ◌<◌, ℕ, ◌+◌, Bool, true, false, List, [], ◌++◌, length, length-append, refl, sym, ap, ◌∙◌, subst, arith, Option, Some, None}
+use Rattle.std.proofs.Common.{◌≡◌, ◌≤◌, ◌<◌, ℕ, ◌+◌, nat_le, Bool, true, false, if◌then◌else◌, List, [], ◌++◌, length, length-append, refl, sym, ap, ◌∙◌, subst, arith, Option, Some, None}
 use Rattle.av_unit.specs.declared.item.Item.{Item}
 use Rattle.av_unit.specs.declared.item.Item.TheVariants.{Begin, Unit as AUnit, End}
 use Rattle.av_unit.specs.Classes.{message_type}
@@ -11,10 +11,12 @@ use Rattle.flv_tags.specs.Written.{back_bytes, head_bytes}
 use Rattle.http_request.specs.Heads.{Asks, IsRead, Refused, Unfinished, Verdict}
 use Rattle.http_request.specs.Targets.{Target, is_get_method, target_of}
 use Rattle.stream_model.specs.Held.{body_of}
+use Rattle.stream_model.specs.declared.calls.Call.{Call}
+use Rattle.stream_model.specs.declared.calls.Call.TheVariants as call
 use Rattle.stream_model.specs.declared.calls.Entry.{Entry}
 use Rattle.session_owed.specs.Talk.{Own, is_take}
 use Rattle.http_flv.specs.Deciding.{IsDecided}
-use Rattle.http_flv.specs.Keeping.{CallsBy, HasEnded, HeadBy, IsSound, KeptBy, stage_by}
+use Rattle.http_flv.specs.Keeping.{CallsBy, HasEnded, HeadBy, IsSound, KeptBy, join_entry, stage_by}
 use Rattle.http_flv.specs.Out.{Decision, JoinAt, Later, Tell, by_grant, by_method, by_target, decide}
 use Rattle.http_flv.specs.PlayerState.{IsLiving}
 use Rattle.http_flv.specs.Sending.{size_of}
@@ -28,6 +30,14 @@ use Rattle.http_flv.specs.declared.stage.Stage.TheVariants as stage
 abbrev pub NoTake : Option Entry → Type 0
 NoTake None = Unit {0}
 NoTake (Some e) = is_take e.call ≡ false
+
+either_takes : (b : Bool) (x y : Call) → is_take x ≡ false → is_take y ≡ false → is_take (if b then x else y) ≡ false
+either_takes true x y e f = e
+either_takes false x y e f = f
+
+-- a Join of a broadcast is none
+pub join_takes : (who at : ℕ) (name : List ℕ) → NoTake (Some (join_entry who at name))
+join_takes who at name = either_takes (nat_le (length name) 64) (call.JoinAs name) call.Join refl refl
 
 -- ---- the tag of an item
 
@@ -55,14 +65,14 @@ living_ended (Some e) c s = s
 
 -- ---- nothing is decided only while the head isn't whole
 
-grant_decides : (g : Grant) → by_grant g ≡ Later → ⊥
-grant_decides grant.NoName e = absurd (cc)
-grant_decides grant.Refused e = absurd (cc)
-grant_decides (grant.Place p) e = absurd (cc)
+grant_decides : (name : List ℕ) (g : Grant) → by_grant name g ≡ Later → ⊥
+grant_decides name grant.NoName e = absurd (cc)
+grant_decides name grant.Refused e = absurd (cc)
+grant_decides name (grant.Place p) e = absurd (cc)
 
 target_decides : (desk : Ask → Grant) (o : Option Target) → by_target desk o ≡ Later → ⊥
 target_decides desk None e = absurd (cc)
-target_decides desk (Some t) e = grant_decides _ e
+target_decides desk (Some t) e = grant_decides _ _ e
 
 method_decides : (desk : Ask → Grant) (b : Bool) (t : List ℕ) → by_method desk b t ≡ Later → ⊥
 method_decides desk false t e = absurd (cc)
@@ -81,27 +91,27 @@ later_short desk x dec i e = verdict_short desk x i.verdict i.read (sym i.is_it 
 done_stage : (dec : Decision) (c d : Core) → c.stage ≡ stage.Reading → IsDone dec c d → d.stage ≡ stage_by dec []
 done_stage Later c d e t = t.0 ∙ e
 done_stage (Tell r) c d e t = t.0
-done_stage (JoinAt p) c d e t = t.0
+done_stage (JoinAt p name) c d e t = t.0
 
 head_at : (dec : Decision) (h x k : List ℕ) → LeavesHead dec h k → h ≡ x → (dec ≡ Later → length x < 4096) → HeadBy (stage_by dec []) k x
 head_at Later h x k l e f = (l ∙ e, f refl)
 head_at (Tell r) h x k l e f = l
-head_at (JoinAt p) h x k l e f = l
+head_at (JoinAt p name) h x k l e f = l
 
 head_short : (dec : Decision) (h k : List ℕ) → LeavesHead dec h k → (dec ≡ Later → length h < 4096) → length k < 4096
 head_short Later h k l f = omega (arith, f refl, ap length l)
 head_short (Tell r) h k l f = omega (arith, ap length l)
-head_short (JoinAt p) h k l f = omega (arith, ap length l)
+head_short (JoinAt p name) h k l f = omega (arith, ap length l)
 
 kept_at : (dec : Decision) (c d : Core) → IsDone dec c d → c.kept ≡ None → KeptBy (stage_by dec []) c.who (length d.x) d.kept
 kept_at Later c d t e = t.1 ∙ e
 kept_at (Tell r) c d t e = t.1 ∙ e
-kept_at (JoinAt p) c d t e = t.1
+kept_at (JoinAt p name) c d t e = (name, t.1)
 
 calls_at : (dec : Decision) (calls : List Own) → calls ≡ [] → CallsBy (stage_by dec []) calls
 calls_at Later calls e = e
 calls_at (Tell r) calls e = tt
-calls_at (JoinAt p) calls e = e
+calls_at (JoinAt p name) calls e = e
 
 -- with bytes of a head more
 abbrev pub grown : Core → List ℕ → Core
@@ -141,6 +151,6 @@ kept_no_take c s = by_stage c.stage s.kept
   where
     by_stage : (st : Stage) → KeptBy st c.who (length c.x) c.kept → NoTake c.kept
     by_stage stage.Reading k = subst NoTake (sym k) tt
-    by_stage (stage.Joining place) k = subst NoTake (sym k) refl
+    by_stage (stage.Joining place) k = subst NoTake (sym k.1) (join_takes c.who (length c.x) k.0)
     by_stage (stage.Telling r) k = subst NoTake (sym k) tt
     by_stage (stage.Playing place player) k = subst NoTake (sym k) tt

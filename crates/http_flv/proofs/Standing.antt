@@ -78,7 +78,7 @@ sent_stands desk c d n i s =
 quiet_owed : (d : Decision) → stage_by d [] ≡ stage.Reading → owed_by d [] ≡ []
 quiet_owed Later e = refl
 quiet_owed (Tell r) e = absurd (cc)
-quiet_owed (JoinAt p) e = refl
+quiet_owed (JoinAt p name) e = refl
 
 -- before anything is decided nothing is owed
 pub reading_owes : (desk : Ask → Grant) (c : Core) → c.stage ≡ stage.Reading → c.calls ≡ [] → StandsBefore desk c → c.sent ++ c.out.left ≡ []
@@ -90,12 +90,12 @@ reading_owes desk c es ec s =
 done_stage : (dec : Decision) (c d : Core) → c.stage ≡ stage.Reading → IsDone dec c d → d.stage ≡ stage_by dec []
 done_stage Later c d e t = t.0 ∙ e
 done_stage (Tell r) c d e t = t.0
-done_stage (JoinAt p) c d e t = t.0
+done_stage (JoinAt p name) c d e t = t.0
 
 done_owes : (dec : Decision) (c d : Core) → d.sent ≡ [] → c.out.left ≡ [] → IsDone dec c d → d.sent ++ d.out.left ≡ owed_by dec []
 done_owes Later c d e f t = app_eq d.sent d.out.left [] [] e (ap (λ o. o.left) t.2 ∙ f)
 done_owes (Tell r) c d e f t = app_eq d.sent d.out.left [] _ e t.2
-done_owes (JoinAt p) c d e f t = app_eq d.sent d.out.left [] [] e (ap (λ o. o.left) t.2 ∙ f)
+done_owes (JoinAt p name) c d e f t = app_eq d.sent d.out.left [] [] e (ap (λ o. o.left) t.2 ∙ f)
 
 pub heard_stands : (desk : Ask → Grant) (c d : Core) (b : List ℕ) → c.stage ≡ stage.Reading → c.calls ≡ [] → IsHeard desk c b d → StandsBefore desk c → StandsBefore desk d
 heard_stands desk c d b es ec h s =
@@ -112,22 +112,23 @@ heard_stands desk c d b es ec h s =
 
 -- ---- the Join was answered
 
-joining_is : (st : Stage) (dec : Decision) (place : ℕ) → PlaceBy st place → st ≡ stage_by dec [] → dec ≡ JoinAt place
+joining_is : (st : Stage) (dec : Decision) (place : ℕ) → PlaceBy st place → st ≡ stage_by dec [] → (name : List ℕ) × (dec ≡ JoinAt place name)
 joining_is st Later place p e = absurd (subst (λ (s : Stage). PlaceBy s place) e p)
 joining_is st (Tell r) place p e = absurd (subst (λ (s : Stage). PlaceBy s place) e p)
-joining_is st (JoinAt q) place p e = let same : q ≡ place = subst (λ (s : Stage). PlaceBy s place) e p in ap JoinAt same
+joining_is st (JoinAt q name) place p e = let same : q ≡ place = subst (λ (s : Stage). PlaceBy s place) e p in (name, ap (λ (k : ℕ). JoinAt k name) same)
 
 -- it is joining as was decided, and nothing was sent
 pub record Joins (desk : Ask → Grant) (c : Core) (place : ℕ) (s : StandsBefore desk c) : Type 0 where
-  pub decision : decide desk s.verdict ≡ JoinAt place
+  pub name : List ℕ
+  pub decision : decide desk s.verdict ≡ JoinAt place name
   pub sent : c.sent ≡ []
 
 pub joins : (desk : Ask → Grant) (c : Core) (place : ℕ) → PlaceBy c.stage place → c.calls ≡ [] → (s : StandsBefore desk c) → Joins desk c place s
 joins desk c place p ec s =
     let d = decide desk s.verdict in
-    let e : d ≡ JoinAt place = joining_is c.stage d place p (s.stage ∙ ap (λ (k : List Own). stage_by d k) ec) in
-    let none : c.sent ++ c.out.left ≡ [] = s.owes ∙ ap (λ (k : List Own). owed_by d k) ec ∙ ap (λ (x : Decision). owed_by x []) e in
-    record { decision = e; sent = nil_first c.sent c.out.left none }
+    let e = joining_is c.stage d place p (s.stage ∙ ap (λ (k : List Own). stage_by d k) ec) in
+    let none : c.sent ++ c.out.left ≡ [] = s.owes ∙ ap (λ (k : List Own). owed_by d k) ec ∙ ap (λ (x : Decision). owed_by x []) e.1 in
+    record { name = e.0; decision = e.1; sent = nil_first c.sent c.out.left none }
 
 pub joined_stands : (desk : Ask → Grant) (c d : Core) (place : ℕ) (e : Entry) (r : Reply) → PlaceBy c.stage place → c.calls ≡ [] → IsJoined place c e r d → StandsBefore desk c → StandsBefore desk d
 joined_stands desk c d place e r p ec i s =
@@ -163,6 +164,7 @@ reply_items (reply.NotPublisher live) = refl
 reply_items (reply.Ended n) = refl
 reply_items (reply.Joined player from) = refl
 reply_items reply.Full = refl
+reply_items (reply.NoSlot slots) = refl
 reply_items reply.NotPlayer = refl
 reply_items (reply.Skip from to) = refl
 reply_items (reply.NotYet end) = refl
@@ -186,6 +188,7 @@ after_more p (reply.Pushed n) takes e r i = absurd i
 after_more p (reply.NotPublisher live) takes e r i = absurd i
 after_more p (reply.Ended n) takes e r i = absurd i
 after_more p reply.Full takes e r i = absurd i
+after_more p (reply.NoSlot slots) takes e r i = absurd i
 after_more p reply.NotPlayer takes e r i = absurd i
 after_more p (reply.Skip from to) takes e r i = absurd i
 after_more p (reply.NotYet end) takes e r i = absurd i
@@ -200,8 +203,8 @@ pub record Grows (dec : Decision) (calls : List Own) (e : Entry) (r : Reply) : T
 pub grows : (dec : Decision) (calls : List Own) (e : Entry) (r : Reply) → IsPlaying (stage_by dec calls) → Grows dec calls e r
 grows Later calls e r i = absurd i
 grows (Tell f) calls e r i = absurd i
-grows (JoinAt p) [] e r i = absurd i
-grows (JoinAt p) (c ∷ takes) e r i = record { stage = refl; owed = after_more p c.1 takes e r i }
+grows (JoinAt p name) [] e r i = absurd i
+grows (JoinAt p name) (c ∷ takes) e r i = record { stage = refl; owed = after_more p c.1 takes e r i }
 
 playing_by : (desk : Ask → Grant) (c : Core) (s : StandsBefore desk c) → IsPlaying c.stage → IsPlaying (stage_by (decide desk s.verdict) c.calls)
 playing_by desk c s i = subst IsPlaying s.stage i
@@ -270,6 +273,7 @@ told_after p (reply.InUse by) takes r e = ap (λ (s : Stage). text_of (no_of s))
 told_after p (reply.Pushed n) takes r e = ap (λ (s : Stage). text_of (no_of s)) e
 told_after p (reply.NotPublisher live) takes r e = ap (λ (s : Stage). text_of (no_of s)) e
 told_after p (reply.Ended n) takes r e = ap (λ (s : Stage). text_of (no_of s)) e
+told_after p (reply.NoSlot slots) takes r e = ap (λ (s : Stage). text_of (no_of s)) e
 told_after p reply.Full takes r e = ap (λ (s : Stage). text_of (no_of s)) e
 told_after p reply.NotPlayer takes r e = ap (λ (s : Stage). text_of (no_of s)) e
 told_after p (reply.Skip from to) takes r e = ap (λ (s : Stage). text_of (no_of s)) e
@@ -280,8 +284,8 @@ told_after p (reply.Counts began pushed ended joined skips) takes r e = ap (λ (
 told_owed : (dec : Decision) (calls : List Own) (r : Refusal) → stage_by dec calls ≡ stage.Telling r → owed_by dec calls ≡ text_of r
 told_owed Later calls r e = absurd (cc)
 told_owed (Tell f) calls r e = ap (λ (s : Stage). text_of (no_of s)) e
-told_owed (JoinAt p) [] r e = absurd (cc)
-told_owed (JoinAt p) (c ∷ takes) r e = told_after p c.1 takes r e
+told_owed (JoinAt p name) [] r e = absurd (cc)
+told_owed (JoinAt p name) (c ∷ takes) r e = told_after p c.1 takes r e
 
 pub told_stands : (desk : Ask → Grant) (c : Core) (code : ℕ) → told c ≡ Some code → StandsBefore desk c → IsTold desk code c
 told_stands desk c code e s =

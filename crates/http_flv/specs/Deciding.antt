@@ -10,7 +10,7 @@ use Rattle.http_flv.specs.declared.decision.Decision.TheVariants as decision
 abbrev pub decided : Decision → out.Decision
 decided decision.Later = out.Later
 decided (decision.Tell r) = out.Tell r
-decided (decision.Join place) = out.JoinAt place
+decided (decision.Join place name) = out.JoinAt place name
 
 -- it is what a verdict on the bytes makes before this desk
 pub record IsDecided (desk : Ask → Grant) (x : List ℕ) (d : out.Decision) : Type 0 where

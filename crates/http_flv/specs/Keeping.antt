@@ -3,6 +3,7 @@ use Rattle.std.specs.Prelude.{◌≡◌, ◌<◌, ◌≤◌, ℕ, ◌+◌, true,
 use Rattle.av_unit.specs.declared.head.Want.{Want}
 use Rattle.command_dialog.specs.declared.types.Ask.{Ask}
 use Rattle.command_dialog.specs.declared.types.Grant.{Grant}
+use Rattle.command_dialog.specs.Dialog.{named}
 use Rattle.http_request.specs.declared.answer.Refusal.{Refusal}
 use Rattle.http_request.specs.declared.answer.Refusal.TheVariants.{ServiceUnavailable}
 use Rattle.http_request.specs.Heads.{IsRead, Verdict, most_bytes}
@@ -34,12 +35,13 @@ joined_at place (c ∷ takes) = after_join place c.1
 abbrev pub stage_by : Decision → List Own → Stage
 stage_by Later calls = stage.Reading
 stage_by (Tell r) calls = stage.Telling r
-stage_by (JoinAt place) calls = joined_at place calls
+stage_by (JoinAt place name) calls = joined_at place calls
 
 -- ---- its calls
 
-abbrev pub join_entry : ℕ → ℕ → Entry
-join_entry who at = record { who = who; at = at; call = call.Join }
+-- a Join of the broadcast of that name
+abbrev pub join_entry : ℕ → ℕ → List ℕ → Entry
+join_entry who at name = record { who = who; at = at; call = named call.JoinAs call.Join name }
 
 -- a Take wants sound and pictures
 abbrev pub all : Want
@@ -60,7 +62,7 @@ HeadBy (stage.Playing place player) head x = head ≡ []
 -- its Join waits until it is answered
 abbrev pub KeptBy : Stage → ℕ → ℕ → Option Entry → Type 0
 KeptBy stage.Reading who at kept = kept ≡ None
-KeptBy (stage.Joining place) who at kept = kept ≡ Some (join_entry who at)
+KeptBy (stage.Joining place) who at kept = (name : List ℕ) × (kept ≡ Some (join_entry who at name))
 KeptBy (stage.Telling r) who at kept = kept ≡ None
 KeptBy (stage.Playing place player) who at kept = kept ≡ None
 

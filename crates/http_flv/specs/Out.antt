@@ -22,22 +22,22 @@ pub data Decision : Type 0 where
   Later : Decision
   -- it is told no
   Tell : Refusal → Decision
-  -- the stream at this place is joined
-  JoinAt : ℕ → Decision
+  -- the broadcast of this name at this place is joined
+  JoinAt : ℕ → List ℕ → Decision
 
 -- a target asks as a play does
 abbrev pub ask_of : Target → Ask
 ask_of t = record { role = Play; app = t.app; name = t.name; key = t.key }
 
 -- no place has the names; the key isn't allowed; the place
-abbrev pub by_grant : Grant → Decision
-by_grant grant.NoName = Tell NotFound
-by_grant grant.Refused = Tell Forbidden
-by_grant (grant.Place p) = JoinAt p
+abbrev pub by_grant : List ℕ → Grant → Decision
+by_grant name grant.NoName = Tell NotFound
+by_grant name grant.Refused = Tell Forbidden
+by_grant name (grant.Place p) = JoinAt p name
 
 abbrev pub by_target : (Ask → Grant) → Option Target → Decision
 by_target desk None = Tell NotFound
-by_target desk (Some t) = by_grant (desk (ask_of t))
+by_target desk (Some t) = by_grant t.name (desk (ask_of t))
 
 abbrev pub by_method : (Ask → Grant) → Bool → List ℕ → Decision
 by_method desk false target = Tell MethodNotAllowed
@@ -71,7 +71,7 @@ owed_joined (c ∷ takes) = owed_after c.1 takes
 abbrev pub owed_by : Decision → List Own → List ℕ
 owed_by Later calls = []
 owed_by (Tell r) calls = text_of r
-owed_by (JoinAt p) calls = owed_joined calls
+owed_by (JoinAt p name) calls = owed_joined calls
 
 -- THESE BYTES ARE OWED for the bytes that came and these calls, before this desk
 pub record IsOwed (desk : Ask → Grant) (x : List ℕ) (calls : List Own) (out : List ℕ) : Type 0 where

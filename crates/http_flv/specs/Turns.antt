@@ -70,13 +70,13 @@ IsUnheard c b d = (gone_of d ≡ gone_of c) ⊎ ((verdict : Verdict) × (IsRead 
 abbrev pub IsDone : Decision → Core → Core → Type 0
 IsDone Later c d = d.stage ≡ c.stage × (d.kept ≡ c.kept) × (d.out ≡ c.out)
 IsDone (Tell r) c d = d.stage ≡ stage.Telling r × (d.kept ≡ c.kept) × (d.out.left ≡ text_of r)
-IsDone (JoinAt place) c d = d.stage ≡ stage.Joining place × (d.kept ≡ Some (join_entry c.who (length d.x))) × (d.out ≡ c.out)
+IsDone (JoinAt place name) c d = d.stage ≡ stage.Joining place × (d.kept ≡ Some (join_entry c.who (length d.x) name)) × (d.out ≡ c.out)
 
 -- a head is kept as long as nothing is decided
 abbrev pub LeavesHead : Decision → List ℕ → List ℕ → Type 0
 LeavesHead Later head head' = head' ≡ head
 LeavesHead (Tell r) head head' = head' ≡ []
-LeavesHead (JoinAt place) head head' = head' ≡ []
+LeavesHead (JoinAt place name) head head' = head' ≡ []
 
 -- bytes of a head came, and were read before this desk
 pub record IsHeard (desk : Ask → Grant) (c : Core) (b : List ℕ) (d : Core) : Type 0 where

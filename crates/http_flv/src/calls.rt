@@ -1,4 +1,5 @@
 //! The calls of a player at a stream.
+ghost use Rattle.stream_registry.specs.Names.{places};
 ghost use Rattle.std.specs.Prelude.{◌≡◌, ◌||◌, length, None, Some};
 ghost use Rattle.command_dialog.specs.declared.types.Ask.{Ask};
 ghost use Rattle.command_dialog.specs.declared.types.Grant.{Grant};
@@ -41,6 +42,7 @@ fn finds_nothing(reply: &Reply) -> bool
         Reply::Ended { .. } => false,
         Reply::Joined { .. } => false,
         Reply::Full => false,
+        Reply::NoSlot { .. } => false,
         Reply::NotPlayer => false,
         Reply::Sent { .. } => false,
         Reply::Skip { .. } => false,
@@ -70,9 +72,9 @@ pub(crate) fn make<P: StreamPort>(
     alloc: Global,
     entry: Entry,
 ) -> Result<bool, HttpEnd>
-    requires at { IsAt (P.fits port.old) (length (P.rules port.old).names) (waiting body.old.core entry) body.old.seat }
+    requires at { IsAt (P.fits port.old) (places (P.rules port.old)) (waiting body.old.core entry) body.old.seat }
     requires sound { IsSound (waiting body.old.core entry) }
-    ensures at { IsAt (P.fits port.new) (length (P.rules port.new).names) body.new.core body.new.seat }
+    ensures at { IsAt (P.fits port.new) (places (P.rules port.new)) body.new.core body.new.seat }
     ensures sound { LivesTried body.new.core result }
     ensures stands { (desk : Ask → Grant) → StandsBefore desk (waiting body.old.core entry) → LeavesTried desk body.new.core result }
     ensures fixed { P.rules port.new ≡ P.rules port.old }
@@ -112,10 +114,10 @@ pub(crate) fn take<P: StreamPort>(
     player: u32,
     moved: bool,
 ) -> HttpTurn
-    requires at { IsAt (P.fits port.old) (length (P.rules port.old).names) body.old.core body.old.seat }
+    requires at { IsAt (P.fits port.old) (places (P.rules port.old)) body.old.core body.old.seat }
     requires sound { IsSound body.old.core }
     requires takes { takes body.old.core ≡ Some (place, player) }
-    ensures at { IsAt (P.fits port.new) (length (P.rules port.new).names) body.new.core body.new.seat }
+    ensures at { IsAt (P.fits port.new) (places (P.rules port.new)) body.new.core body.new.seat }
     ensures sound { Lives body.new.core result }
     ensures stands { (desk : Ask → Grant) → StandsBefore desk body.old.core → Leaves desk body.new.core result }
     ensures taken { TakeAsked (Asked P.fits P.rules P.root P.seen P.count P.wants P.busies)

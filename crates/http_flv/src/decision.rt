@@ -12,14 +12,14 @@ use relay_session::Desk;
 use std::alloc::Global;
 
 /// What is to be done about a request.
-#[derive(Clone, Copy, Debug, PartialEq, Eq)]
+#[derive(Debug, PartialEq, Eq, Drop)]
 pub enum Decision {
     /// Nothing yet.
     Later,
     /// It is told no.
     Tell(Refusal),
-    /// The stream at this place is joined.
-    Join(u32),
+    /// The broadcast of that name at this place is joined.
+    Join { place: u32, name: Bytes },
 }
 
 // A copy of a text.
@@ -43,14 +43,14 @@ fn ask_of(alloc: Global, names: &Names<'_>) -> Result<Ask, OutOfMemory>
     })
 }
 
-// What a grant makes of it.
-fn by_grant(grant: Grant) -> Decision
-    ensures { decided result ≡ out.by_grant grant }
+// What a grant makes of the request for a broadcast of that name.
+fn by_grant(name: Bytes, grant: Grant) -> Decision
+    ensures { decided result ≡ out.by_grant name grant }
 {
     match grant {
         Grant::NoName => Decision::Tell(Refusal::NotFound),
         Grant::Refused => Decision::Tell(Refusal::Forbidden),
-        Grant::Place(place) => Decision::Join(place),
+        Grant::Place(place) => Decision::Join { place, name },
     }
 }
 
@@ -66,7 +66,9 @@ fn by_names<D: Desk>(
         None => Ok(Decision::Tell(Refusal::NotFound)),
         Some(names) => {
             let ask = ask_of(alloc, &names)?;
-            Ok(by_grant(desk.grant(&ask)))
+            let grant = desk.grant(&ask);
+            let Ask { name, .. } = ask;
+            Ok(by_grant(name, grant))
         }
     }
 }

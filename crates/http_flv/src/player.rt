@@ -1,3 +1,4 @@
+ghost use Rattle.stream_registry.specs.Names.{places};
 ghost use Rattle.std.specs.Prelude.{◌≡◌, ◌≤◌, ℕ, [], length, None, Some};
 ghost use Rattle.command_dialog.specs.declared.types.Ask.{Ask};
 ghost use Rattle.command_dialog.specs.declared.types.Grant.{Grant};
@@ -13,7 +14,7 @@ ghost use Rattle.http_flv.specs.declared.stage.Stage.TheVariants.{Reading};
 use crate::body::Body;
 use crate::steps::new_core;
 use crate::turns::kept_on;
-use crate::{HttpEnd, HttpTurn};
+use crate::{HttpEnd, HttpTurn, Stage};
 use relay_base::Limits;
 use relay_outside::Link;
 use relay_session::{Desk, Leaving, Seat};
@@ -88,9 +89,9 @@ impl<P: StreamPort> HttpPlayer<P> {
         link: &mut L,
         desk: &D,
     ) -> HttpTurn
-        requires at { IsAt (P.fits port.old) (length (P.rules port.old).names) self.old.parts self.old.seat }
-        requires offered { IsOffered (D.grants desk.now) (length (P.rules port.old).names) }
-        ensures at { IsAt (P.fits port.new) (length (P.rules port.new).names) self.new.parts self.new.seat }
+        requires at { IsAt (P.fits port.old) (places (P.rules port.old)) self.old.parts self.old.seat }
+        requires offered { IsOffered (D.grants desk.now) (places (P.rules port.old)) }
+        ensures at { IsAt (P.fits port.new) (places (P.rules port.new)) self.new.parts self.new.seat }
         ensures turn { EndedBy (Asked P.fits P.rules P.root P.seen P.count P.wants P.busies) (D.grants desk.now) L.hears L.says self.old.ended
             (life_at self.old port.old) link.old result (life_at self.new port.new) link.new }
         ensures ended { self.new.ended ≡ ended_by result }
@@ -139,6 +140,13 @@ impl<P: StreamPort> HttpPlayer<P> {
             .leave(port, who, fed, &mut self.body.core.kept)
     }
 
+    /// How far it is.
+    pub fn stage(&self) -> Stage
+        ensures { result ≡ self.now.parts.stage }
+    {
+        self.body.core.stage
+    }
+
     /// How many bytes it holds: of a head that isn't whole, and of the text or the item that is being sent, which counts whole.
     pub fn held(&self) -> u64
         ensures holds { result ≡ held_of self.now.parts }
@@ -160,6 +168,6 @@ impl<P: StreamPort> HttpPlayer<P> {
     /// Where others have made calls at the same port, a player belongs to it as before.
     pub fn others_law()
         ensures { (x y : P) (s : PlayerState P.Pass) → P.rules y ≡ P.rules x → ((q : ℕ) (p : P.Pass) → P.fits x q p → P.fits y q p)
-            → IsAt (P.fits x) (length (P.rules x).names) s.parts s.seat → IsAt (P.fits y) (length (P.rules y).names) s.parts s.seat }
+            → IsAt (P.fits x) (places (P.rules x)) s.parts s.seat → IsAt (P.fits y) (places (P.rules y)) s.parts s.seat }
     {}
 }

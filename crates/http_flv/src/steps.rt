@@ -13,12 +13,13 @@ use crate::decision::{Decision, decide};
 use crate::texts::{no_text, tag_text, yes_text};
 use crate::{Core, Outbox, Stage};
 use av_unit::{Bytes, OutOfMemory};
+use command_dialog::Act;
 use http_request::{Refusal, nothing_is_unfinished};
 use past::{Flow, Pair};
 use relay_session::Desk;
 use std::alloc::Global;
 use std::snapshot::Snapshot;
-use stream_model::{Call, Entry, Reply};
+use stream_model::{Entry, Reply};
 
 /// A player of this name that has received nothing. It sends units of at most `longest` bytes.
 pub(crate) fn new_core(alloc: Global, who: u64, longest: u32) -> Core
@@ -84,13 +85,14 @@ fn carry_out(core: &mut Core, alloc: Global, decision: Decision) -> Result<(), O
             core.stage = Stage::Telling { refusal };
             Ok(())
         }
-        Decision::Join(place) => {
+        Decision::Join { place, name } => {
+            let call = Act::Join { place, name }.into_call(alloc)?;
             core.head = Bytes::new(alloc);
             core.stage = Stage::Joining { place };
             core.kept = Some(Entry {
                 who: core.who,
                 at: core.fed,
-                call: Call::Join,
+                call,
             });
             Ok(())
         }
@@ -202,6 +204,7 @@ fn joined(alloc: Global, place: u32, reply: &Reply) -> Result<(Stage, Bytes), Ou
         | Reply::NotPublisher { .. }
         | Reply::Ended { .. }
         | Reply::Full
+        | Reply::NoSlot { .. }
         | Reply::NotPlayer
         | Reply::Sent { .. }
         | Reply::Skip { .. }
@@ -278,6 +281,7 @@ fn taken(alloc: Global, longest: u32, reply: &Reply) -> Result<Bytes, OutOfMemor
         | Reply::Ended { .. }
         | Reply::Joined { .. }
         | Reply::Full
+        | Reply::NoSlot { .. }
         | Reply::NotPlayer
         | Reply::Skip { .. }
         | Reply::NotYet { .. }

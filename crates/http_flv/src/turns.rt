@@ -1,4 +1,5 @@
 //! The steps of a turn, the last first. Each function does one step and those after it.
+ghost use Rattle.stream_registry.specs.Names.{places};
 ghost use Rattle.std.specs.Prelude.{◌≡◌, ◌≤◌, [], length, take, None};
 ghost use Rattle.command_dialog.specs.declared.types.Ask.{Ask};
 ghost use Rattle.command_dialog.specs.declared.types.Grant.{Grant};
@@ -68,9 +69,9 @@ fn told_whole(core: &Core) -> Option<u16>
 
 /// Step 6: one Take, where it is to be made.
 fn take_on<P: StreamPort>(body: &mut Body<P>, port: &mut P, alloc: Global, moved: bool) -> HttpTurn
-    requires at { IsAt (P.fits port.old) (length (P.rules port.old).names) body.old.core body.old.seat }
+    requires at { IsAt (P.fits port.old) (places (P.rules port.old)) body.old.core body.old.seat }
     requires sound { IsSound body.old.core }
-    ensures at { IsAt (P.fits port.new) (length (P.rules port.new).names) body.new.core body.new.seat }
+    ensures at { IsAt (P.fits port.new) (places (P.rules port.new)) body.new.core body.new.seat }
     ensures sound { Lives body.new.core result }
     ensures stands { (desk : Ask → Grant) → StandsBefore desk body.old.core → Leaves desk body.new.core result }
     ensures turn { Taken (Asked P.fits P.rules P.root P.seen P.count P.wants P.busies)
@@ -84,9 +85,9 @@ fn take_on<P: StreamPort>(body: &mut Body<P>, port: &mut P, alloc: Global, moved
 
 /// The Join that a head asked for, and step 6.
 fn join_on<P: StreamPort>(body: &mut Body<P>, port: &mut P, alloc: Global) -> HttpTurn
-    requires at { IsAt (P.fits port.old) (length (P.rules port.old).names) body.old.core body.old.seat }
+    requires at { IsAt (P.fits port.old) (places (P.rules port.old)) body.old.core body.old.seat }
     requires sound { IsSound body.old.core }
-    ensures at { IsAt (P.fits port.new) (length (P.rules port.new).names) body.new.core body.new.seat }
+    ensures at { IsAt (P.fits port.new) (places (P.rules port.new)) body.new.core body.new.seat }
     ensures sound { Lives body.new.core result }
     ensures stands { (desk : Ask → Grant) → StandsBefore desk body.old.core → Leaves desk body.new.core result }
     ensures turn { JoinedBy (Asked P.fits P.rules P.root P.seen P.count P.wants P.busies) body.old.core.kept
@@ -109,12 +110,12 @@ fn hear_on<P: StreamPort, D: Desk>(
     alloc: Global,
     bytes: &[u8],
 ) -> HttpTurn
-    requires at { IsAt (P.fits port.old) (length (P.rules port.old).names) body.old.core body.old.seat }
+    requires at { IsAt (P.fits port.old) (places (P.rules port.old)) body.old.core body.old.seat }
     requires sound { IsSound body.old.core }
-    requires offered { IsOffered (D.grants desk.now) (length (P.rules port.old).names) }
+    requires offered { IsOffered (D.grants desk.now) (places (P.rules port.old)) }
     requires reading { body.old.core.stage ≡ Reading }
     requires few { length bytes.now ≤ 4096 }
-    ensures at { IsAt (P.fits port.new) (length (P.rules port.new).names) body.new.core body.new.seat }
+    ensures at { IsAt (P.fits port.new) (places (P.rules port.new)) body.new.core body.new.seat }
     ensures sound { Lives body.new.core result }
     ensures stands { StandsBefore (D.grants desk.now) body.old.core → Leaves (D.grants desk.now) body.new.core result }
     ensures turn { HeardBy (Asked P.fits P.rules P.root P.seen P.count P.wants P.busies) (D.grants desk.now) bytes.now
@@ -134,11 +135,11 @@ fn read_on<P: StreamPort, D: Desk>(
     alloc: Global,
     bytes: &[u8],
 ) -> HttpTurn
-    requires at { IsAt (P.fits port.old) (length (P.rules port.old).names) body.old.core body.old.seat }
+    requires at { IsAt (P.fits port.old) (places (P.rules port.old)) body.old.core body.old.seat }
     requires sound { IsSound body.old.core }
-    requires offered { IsOffered (D.grants desk.now) (length (P.rules port.old).names) }
+    requires offered { IsOffered (D.grants desk.now) (places (P.rules port.old)) }
     requires few { length bytes.now ≤ 4096 }
-    ensures at { IsAt (P.fits port.new) (length (P.rules port.new).names) body.new.core body.new.seat }
+    ensures at { IsAt (P.fits port.new) (places (P.rules port.new)) body.new.core body.new.seat }
     ensures sound { Lives body.new.core result }
     ensures stands { StandsBefore (D.grants desk.now) body.old.core → Leaves (D.grants desk.now) body.new.core result }
     ensures turn { ReadBy (Asked P.fits P.rules P.root P.seen P.count P.wants P.busies) (D.grants desk.now) body.old.core.stage bytes.now
@@ -162,10 +163,10 @@ fn input_on<P: StreamPort, D: Desk, L: Link>(
     alloc: Global,
     moved: bool,
 ) -> HttpTurn
-    requires at { IsAt (P.fits port.old) (length (P.rules port.old).names) body.old.core body.old.seat }
+    requires at { IsAt (P.fits port.old) (places (P.rules port.old)) body.old.core body.old.seat }
     requires sound { IsSound body.old.core }
-    requires offered { IsOffered (D.grants desk.now) (length (P.rules port.old).names) }
-    ensures at { IsAt (P.fits port.new) (length (P.rules port.new).names) body.new.core body.new.seat }
+    requires offered { IsOffered (D.grants desk.now) (places (P.rules port.old)) }
+    ensures at { IsAt (P.fits port.new) (places (P.rules port.new)) body.new.core body.new.seat }
     ensures sound { Lives body.new.core result }
     ensures stands { StandsBefore (D.grants desk.now) body.old.core → Leaves (D.grants desk.now) body.new.core result }
     ensures turn { Input (Asked P.fits P.rules P.root P.seen P.count P.wants P.busies) (D.grants desk.now) L.hears
@@ -189,10 +190,10 @@ fn send_on<P: StreamPort, D: Desk, L: Link>(
     alloc: Global,
     moved: bool,
 ) -> HttpTurn
-    requires at { IsAt (P.fits port.old) (length (P.rules port.old).names) body.old.core body.old.seat }
+    requires at { IsAt (P.fits port.old) (places (P.rules port.old)) body.old.core body.old.seat }
     requires sound { IsSound body.old.core }
-    requires offered { IsOffered (D.grants desk.now) (length (P.rules port.old).names) }
-    ensures at { IsAt (P.fits port.new) (length (P.rules port.new).names) body.new.core body.new.seat }
+    requires offered { IsOffered (D.grants desk.now) (places (P.rules port.old)) }
+    ensures at { IsAt (P.fits port.new) (places (P.rules port.new)) body.new.core body.new.seat }
     ensures sound { Lives body.new.core result }
     ensures stands { StandsBefore (D.grants desk.now) body.old.core → Leaves (D.grants desk.now) body.new.core result }
     ensures turn { Sent (Asked P.fits P.rules P.root P.seen P.count P.wants P.busies) (D.grants desk.now) L.hears L.says
@@ -223,10 +224,10 @@ pub(crate) fn kept_on<P: StreamPort, D: Desk, L: Link>(
     desk: &D,
     alloc: Global,
 ) -> HttpTurn
-    requires at { IsAt (P.fits port.old) (length (P.rules port.old).names) body.old.core body.old.seat }
+    requires at { IsAt (P.fits port.old) (places (P.rules port.old)) body.old.core body.old.seat }
     requires sound { IsSound body.old.core }
-    requires offered { IsOffered (D.grants desk.now) (length (P.rules port.old).names) }
-    ensures at { IsAt (P.fits port.new) (length (P.rules port.new).names) body.new.core body.new.seat }
+    requires offered { IsOffered (D.grants desk.now) (places (P.rules port.old)) }
+    ensures at { IsAt (P.fits port.new) (places (P.rules port.new)) body.new.core body.new.seat }
     ensures sound { Lives body.new.core result }
     ensures stands { StandsBefore (D.grants desk.now) body.old.core → Leaves (D.grants desk.now) body.new.core result }
     ensures turn { KeptOn (Asked P.fits P.rules P.root P.seen P.count P.wants P.busies) (D.grants desk.now) L.hears L.says body.old.core.kept

@@ -10,8 +10,8 @@ use Rattle.sha2.specs.Sha256.{sha256}
 use Rattle.key_guard.specs.declared.check.Grants.{Grants}
 use Rattle.key_guard.specs.declared.check.Grants.TheVariants.{Open, Keys}
 use Rattle.key_guard.specs.declared.check.Mode.{Mode}
-use Rattle.key_guard.specs.declared.check.Mode.TheVariants.{Plain, Digest}
-use Rattle.key_guard.specs.Allowed.{Allowed, Has, has, is_allowed}
+use Rattle.key_guard.specs.declared.check.Mode.TheVariants.{Plain, Digest, Named}
+use Rattle.key_guard.specs.Allowed.{Allowed, Has, for_name, has, is_allowed}
 
 -- one key more has been compared
 pub found_more : (found same all : Bool) (keys : List (List ℕ)) (i : ℕ) (key asked : List ℕ) → i < length keys → key ≡ get_or keys i key
@@ -29,6 +29,10 @@ has_is Open bytes = (λ _. tt, λ _. refl)
 has_is (Keys keys) bytes = (Contains-from_any (λ x y. (bytes_decides x y).0) bytes keys, list_any-from_Contains nat_list_eq_equiv bytes keys)
 
 -- an answer by the test is an answer by the meaning
-pub allowed_is : (r : Bool) (mode : Mode) (grants : Grants) (key : List ℕ) → r ≡ is_allowed mode grants key → IsTrue r ↔ Allowed mode grants key
-allowed_is r Plain grants key e = let (a, b) = has_is grants key in (λ h. a (sym e ∙ h), λ h. e ∙ b h)
-allowed_is r Digest grants key e = let (a, b) = has_is grants (sha256 key) in (λ h. a (sym e ∙ h), λ h. e ∙ b h)
+by_has : (r : Bool) (grants : Grants) (bytes : List ℕ) → r ≡ has grants bytes → IsTrue r ↔ Has grants bytes
+by_has r grants bytes e = let (a, b) = has_is grants bytes in (λ h. a (sym e ∙ h), λ h. e ∙ b h)
+
+pub allowed_is : (r : Bool) (mode : Mode) (grants : Grants) (name key : List ℕ) → r ≡ is_allowed mode grants name key → IsTrue r ↔ Allowed mode grants name key
+allowed_is r Plain grants name key e = by_has r grants key e
+allowed_is r Digest grants name key e = by_has r grants (sha256 key) e
+allowed_is r Named grants name key e = by_has r grants (sha256 (for_name name key)) e

@@ -1,7 +1,8 @@
 ghost use Rattle.std.specs.Prelude.{◌≡◌, ◌↔◌, IsTrue, nat_eq};
+ghost use Rattle.sha2.specs.Sha256.{sha256};
 ghost use Rattle.std.specs.List.{list_any};
 ghost use Rattle.std.specs.Cmp.Lexicographic.{pointwise};
-ghost use Rattle.key_guard.specs.Allowed.{Allowed, has, is_allowed};
+ghost use Rattle.key_guard.specs.Allowed.{Allowed, for_name, has, is_allowed};
 
 use av_unit::{Bytes, KeyList};
 use sha2::{Digest, Sha256};
@@ -22,6 +23,8 @@ pub enum Mode {
     Plain,
     /// The list has the 32 bytes of each key's SHA-256 digest.
     Digest,
+    /// The list has the 32 bytes of the SHA-256 digest of a name, the byte `:` and a key: that key for that name alone.
+    Named,
 }
 
 // Whether the two are the same bytes. Where they are as many, all are compared, whichever differ.
@@ -61,10 +64,10 @@ fn have(grants: &Grants, bytes: &[u8]) -> bool
 
 /// Whether the grants are open or have the key: what is allowed in mode `Plain`.
 ///
-/// The key is compared with every key of the list, and in full with each of its length.
-pub fn by_name(grants: &Grants, key: &[u8]) -> bool
-    ensures test { result ≡ is_allowed Mode.Plain grants.now key.now }
-    ensures allowed { IsTrue result ↔ Allowed Mode.Plain grants.now key.now }
+/// The key is compared with every key of the list, and in full with each of its length. The name isn't looked at.
+pub fn by_name(grants: &Grants, name: &[u8], key: &[u8]) -> bool
+    ensures test { result ≡ is_allowed Mode.Plain grants.now name.now key.now }
+    ensures allowed { IsTrue result ↔ Allowed Mode.Plain grants.now name.now key.now }
 {
     have(grants, key)
 }
@@ -72,10 +75,31 @@ pub fn by_name(grants: &Grants, key: &[u8]) -> bool
 /// Whether the grants are open or have the 32 bytes of the key's SHA-256 (FIPS 180-4): what is allowed in mode
 /// `Digest`.
 ///
-/// The digest is compared as `by_name` compares a key.
-pub fn by_digest(grants: &Grants, key: &[u8]) -> bool
-    ensures test { result ≡ is_allowed Mode.Digest grants.now key.now }
-    ensures allowed { IsTrue result ↔ Allowed Mode.Digest grants.now key.now }
+/// The digest is compared as `by_name` compares a key. The name isn't looked at.
+pub fn by_digest(grants: &Grants, name: &[u8], key: &[u8]) -> bool
+    ensures test { result ≡ is_allowed Mode.Digest grants.now name.now key.now }
+    ensures allowed { IsTrue result ↔ Allowed Mode.Digest grants.now name.now key.now }
 {
     have(grants, &Sha256::digest(key))
+}
+
+// The digest of a key for a name.
+fn digest_for(name: &[u8], key: &[u8]) -> [u8; 32]
+    ensures { result ≡ sha256 (for_name name.now key.now) }
+{
+    let mut hasher = Sha256::new_with_prefix(name);
+    hasher.update(b":".as_slice());
+    hasher.update(key);
+    hasher.finalize()
+}
+
+/// Whether the grants are open or have the 32 bytes of the SHA-256 (FIPS 180-4) of the name, the byte `:` and the key:
+/// what is allowed in mode `Named`. A key that is so kept for a name is taken for no other name.
+///
+/// The digest is compared as `by_name` compares a key.
+pub fn by_named(grants: &Grants, name: &[u8], key: &[u8]) -> bool
+    ensures test { result ≡ is_allowed Mode.Named grants.now name.now key.now }
+    ensures allowed { IsTrue result ↔ Allowed Mode.Named grants.now name.now key.now }
+{
+    have(grants, &digest_for(name, key))
 }

@@ -1,11 +1,11 @@
 ghost use Rattle.std.specs.Prelude.{◌≡◌, ◌↔◌, IsTrue};
 ghost use Rattle.key_guard.specs.Allowed.{Allowed, is_allowed};
-ghost use Rattle.key_guard.specs.declared.check.Mode.TheVariants.{Plain, Digest};
+ghost use Rattle.key_guard.specs.declared.check.Mode.TheVariants.{Plain, Digest, Named};
 
 use crate::{Grants, Mode};
 
-/// A function that says whether grants allow a key.
-pub type Check = Box<dyn Fn(&Grants, &[u8]) -> bool + Send + Sync>;
+/// A function that says whether grants allow a key, by the grants, the name that is asked for and the key.
+pub type Check = Box<dyn Fn(&Grants, &[u8], &[u8]) -> bool + Send + Sync>;
 
 /// A function with the fact that it may be called on everything, and that it answers what is allowed in the
 /// guard's mode.
@@ -15,7 +15,7 @@ pub struct Guard {
     pub mode: Mode,
     check: Check,
     ghost callable: { Check.IsAlwaysCallable check },
-    ghost answers: { (grants : _) (key : _) (r : _) → Check.post check grants key r → r ≡ is_allowed mode grants.now key.now },
+    ghost answers: { (grants : _) (name : _) (key : _) (r : _) → Check.post check grants name key r → r ≡ is_allowed mode grants.now name.now key.now },
 }
 
 /// A guard for each mode.
@@ -23,28 +23,38 @@ pub struct Guard {
 pub struct Guards {
     pub plain: Guard,
     pub digest: Guard,
+    pub named: Guard,
     ghost plain_is: { plain.mode ≡ Plain },
     ghost digest_is: { digest.mode ≡ Digest },
+    ghost named_is: { named.mode ≡ Named },
 }
 
 impl Guards {
-    /// The two guards, each of its mode.
-    pub fn new(plain: Guard, digest: Guard) -> Guards
+    /// The three guards, each of its mode.
+    pub fn new(plain: Guard, digest: Guard, named: Guard) -> Guards
         requires plain_is { plain.mode ≡ Mode.Plain }
         requires digest_is { digest.mode ≡ Mode.Digest }
+        requires named_is { named.mode ≡ Mode.Named }
         ensures plain { result.plain ≡ plain }
         ensures digest { result.digest ≡ digest }
+        ensures named { result.named ≡ named }
     {
-        Guards { plain, digest }
+        Guards {
+            plain,
+            digest,
+            named,
+        }
     }
 
-    /// Whether the grants allow the key in that mode.
-    pub fn allows(&self, mode: Mode, grants: &Grants, key: &[u8]) -> bool
-        ensures { IsTrue result ↔ Allowed mode grants.now key.now }
+    /// Whether the grants allow the key for the name in that mode.
+    pub fn allows(&self, mode: Mode, grants: &Grants, name: &[u8], key: &[u8]) -> bool
+        ensures test { result ≡ is_allowed mode grants.now name.now key.now }
+        ensures allowed { IsTrue result ↔ Allowed mode grants.now name.now key.now }
     {
         match mode {
-            Mode::Plain => self.plain.allows(grants, key),
-            Mode::Digest => self.digest.allows(grants, key),
+            Mode::Plain => self.plain.allows(grants, name, key),
+            Mode::Digest => self.digest.allows(grants, name, key),
+            Mode::Named => self.named.allows(grants, name, key),
         }
     }
 }
@@ -53,23 +63,23 @@ impl Guard {
     /// The guard of a function.
     pub fn new(mode: Mode, check: Check) -> Guard
         requires callable { Check.IsAlwaysCallable check }
-        requires answers { (grants : _) (key : _) (r : _) → Check.post check grants key r → r ≡ is_allowed mode grants.now key.now }
+        requires answers { (grants : _) (name : _) (key : _) (r : _) → Check.post check grants name key r → r ≡ is_allowed mode grants.now name.now key.now }
         ensures { result.mode ≡ mode }
     {
         Guard { mode, check }
     }
 
-    /// Whether the grants allow the key in the guard's mode.
-    pub fn allows(&self, grants: &Grants, key: &[u8]) -> bool
-        ensures test { result ≡ is_allowed self.now.mode grants.now key.now }
-        ensures allowed { IsTrue result ↔ Allowed self.now.mode grants.now key.now }
+    /// Whether the grants allow the key for the name in the guard's mode.
+    pub fn allows(&self, grants: &Grants, name: &[u8], key: &[u8]) -> bool
+        ensures test { result ≡ is_allowed self.now.mode grants.now name.now key.now }
+        ensures allowed { IsTrue result ↔ Allowed self.now.mode grants.now name.now key.now }
     {
-        self.answer(grants, key)
+        self.answer(grants, name, key)
     }
 
-    fn answer(&self, grants: &Grants, key: &[u8]) -> bool
-        ensures { result ≡ is_allowed self.now.mode grants.now key.now }
+    fn answer(&self, grants: &Grants, name: &[u8], key: &[u8]) -> bool
+        ensures { result ≡ is_allowed self.now.mode grants.now name.now key.now }
     {
-        (self.check)(grants, key)
+        (self.check)(grants, name, key)
     }
 }

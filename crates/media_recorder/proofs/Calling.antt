@@ -7,7 +7,7 @@ use Rattle.std.specs.declared.result.Result.TheVariants.{Ok, Err}
 use Rattle.relay_outside.specs.declared.sink.Put.{Put}
 use Rattle.relay_outside.specs.declared.sink.Put.TheVariants as put
 use Rattle.av_unit.specs.declared.item.Item.{Item}
-use Rattle.stream_model.specs.declared.calls.StreamLimits.{StreamLimits}
+use Rattle.stream_model.specs.declared.calls.Shape.{Shape}
 use Rattle.stream_model.specs.declared.calls.Call.TheVariants as call
 use Rattle.stream_model.specs.declared.calls.Entry.{Entry}
 use Rattle.stream_model.specs.declared.replies.Reply.{Reply}
@@ -90,7 +90,7 @@ joins_worn (reply.Joined place from) turn player' end' j = (live end' j.0.1).1
 joins_worn reply.Full turn player' end' j = λ is. let n : Some end.Full ≡ Some end.Worn = sym j.0.1 ∙ is in cc
 joins_worn _ turn player' end' j = (live end' j.0.1).1
 
-module _ {Q : Type 0} (seen : Q → List Step) (mine : Q → List ℕ) (count : Q → ℕ) (limits : StreamLimits) (root : List Step) (busies busies' : ℕ) (entry : Entry) (before : Option Q) where
+module _ {Q : Type 0} (seen : Q → List Step) (mine : Q → List ℕ) (count : Q → ℕ) (limits : Shape) (root : List Step) (busies busies' : ℕ) (entry : Entry) (before : Option Q) where
   seen_all : (e : Entry) (pass : Option Q) → AskedIf seen mine count limits root busies busies' entry before (Err (fail.Worn e)) pass → HasSeen count (2 ^ 62) pass
   seen_all e None a = absurd a
   seen_all e (Some p) a = a.failed.1

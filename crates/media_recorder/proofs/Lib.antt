@@ -1,4 +1,5 @@
 pub mod Adding
+pub mod Fresh
 pub mod Standing
 pub mod Texts
 pub mod Parting

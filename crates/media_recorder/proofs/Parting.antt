@@ -2,7 +2,7 @@
 use Rattle.std.proofs.Common.{◌≡◌, ℕ, List, Option, Some, None, sym, subst}
 use Rattle.std.specs.declared.result.Result.{Result}
 use Rattle.std.specs.declared.result.Result.TheVariants.{Ok, Err}
-use Rattle.stream_model.specs.declared.calls.StreamLimits.{StreamLimits}
+use Rattle.stream_model.specs.declared.calls.Shape.{Shape}
 use Rattle.stream_model.specs.declared.calls.Entry.{Entry}
 use Rattle.stream_model.specs.declared.calls.Call.TheVariants as call
 use Rattle.stream_model.specs.declared.replies.Reply.{Reply}
@@ -25,7 +25,7 @@ seen_back seen root root' history (Some p) r b = b
 
 module _ {P Q : Type 0} (rules : P → PortRules) (root : P → Histories) (seen : Q → List Step) (mine : Q → List ℕ) where
   -- a pass whose calls stand in what it has seen is detached
-  pub parts : (limits : Q → StreamLimits) (fits : Q → Type 0) (port port' : P) (who place : ℕ) (pass : Option Q) (calls : List Step) → ((p : Q) → fits p → limits p ≡ (rules port).limits place)
+  pub parts : (limits : Q → Shape) (fits : Q → Type 0) (port port' : P) (who place : ℕ) (pass : Option Q) (calls : List Step) → ((p : Q) → fits p → limits p ≡ (rules port).limits place)
       → FitsIf fits pass → StandIf limits seen mine who pass calls → Begins (seen_of seen (root port place) pass) (root port' place)
       → Parts rules root seen mine port port' (record { who = who; place = place; pass = pass; calls = calls })
   parts limits fits port port' who place pass calls ruled f s b = record {

@@ -5,7 +5,7 @@ use Rattle.std.specs.declared.result.Result.TheVariants.{Ok, Err}
 use Rattle.relay_outside.specs.declared.sink.Put.{Put}
 use Rattle.relay_outside.specs.declared.sink.Put.TheVariants as put
 use Rattle.av_unit.specs.declared.item.Item.{Item}
-use Rattle.stream_model.specs.declared.calls.StreamLimits.{StreamLimits}
+use Rattle.stream_model.specs.declared.calls.Shape.{Shape}
 use Rattle.stream_model.specs.declared.calls.Entry.{Entry}
 use Rattle.stream_model.specs.declared.calls.Call.TheVariants as call
 use Rattle.stream_model.specs.declared.replies.Reply.{Reply}
@@ -28,7 +28,7 @@ empty_is : (bs : List ℕ) → is_empty bs ≡ true → bs ≡ []
 empty_is [] e = refl
 empty_is (b ∷ bs) e = cc
 
-module _ {Q : Type 0} (seen : Q → List Step) (mine : Q → List ℕ) (count : Q → ℕ) (limits : StreamLimits) (root : List Step) (busies busies' : ℕ) where
+module _ {Q : Type 0} (seen : Q → List Step) (mine : Q → List ℕ) (count : Q → ℕ) (limits : Shape) (root : List Step) (busies busies' : ℕ) where
   pub record IsLast (pass : Option Q) : Type 0 where
     pub numbers : List ℕ
     pub number : ℕ

@@ -4,13 +4,14 @@ use Rattle.std.specs.Prelude.{map, zero, suc}
 use Rattle.std.proofs.lemmas.List.{append-nil, map-append}
 use Rattle.std.proofs.lemmas.List.Elements.{All-push}
 use Rattle.std.proofs.lemmas.Option.{slice_get_within}
-use Rattle.stream_model.specs.declared.calls.StreamLimits.{StreamLimits}
+use Rattle.stream_model.specs.declared.calls.Shape.{Shape}
 use Rattle.turn_gate.specs.Histories.{Begins}
 use Rattle.stream_registry.specs.Told.{Step, Keeps}
 use Rattle.stream_registry.specs.Placed.{Placed}
 use Rattle.media_recorder.specs.Calls.{RiseFrom, Stand}
 use Rattle.media_recorder.specs.Ports.{FitsIf, seen_of, mine_of}
 use Rattle.media_recorder.specs.Seats.{StandIf}
+use Rattle.media_recorder.proofs.Fresh.{keeps_none}
 
 pub begins_same : {E : Type 0} (xs ys : List E) → ys ≡ xs → Begins xs ys
 begins_same xs ys e = ([], append-nil xs ∙ sym e)
@@ -75,21 +76,18 @@ rise_more k n [] l b r = (l, tt)
 rise_more k n (m ∷ ms) l b r = (r.0, rise_more (m + 1) n ms (omega (arith, b.0)) b.1 r.1)
 
 -- no calls stand in any history
-pub stand_none : (limits : StreamLimits) (who : ℕ) (seen : List Step) → Stand limits who seen [] []
+pub stand_none : (limits : Shape) (who : ℕ) (seen : List Step) → Stand limits who seen [] []
 stand_none limits who seen = record {
   known = [];
   first = (seen, refl);
-  keeps = record {
-    rules = tt;
-    viewers = λ player. record { rises = tt; content = tt; configured = tt; whole = tt; passed = λ n b. absurd (omega (arith, b.1)) };
-  };
+  keeps = keeps_none limits;
   rise = tt;
   calls_are = refl;
   own = λ k d l. absurd (omega (arith, l));
 }
 
 -- more was seen
-pub stand_later : (limits : StreamLimits) (who : ℕ) (seen seen' : List Step) (mine : List ℕ) (calls : List Step) → Begins seen seen' → Stand limits who seen mine calls → Stand limits who seen' mine calls
+pub stand_later : (limits : Shape) (who : ℕ) (seen seen' : List Step) (mine : List ℕ) (calls : List Step) → Begins seen seen' → Stand limits who seen mine calls → Stand limits who seen' mine calls
 stand_later limits who seen seen' mine calls b s = record {
   known = s.known;
   first = begins_trans s.known seen seen' s.first b;
@@ -100,7 +98,7 @@ stand_later limits who seen seen' mine calls b s = record {
 }
 
 -- one call more
-pub stand_more : (limits : StreamLimits) (who : ℕ) (root seen seen' : List Step) (mine mine' : List ℕ) (calls : List Step) (step : Step) → step.0.who ≡ who → Placed limits root seen mine step seen' mine' → Keeps limits seen' → Stand limits who seen mine calls → Stand limits who seen' mine' (calls ++ step ∷ [])
+pub stand_more : (limits : Shape) (who : ℕ) (root seen seen' : List Step) (mine mine' : List ℕ) (calls : List Step) (step : Step) → step.0.who ≡ who → Placed limits root seen mine step seen' mine' → Keeps limits seen' → Stand limits who seen mine calls → Stand limits who seen' mine' (calls ++ step ∷ [])
 stand_more limits who root seen seen' mine mine' calls step me p keeps s =
     let known = begins_trans s.known seen p.before s.first p.pass_first in
     let here : map (slice_get p.before) mine ≡ map Some calls = mapped_begins s.known p.before mine calls known s.calls_are in
@@ -115,32 +113,32 @@ stand_more limits who root seen seen' mine mine' calls step me p keeps s =
       own = All-push (λ (c : Step). c.0.who ≡ who) calls step s.own me;
     }
 
-module _ {Q : Type 0} (limits : Q → StreamLimits) (seen : Q → List Step) (mine : Q → List ℕ) (fits : Q → Type 0) (lim : StreamLimits) (ruled : (p : Q) → fits p → limits p ≡ lim) where
+module _ {Q : Type 0} (limits : Q → Shape) (seen : Q → List Step) (mine : Q → List ℕ) (fits : Q → Type 0) (lim : Shape) (ruled : (p : Q) → fits p → limits p ≡ lim) where
   -- a caller's calls stand in what its pass has seen, or in any history
   pub stand_if : (who : ℕ) (root : List Step) (pass : Option Q) (calls : List Step) → FitsIf fits pass → StandIf limits seen mine who pass calls → Stand lim who (seen_of seen root pass) (mine_of mine pass) calls
   stand_if who root None calls f s = subst (λ (c : List Step). Stand lim who root [] c) (sym s) (stand_none lim who root)
-  stand_if who root (Some p) calls f s = subst (λ (l : StreamLimits). Stand l who (seen p) (mine p) calls) (ruled p f) s
+  stand_if who root (Some p) calls f s = subst (λ (l : Shape). Stand l who (seen p) (mine p) calls) (ruled p f) s
 
   -- an answered call of a caller, whose pass was there or was just attached
-  pub seat_made : (who : ℕ) (root root' : List Step) (pass : Option Q) (calls calls' : List Step) (step : Step) (l l' : StreamLimits) (entered seen' : List Step) (numbers mine' : List ℕ)
+  pub seat_made : (who : ℕ) (root root' : List Step) (pass : Option Q) (calls calls' : List Step) (step : Step) (l l' : Shape) (entered seen' : List Step) (numbers mine' : List ℕ)
       → FitsIf fits pass → StandIf limits seen mine who pass calls → l ≡ lim → l' ≡ l → entered ≡ seen_of seen root pass → numbers ≡ mine_of mine pass → step.0.who ≡ who → calls' ≡ calls ++ step ∷ []
       → Placed l root' entered numbers step seen' mine' → Keeps l' seen' → Stand l' who seen' mine' calls'
   seat_made who root root' pass calls calls' step l l' entered seen' numbers mine' f s ruled_l same entered_is numbers_are me calls_are p keeps =
       let old : Stand lim who (seen_of seen root pass) (mine_of mine pass) calls = stand_if who root pass calls f s in
-      let here : Stand l who (seen_of seen root pass) (mine_of mine pass) calls = subst (λ (x : StreamLimits). Stand x who (seen_of seen root pass) (mine_of mine pass) calls) (sym ruled_l) old in
+      let here : Stand l who (seen_of seen root pass) (mine_of mine pass) calls = subst (λ (x : Shape). Stand x who (seen_of seen root pass) (mine_of mine pass) calls) (sym ruled_l) old in
       let there : Stand l who entered (mine_of mine pass) calls = subst (λ (h : List Step). Stand l who h (mine_of mine pass) calls) (sym entered_is) here in
       let now : Stand l who entered numbers calls = subst (λ (ns : List ℕ). Stand l who entered ns calls) (sym numbers_are) there in
-      let kept : Keeps l seen' = subst (λ (x : StreamLimits). Keeps x seen') same keeps in
+      let kept : Keeps l seen' = subst (λ (x : Shape). Keeps x seen') same keeps in
       let more : Stand l who seen' mine' (calls ++ step ∷ []) = stand_more l who root' entered seen' numbers mine' calls step me p kept now in
-      subst (λ (x : StreamLimits). Stand x who seen' mine' calls') (sym same) (subst (λ (c : List Step). Stand l who seen' mine' c) (sym calls_are) more)
+      subst (λ (x : Shape). Stand x who seen' mine' calls') (sym same) (subst (λ (c : List Step). Stand l who seen' mine' c) (sym calls_are) more)
 
   -- a call that wasn't made
-  pub seat_unmade : (who : ℕ) (root : List Step) (pass : Option Q) (calls : List Step) (l l' : StreamLimits) (entered seen' : List Step) (numbers mine' : List ℕ)
+  pub seat_unmade : (who : ℕ) (root : List Step) (pass : Option Q) (calls : List Step) (l l' : Shape) (entered seen' : List Step) (numbers mine' : List ℕ)
       → FitsIf fits pass → StandIf limits seen mine who pass calls → l ≡ lim → l' ≡ l → entered ≡ seen_of seen root pass → numbers ≡ mine_of mine pass
       → Begins entered seen' → mine' ≡ numbers → Stand l' who seen' mine' calls
   seat_unmade who root pass calls l l' entered seen' numbers mine' f s ruled_l same entered_is numbers_are later none =
       let old : Stand lim who (seen_of seen root pass) (mine_of mine pass) calls = stand_if who root pass calls f s in
-      let here : Stand l' who (seen_of seen root pass) (mine_of mine pass) calls = subst (λ (x : StreamLimits). Stand x who (seen_of seen root pass) (mine_of mine pass) calls) (sym (same ∙ ruled_l)) old in
+      let here : Stand l' who (seen_of seen root pass) (mine_of mine pass) calls = subst (λ (x : Shape). Stand x who (seen_of seen root pass) (mine_of mine pass) calls) (sym (same ∙ ruled_l)) old in
       let there : Stand l' who entered (mine_of mine pass) calls = subst (λ (h : List Step). Stand l' who h (mine_of mine pass) calls) (sym entered_is) here in
       let now : Stand l' who entered mine' calls = subst (λ (ns : List ℕ). Stand l' who entered ns calls) (sym (none ∙ numbers_are)) there in
       stand_later l' who entered seen' mine' calls later now

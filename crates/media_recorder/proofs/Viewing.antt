@@ -8,6 +8,7 @@ use Rattle.av_unit.specs.declared.item.Item.{Item}
 use Rattle.av_unit.specs.declared.unit.UnitArc.{UnitArc}
 use Rattle.av_unit.specs.declared.head.Want.{Want}
 use Rattle.stream_model.specs.declared.calls.StreamLimits.{StreamLimits}
+use Rattle.stream_model.specs.declared.calls.Shape.{Shape}
 use Rattle.stream_model.specs.declared.calls.Entry.{Entry}
 use Rattle.stream_model.specs.declared.calls.Call.{Call}
 use Rattle.stream_model.specs.declared.calls.Call.TheVariants as call
@@ -17,10 +18,11 @@ use Rattle.stream_model.specs.declared.replies.Taken.{Taken}
 use Rattle.stream_model.specs.declared.replies.Taken.TheVariants.{Sent, Skip, NotYet}
 use Rattle.stream_model.specs.Window.{join}
 use Rattle.stream_model.specs.Take.{taken as taken_by}
-use Rattle.stream_model.specs.Spell.{Spell, one_more, spell, spell_after, cursor, sent, reply_of}
+use Rattle.stream_model.specs.Spell.{Spell, one_more, spell, spell_after, takes_from, cursor, sent, reply_of}
 use Rattle.stream_model.specs.History.{History, items_of, publisher, holder, holder_after}
 use Rattle.stream_model.specs.Answer.{reply_to, begin_reply, join_reply, free_place, first_or, is_who}
 use Rattle.stream_model.specs.Known.{IsLawful}
+use Rattle.stream_model.specs.Shape.{IsLawfulBy, IsShapeLawful}
 use Rattle.stream_registry.specs.Told.{Step}
 use Rattle.media_recorder.specs.Taken.{item_at, taken}
 use Rattle.media_recorder.specs.Viewer.{items_sent, IsTakeAt, TakesOnly, calls_of}
@@ -36,9 +38,9 @@ record Still (place w : ℕ) (c : Call) (r : Reply) (h : Option ℕ) (s : Spell)
   held_is : holder_after w r place h ≡ h
   spell_is : spell_after c r place s ≡ s
 
-begin_still : (place w end : ℕ) (live : Option ℕ) (h : Option ℕ) (s : Spell) → Still place w call.Begin (begin_reply end live) h s
-begin_still place w end None h s = record { held_is = refl; spell_is = refl }
-begin_still place w end (Some by) h s = record { held_is = refl; spell_is = refl }
+begin_still : (place w end : ℕ) (live : Option ℕ) (c : Call) (h : Option ℕ) (s : Spell) → takes_from c place ≡ false → Still place w c (begin_reply end live) h s
+begin_still place w end None c h s e = record { held_is = refl; spell_is = rw e refl }
+begin_still place w end (Some by) c h s e = record { held_is = refl; spell_is = rw e refl }
 
 push_still : (place w end : ℕ) (live : Option ℕ) (u : UnitArc) (b : Bool) (h : Option ℕ) (s : Spell) → Still place w (call.Push u) (if b then Pushed end else NotPublisher live) h s
 push_still place w end live u true h s = record { held_is = refl; spell_is = refl }
@@ -48,9 +50,9 @@ end_still : (place w end : ℕ) (live : Option ℕ) (b : Bool) (h : Option ℕ) 
 end_still place w end live true h s = record { held_is = refl; spell_is = refl }
 end_still place w end live false h s = record { held_is = refl; spell_is = refl }
 
-join_still : (place w from : ℕ) (o : Option ℕ) (h : Option ℕ) (s : Spell) → ((p : ℕ) → o ≡ Some p → (p == place) ≡ false) → Still place w call.Join (join_reply from o) h s
-join_still place w from None h s d = record { held_is = refl; spell_is = refl }
-join_still place w from (Some p) h s d = let e = d p refl in record { held_is = rw e refl; spell_is = rw e refl }
+join_still : (place w from : ℕ) (o : Option ℕ) (c : Call) (h : Option ℕ) (s : Spell) → takes_from c place ≡ false → ((p : ℕ) → o ≡ Some p → (p == place) ≡ false) → Still place w c (join_reply from o) h s
+join_still place w from None c h s t d = record { held_is = refl; spell_is = rw t refl }
+join_still place w from (Some p) c h s t d = let e = d p refl in record { held_is = rw e refl; spell_is = rw e refl }
 
 -- a place that is free has no holder
 first_free : (a b : Option ℕ) (p : ℕ) → first_or a b ≡ Some p → (a ≡ Some p) ⊎ (b ≡ Some p)
@@ -97,17 +99,24 @@ no_holder past place who w p held other = elim (eqb_tells p place) [
   | inr h ↦ inr h.0
 ]
 
+other_join : (limits : StreamLimits) (past : History) (place who w : ℕ) (c : Call) → takes_from c place ≡ false → holder past place ≡ Some who
+    → Still place w c (join_reply (join limits (items_of past)) (free_place (holder past) limits.players)) (holder past place) (spell past place)
+other_join limits past place who w c quiet held =
+    join_still place w (join limits (items_of past)) (free_place (holder past) limits.players) c (holder past place) (spell past place) quiet
+    (λ p e. apart p place (λ same_place. let free : holder past place ≡ None = subst (λ (q : ℕ). holder past q ≡ None) same_place (is_free (holder past) limits.players p e) in let f : ⊥ = cc in f))
+
 other_still : (limits : StreamLimits) (past : History) (place who w : ℕ) (c : Call) → holder past place ≡ Some who → (w ≡ who → ⊥) → Still place w c (reply_to limits past w c) (holder past place) (spell past place)
-other_still limits past place who w call.Begin held other = begin_still place w (length (items_of past)) (publisher past) (holder past place) (spell past place)
+other_still limits past place who w call.Begin held other = begin_still place w (length (items_of past)) (publisher past) call.Begin (holder past place) (spell past place) refl
 other_still limits past place who w (call.Push u) held other = push_still place w (length (items_of past)) (publisher past) u (is_who (publisher past) w) (holder past place) (spell past place)
 other_still limits past place who w call.End held other = end_still place w (length (items_of past)) (publisher past) (is_who (publisher past) w) (holder past place) (spell past place)
-other_still limits past place who w call.Join held other =
-    join_still place w (join limits (items_of past)) (free_place (holder past) limits.players) (holder past place) (spell past place)
-    (λ p e. apart p place (λ same_place. let free : holder past place ≡ None = subst (λ (q : ℕ). holder past q ≡ None) same_place (is_free (holder past) limits.players p e) in let f : ⊥ = cc in f))
+other_still limits past place who w call.Join held other = other_join limits past place who w call.Join refl held
 other_still limits past place who w (call.Take p want) held other =
     take_still place w p want (taken_by limits (items_of past) (cursor (spell past p)) (sent (spell past p)) want) (is_who (holder past p) w) (holder past place) (spell past place) (no_holder past place who w p held other)
 other_still limits past place who w (call.Leave p) held other = leave_still place w p (is_who (holder past p) w) (holder past place) (spell past place) (no_holder past place who w p held other)
 other_still limits past place who w call.Count held other = record { held_is = refl; spell_is = refl }
+other_still limits past place who w (call.BeginAs name) held other =
+    begin_still place w (length (items_of past)) (publisher past) (call.BeginAs name) (holder past place) (spell past place) refl
+other_still limits past place who w (call.JoinAs name) held other = other_join limits past place who w (call.JoinAs name) refl held
 
 -- a Take of the holder
 record Taking (place w : ℕ) (c : Call) (r : Reply) (h : Option ℕ) (s : Spell) : Type 0 where
@@ -188,7 +197,10 @@ view limits place who from entry [] before me joins l t = record {
 view limits place who from entry (step ∷ newer) before me joins l t =
     step_view limits place who (newer ++ (entry, Joined place from) ∷ before) newer step l.0 t.0 (view limits place who from entry newer before me joins l.1 t.1)
 
-pub viewed : (limits : StreamLimits) (place who from : ℕ) (entry : Entry) (newer before : History) → entry.who ≡ who → entry.call ≡ call.Join
-    → IsLawful limits (newer ++ (entry, Joined place from) ∷ before) → TakesOnly who place newer
+pub viewed : (shape : Shape) (place who from : ℕ) (entry : Entry) (newer before : History) → shape.slots ≡ None → entry.who ≡ who → entry.call ≡ call.Join
+    → IsShapeLawful shape (newer ++ (entry, Joined place from) ∷ before) → TakesOnly who place newer
     → items_sent (spell (newer ++ (entry, Joined place from) ∷ before) place).answers ≡ taken (calls_of who newer)
-viewed limits place who from entry newer before me joins l t = (view limits place who from entry newer before me joins l t).items
+viewed shape place who from entry newer before stream me joins l t =
+    let law : IsLawful shape.limits (newer ++ (entry, Joined place from) ∷ before) =
+    subst (λ (o : Option ℕ). IsLawfulBy shape.limits o (newer ++ (entry, Joined place from) ∷ before)) stream l in
+    (view shape.limits place who from entry newer before me joins law t).items

@@ -1,6 +1,6 @@
 -- The calls of one caller in a stream's history
 use Rattle.std.specs.Prelude.{◌≡◌, ℕ, ◌+◌, ◌≤◌, List, [], ◌∷◌, map, slice_get, All, Some}
-use Rattle.stream_model.specs.declared.calls.StreamLimits.{StreamLimits}
+use Rattle.stream_model.specs.declared.calls.Shape.{Shape}
 use Rattle.turn_gate.specs.Histories.{Begins}
 use Rattle.stream_registry.specs.Told.{Step, Keeps}
 
@@ -11,7 +11,7 @@ RiseFrom n (m ∷ ms) = (n ≤ m) × RiseFrom (m + 1) ms
 
 -- THE CALLS that a caller made, the oldest first, where its pass has seen this of the history and made calls at these numbers:
 -- they are all that stand at these numbers, and they are its own
-pub record Stand (limits : StreamLimits) (who : ℕ) (seen : List Step) (mine : List ℕ) (calls : List Step) : Type 0 where
+pub record Stand (limits : Shape) (who : ℕ) (seen : List Step) (mine : List ℕ) (calls : List Step) : Type 0 where
   -- what it had seen when the last of them was answered
   pub known : List Step
   pub first : Begins known seen

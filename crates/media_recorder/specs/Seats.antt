@@ -2,7 +2,7 @@
 use Rattle.std.specs.Prelude.{◌≡◌, ℕ, List, [], ◌∷◌, ◌++◌, Option, Some, None, IfOk, IfErr}
 use Rattle.std.specs.declared.result.Result.{Result}
 use Rattle.std.specs.declared.result.Result.TheVariants.{Ok, Err}
-use Rattle.stream_model.specs.declared.calls.StreamLimits.{StreamLimits}
+use Rattle.stream_model.specs.declared.calls.Shape.{Shape}
 use Rattle.stream_model.specs.declared.calls.Call.{Call}
 use Rattle.stream_model.specs.declared.calls.Entry.{Entry}
 use Rattle.stream_model.specs.declared.replies.Reply.{Reply}
@@ -30,7 +30,7 @@ abbrev pub calls_after : List Step → Entry → Result Reply PortFail → List 
 calls_after calls entry (Ok r) = calls ++ (entry, r) ∷ []
 calls_after calls entry (Err e) = calls
 
-module _ {Q : Type 0} (limits : Q → StreamLimits) (seen : Q → List Step) (mine : Q → List ℕ) where
+module _ {Q : Type 0} (limits : Q → Shape) (seen : Q → List Step) (mine : Q → List ℕ) where
   -- its calls stand in what its pass has seen
   abbrev pub StandIf : ℕ → Option Q → List Step → Type 0
   StandIf who None calls = calls ≡ []
@@ -38,7 +38,7 @@ module _ {Q : Type 0} (limits : Q → StreamLimits) (seen : Q → List Step) (mi
 
 -- one call: it was answered after all that the root and the pass had seen, or it wasn't made
 pub record Asked {Q : Type 0} (seen : Q → List Step) (mine : Q → List ℕ) (count : Q → ℕ)
-    (limits : StreamLimits) (root : List Step) (busies busies' : ℕ)
+    (limits : Shape) (root : List Step) (busies busies' : ℕ)
     (entry : Entry) (before : Option Q) (answer : Result Reply PortFail) (after : Q) : Type 0 where
   pub later : Begins (seen_of seen root before) (seen after)
   pub made : IfOk answer (λ r. Placed limits root (seen_of seen root before) (mine_of mine before) (entry, r) (seen after) (mine after))
@@ -47,12 +47,12 @@ pub record Asked {Q : Type 0} (seen : Q → List Step) (mine : Q → List ℕ) (
   pub unmade : IfErr answer (λ _. mine after ≡ mine_of mine before)
 
 module _ {Q : Type 0} (seen : Q → List Step) (mine : Q → List ℕ) (count : Q → ℕ) where
-  abbrev pub AskedIf : StreamLimits → List Step → ℕ → ℕ → Entry → Option Q → Result Reply PortFail → Option Q → Type 0
+  abbrev pub AskedIf : Shape → List Step → ℕ → ℕ → Entry → Option Q → Result Reply PortFail → Option Q → Type 0
   AskedIf limits root busies busies' entry before answer None = ⊥
   AskedIf limits root busies busies' entry before answer (Some p) = Asked seen mine count limits root busies busies' entry before answer p
 
   -- ONE CALL of a caller. Its pass is attached before the first
-  pub record Asks (limits : StreamLimits) (root : List Step) (busies busies' : ℕ)
+  pub record Asks (limits : Shape) (root : List Step) (busies busies' : ℕ)
       (s : SeatState Q) (call : Call) (answer : Result Reply PortFail) (s' : SeatState Q) : Type 0 where
     pub who : s'.who ≡ s.who
     pub place : s'.place ≡ s.place

@@ -1,10 +1,10 @@
-ghost use Rattle.std.specs.Prelude.{◌≡◌, ◌∷◌, ◌++◌, ℕ};
-ghost use Rattle.stream_model.specs.declared.calls.StreamLimits.{StreamLimits};
+ghost use Rattle.std.specs.Prelude.{◌≡◌, ◌∷◌, ◌++◌, ℕ, None};
+ghost use Rattle.stream_model.specs.declared.calls.Shape.{Shape};
 ghost use Rattle.stream_model.specs.declared.calls.Entry.{Entry};
 ghost use Rattle.stream_model.specs.declared.calls.Call.TheVariants as Call;
 ghost use Rattle.stream_model.specs.declared.replies.Reply.TheVariants as Reply;
 ghost use Rattle.stream_model.specs.History.{History};
-ghost use Rattle.stream_model.specs.Known.{IsLawful};
+ghost use Rattle.stream_model.specs.Shape.{IsShapeLawful};
 ghost use Rattle.stream_model.specs.Spell.{spell};
 ghost use Rattle.media_recorder.specs.Taken.{taken};
 ghost use Rattle.media_recorder.specs.Viewer.{items_sent, calls_of, TakesOnly};
@@ -19,10 +19,10 @@ pub fn still_fits_law<P: StreamPort>()
         → FitsIf (P.fits port r.seat.place) r.seat.pass → FitsIf (P.fits later r.seat.place) r.seat.pass }
 {}
 
-/// From its Join on, where each call that bears a recorder's name is a Take of its own, the items that these Takes were
-/// sent are those that the player of its place was sent. So they keep the viewer's law of that place.
+/// At a stream, from its Join on, where each call that bears a recorder's name is a Take of its own, the items that these
+/// Takes were sent are those that the player of its place was sent. So they keep the viewer's law of that place.
 pub fn viewer_law()
-    ensures { (limits : StreamLimits) (place who from : ℕ) (entry : Entry) (newer before : History) → entry.who ≡ who → entry.call ≡ Call.Join
-        → IsLawful limits (newer ++ (entry, Reply.Joined place from) ∷ before) → TakesOnly who place newer
+    ensures { (shape : Shape) (place who from : ℕ) (entry : Entry) (newer before : History) → shape.slots ≡ None → entry.who ≡ who
+        → entry.call ≡ Call.Join → IsShapeLawful shape (newer ++ (entry, Reply.Joined place from) ∷ before) → TakesOnly who place newer
         → items_sent (spell (newer ++ (entry, Reply.Joined place from) ∷ before) place).answers ≡ taken (calls_of who newer) }
 {}

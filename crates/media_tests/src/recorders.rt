@@ -8,8 +8,8 @@ use media_recorder::*;
 use relay_outside::{MemSink, Put, Sink};
 use std::alloc::Global;
 use std::test::Fail;
-use stream_core::{Call, Entry, StreamLimits};
-use stream_registry::{Name, NameList, Sole, StreamPort};
+use stream_core::{Call, Entry, ShortName, StreamLimits};
+use stream_registry::{Name, NameList, OpenList, Sole, StreamPort};
 
 // A header, and the tags of the publisher's three units.
 const FILE: &[u8; 66] =
@@ -56,14 +56,14 @@ fn port(alloc: Global, players: u32) -> Result<Sole, OutOfMemory>
     let mut names = NameList::new(alloc);
     names.push(Name {
         app: bytes(alloc, b"live")?,
-        name: bytes(alloc, b"cam")?,
+        name: ShortName::new(bytes(alloc, b"cam")?),
     })?;
     let limits = StreamLimits {
         bytes: 1000,
         items: 16,
         players,
     };
-    Sole::new(alloc, names, limits)
+    Sole::new(alloc, names, OpenList::new(alloc), limits)
 }
 
 fn push(alloc: Global, kind: Kind, time: u32, body: &[u8]) -> Result<Call, OutOfMemory>

@@ -1,8 +1,8 @@
 //! Ports over real streams, on one thread and on many.
 ghost use Rattle.std.specs.Prelude.{◌≡◌, ◌<◌, ◌≤◌, ◌++◌, ◌∷◌, [], reverse, All, List, length, slice_get, Some, IfOk};
 ghost use Rattle.std.specs.Option.{IfSome};
-ghost use Rattle.stream_model.specs.Answer.{reply};
-ghost use Rattle.stream_registry.specs.Names.{PortRules};
+ghost use Rattle.stream_model.specs.Shape.{shape_reply};
+ghost use Rattle.stream_registry.specs.Names.{HaveSlots, PortRules, places, slots_sum};
 ghost use Rattle.stream_registry.specs.Roots.{gates};
 ghost use Rattle.stream_registry.specs.SharedState.{shared_rules};
 ghost use Rattle.stream_registry.specs.Told.{Step};
@@ -12,8 +12,8 @@ use std::alloc::Global;
 use std::test::Fail;
 use std::thread::Threads;
 use std::{hint, thread};
-use stream_core::{Call, Entry, Reply, StreamLimits};
-use stream_registry::{Desk, Name, NameList, PortFail, Shared, Sole, StreamPort, shared_ports};
+use stream_core::{Call, Entry, Reply, ShortName, StreamLimits};
+use stream_registry::*;
 use turn_gate::Pass;
 
 // How often a call is tried before its caller gives up.
@@ -28,30 +28,54 @@ const LIMITS: StreamLimits = StreamLimits {
     players: 8,
 };
 
+// The calls of two callers, by their letters: capitals are the second's.
+const LETTERS: &[u8] = b"cPbBpPJTtTpTLeEc";
+
 const WANT: Want = Want {
     audio: true,
     video: true,
 };
 
-fn bytes(alloc: Global, text: &[u8]) -> Result<Bytes, OutOfMemory> {
+fn bytes(alloc: Global, text: &[u8]) -> Result<Bytes, OutOfMemory>
+    ensures { IfOk result (λ b. b ≡ text.now) }
+{
     let mut bytes = Bytes::new(alloc);
     bytes.append(text)?;
     Ok(bytes)
 }
 
+fn name(alloc: Global, text: &[u8]) -> Result<ShortName, OutOfMemory>
+    requires { length text.now ≤ 64 }
+    ensures { IfOk result (λ n. n ≡ text.now) }
+{
+    Ok(ShortName::new(bytes(alloc, text)?))
+}
+
 fn names(alloc: Global) -> Result<NameList, OutOfMemory>
-    ensures { IfOk result (λ n. length n ≤ 64) }
+    ensures { IfOk result (λ n. length n ≤ 2) }
 {
     let mut names = NameList::new(alloc);
     names.push(Name {
         app: bytes(alloc, b"live")?,
-        name: bytes(alloc, b"one")?,
+        name: name(alloc, b"one")?,
     })?;
     names.push(Name {
         app: bytes(alloc, b"live")?,
-        name: bytes(alloc, b"two")?,
+        name: name(alloc, b"two")?,
     })?;
     Ok(names)
+}
+
+/// One open table, of two names.
+fn opens(alloc: Global) -> Result<OpenList, OutOfMemory>
+    ensures { IfOk result (λ o. HaveSlots o × (slots_sum o ≤ 2)) }
+{
+    let mut opens = OpenList::new(alloc);
+    opens.push(OpenName {
+        app: bytes(alloc, b"open")?,
+        slots: 2,
+    })?;
+    Ok(opens)
 }
 
 /// The call of a letter. A Take and a Leave are of this place.
@@ -94,7 +118,7 @@ fn until_made<P: StreamPort>(
     ensures fits { P.fits port.new place pass.new }
     ensures fixed { (P.rules port.new ≡ P.rules port.old) × (P.limits pass.new ≡ P.limits pass.old) }
     ensures reply { IfSome result (λ r. (before : List Step) × (P.seen pass.new ≡ before ++ (entry, r) ∷ [])
-        × (r ≡ reply (P.limits pass.old) (reverse before) entry)) }
+        × (r ≡ shape_reply (P.limits pass.old) (reverse before) entry)) }
 {
     for _ in 0..TRIES {
         match port.call(place, pass, entry) {
@@ -218,11 +242,11 @@ fn make<P: StreamPort>(
     tally.in_order = false;
 }
 
-/// Makes all calls of a thread at the stream of that name, and notes their replies.
-fn make_all<P: StreamPort>(alloc: Global, port: &mut P, name: &[u8], tally: &mut Tally)
+/// Makes all calls of a thread at the place of that name, and notes their replies.
+fn make_all<P: StreamPort>(alloc: Global, port: &mut P, app: &[u8], name: &[u8], tally: &mut Tally)
     ensures { P.rules port.new ≡ P.rules port.old }
 {
-    let Ok(place) = port.find(b"live", name) else {
+    let Ok(place) = port.find(app, name) else {
         tally.in_order = false;
         return;
     };
@@ -243,10 +267,10 @@ fn make_all<P: StreamPort>(alloc: Global, port: &mut P, name: &[u8], tally: &mut
 }
 
 /// What a Count is answered now.
-fn counts<P: StreamPort>(port: &mut P, name: &[u8]) -> Option<Reply>
+fn counts<P: StreamPort>(port: &mut P, app: &[u8], name: &[u8]) -> Option<Reply>
     ensures { P.rules port.new ≡ P.rules port.old }
 {
-    let place = port.find(b"live", name).ok()?;
+    let place = port.find(app, name).ok()?;
     let mut pass = port.attach(place);
     let entry = Entry {
         who: 0,
@@ -286,7 +310,7 @@ fn four_ports(alloc: Global) -> Result<(TwoPorts, TwoPorts), OutOfMemory>
     ensures near { IfOk result (λ p. shared_rules p.0.1 ≡ shared_rules p.0.0) }
     ensures far { IfOk result (λ p. (shared_rules p.1.0 ≡ shared_rules p.0.0) × (shared_rules p.1.1 ≡ shared_rules p.1.0)) }
 {
-    let mut list = shared_ports(alloc, names(alloc)?, LIMITS, 4)?;
+    let mut list = shared_ports(alloc, names(alloc)?, opens(alloc)?, LIMITS, 4)?;
     let Some(near) = next_pair(&mut list) else {
         return Err(OutOfMemory);
     };
@@ -296,12 +320,12 @@ fn four_ports(alloc: Global) -> Result<(TwoPorts, TwoPorts), OutOfMemory>
     Ok((near, far))
 }
 
-/// All calls of a thread, at both places.
+/// All calls of a thread, at a stream and at an open table.
 fn work(alloc: Global, mut port: Shared<Desk>, one: &mut Tally, two: &mut Tally) -> Shared<Desk>
     ensures { shared_rules result ≡ shared_rules port }
 {
-    make_all(alloc, &mut port, b"one", one);
-    make_all(alloc, &mut port, b"two", two);
+    make_all(alloc, &mut port, b"live", b"one", one);
+    make_all(alloc, &mut port, b"open", b"two", two);
     port
 }
 
@@ -352,8 +376,8 @@ fn four_threads_have_one_history_at_each_place(rt: HostRuntime) -> Result<(), Fa
     two.add(&fourth);
     assert!(rt; one.in_order && two.in_order);
     assert!(rt; one.joined > 0 && two.joined > 0);
-    assert!(rt; counts(&mut port, b"one") == Some(one.counts()));
-    assert!(rt; counts(&mut port, b"two") == Some(two.counts()));
+    assert!(rt; counts(&mut port, b"live", b"one") == Some(one.counts()));
+    assert!(rt; counts(&mut port, b"open", b"two") == Some(two.counts()));
     Ok(())
 }
 
@@ -459,6 +483,7 @@ fn write(out: &mut Vec<u8>, reply: &Reply) {
             digit(*joined),
             digit(*skips),
         ],
+        Reply::NoSlot { slots } => [b'o', digit(u64::from(*slots)), 0, 0, 0, 0],
     };
     for byte in text {
         if byte != 0 && out.push(byte).is_err() {
@@ -474,7 +499,7 @@ fn replies<P: StreamPort>(
     place: u32,
     letters: &[u8],
 ) -> Result<Vec<u8>, OutOfMemory>
-    requires { place < length (P.rules port.old).names }
+    requires { place < places (P.rules port.old) }
     ensures { P.rules port.new ≡ P.rules port.old }
 {
     let mut out = match Vec::with_capacity(alloc, 64) {
@@ -495,8 +520,33 @@ fn replies<P: StreamPort>(
 }
 
 fn new_sole(alloc: Global) -> Result<Sole, OutOfMemory> {
-    let names = names(alloc)?;
-    Sole::new(alloc, names, LIMITS)
+    Sole::new(alloc, names(alloc)?, opens(alloc)?, LIMITS)
+}
+
+/// Whether both ports give these replies to all kinds of calls at the place of that pair of names.
+fn are_given(
+    alloc: Global,
+    sole: &mut Sole,
+    shared: &mut Shared<Desk>,
+    app: &[u8],
+    name: &[u8],
+    wanted: &[u8],
+) -> Result<bool, OutOfMemory> {
+    let Ok(place) = sole.find(app, name) else {
+        return Ok(false);
+    };
+    let text = replies(alloc, sole, place, LETTERS)?;
+    let Ok(place) = shared.find(app, name) else {
+        return Ok(false);
+    };
+    let other = replies(alloc, shared, place, LETTERS)?;
+    Ok(text.as_slice() == wanted && other.as_slice() == wanted)
+}
+
+/// The number of calls in the journal of that place, and what it holds.
+fn kept(sole: &Sole, app: &[u8], name: &[u8]) -> Option<(usize, u64)> {
+    let place = sole.find(app, name).ok()?;
+    Some((sole.journal(place).len(), sole.held(place)))
 }
 
 #[test]
@@ -512,25 +562,14 @@ fn both_ports_give_the_same_replies_at_each_place(rt: HostRuntime) -> Result<(),
     };
     let (near, _) = ports;
     let (mut shared, _) = near;
-    let letters = b"cPbBpPJTtTpTLeEc".as_slice();
-    let wanted = b"c00000x0b0u1p1x1j01s11ny2p2s22l0e3x0c12110".as_slice();
+    let stream = b"c00000x0b0u1p1x1j01s11ny2p2s22l0e3x0c12110".as_slice();
+    // An open table's first name comes with two markers, and who publishes nothing there is told of nobody.
+    let open = b"c00000x0b2u1p3x0j03s33ny4p4s44l0e5x0c12110".as_slice();
     assert!(rt; sole.find(b"two", b"live").is_err());
-    for name in [b"one".as_slice(), b"two"] {
-        let Ok(place) = sole.find(b"live", name) else {
-            return Err(Fail::new("the place is found"));
-        };
-        let text = replies(alloc, &mut sole, place, letters)?;
-        assert_eq!(rt; text.as_slice(), wanted);
-        let Ok(place) = shared.find(b"live", name) else {
-            return Err(Fail::new("the place is found"));
-        };
-        let text = replies(alloc, &mut shared, place, letters)?;
-        assert_eq!(rt; text.as_slice(), wanted);
-    }
-    let Ok(place) = sole.find(b"live", b"one") else {
-        return Err(Fail::new("the place is found"));
-    };
-    assert_eq!(rt; sole.journal(place).len(), letters.len());
-    assert_eq!(rt; sole.held(place), 32);
+    assert!(rt; are_given(alloc, &mut sole, &mut shared, b"live", b"one", stream)?);
+    assert!(rt; are_given(alloc, &mut sole, &mut shared, b"live", b"two", stream)?);
+    assert!(rt; are_given(alloc, &mut sole, &mut shared, b"open", b"one", open)?);
+    assert!(rt; kept(&sole, b"live", b"one") == Some((LETTERS.len(), 32)));
+    assert!(rt; kept(&sole, b"open", b"one") == Some((LETTERS.len(), 32)));
     Ok(())
 }

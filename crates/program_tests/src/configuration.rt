@@ -380,6 +380,154 @@ fn each_key_of_a_stream_has_its_form(rt: HostRuntime) -> Result<(), Fail> {
     Ok(())
 }
 
+const OPEN: &[u8] = b"[relay]
+listen = \"127.0.0.1:1935\"
+[[open]]
+";
+
+const OPENS: &[u8] = b"app = \"live\"
+names = 1
+@
+names = 1
+@
+app = \"live\"
+@
+app = \"live\"
+names = 0
+@
+app = \"live\"
+names = 64
+@
+app = \"live\"
+names = 65
+@
+app = \"live\"
+names = \"1\"
+@
+app = \"a b\"
+names = 1
+@
+app = \"live\"
+name = \"cam\"
+@
+app = \"live\"
+names = 1
+flv = \"a.flv\"
+@
+app = \"live\"
+names = 1
+publish = [\"k\"]
+play = []
+@
+app = \"live\"
+names = 1
+digest = true
+publish = [\"0123456789abcdef0123456789abcdef0123456789abcdef0123456789abcdef\"]
+@
+app = \"live\"
+names = 1
+digest = true
+play = [\"k\"]
+@
+app = \"live\"
+names = 1
+digest = 1
+@
+app = \"live\"
+names = 1
+[[open]]
+app = \"b\"
+names = 2
+@
+app = \"live\"
+names = 1
+[[open]]
+app = \"live\"
+names = 1
+@
+app = \"live\"
+names = 1
+[[open]]
+app = \"b\"
+names = 1
+[[open]]
+app = \"live\"
+names = 1
+[[stream]]
+app = \"live\"
+name = \"cam\"
+@
+app = \"live\"
+names = 1
+[[open]]
+app = \"live\"
+names = 1
+[[stream]]
+app = \"live\"
+name = \"cam\"
+[[stream]]
+app = \"live\"
+name = \"cam\"
+@
+app = \"live\"
+names = 63
+[[stream]]
+app = \"live\"
+name = \"cam\"
+@
+app = \"live\"
+names = 64
+[[stream]]
+app = \"live\"
+name = \"cam\"
+@
+app = \"live\"
+names = 40
+[[open]]
+app = \"b\"
+names = 25
+@
+app = \"live\"
+names = 0
+[[stream]]
+x = 1
+";
+
+const OPENS_ANSWERED: &[u8] = b"sum 577699904
+bad configuration missing app
+bad configuration missing names
+bad configuration range names
+sum 2704019456
+bad configuration range names
+bad configuration range names
+bad configuration range app
+bad configuration unknown name
+bad configuration unknown flv
+sum 577699904
+sum 577699904
+bad configuration range play
+bad configuration range digest
+sum 645202112
+bad configuration twice 1
+bad configuration twice 3
+bad configuration twice 1
+sum 2704019392
+bad configuration range names
+bad configuration range names
+bad configuration unknown x
+";
+
+#[test]
+fn each_key_of_an_open_table_has_its_form(rt: HostRuntime) -> Result<(), Fail> {
+    let alloc = rt.alloc();
+    let lines = answers(alloc, OPEN, OPENS, b"")?;
+    assert_eq!(rt;
+        str::from_utf8(lines.as_slice())?,
+        str::from_utf8(OPENS_ANSWERED)?
+    );
+    Ok(())
+}
+
 const WHOLES: &[u8] = b"
 @
 x
@@ -405,8 +553,24 @@ stream = [1]
 listen = \"127.0.0.1:1935\"
 
 @
+open = 1
+[relay]
+listen = \"127.0.0.1:1935\"
+
+@
+open = 1
+stream = 1
+[relay]
+listen = \"127.0.0.1:1935\"
+
+@
 stream = 1
 @
+[relay]
+listen = \"127.0.0.1:1935\"
+
+@
+open = []
 [relay]
 listen = \"127.0.0.1:1935\"
 
@@ -463,7 +627,10 @@ bad configuration unknown relays
 bad configuration range relay
 bad configuration range stream
 bad configuration range stream
+bad configuration range open
+bad configuration range stream
 bad configuration missing relay
+bad configuration missing stream
 bad configuration missing stream
 bad configuration missing stream
 bad configuration missing listen
@@ -612,11 +779,14 @@ fn the_example_is_read_with_its_defaults(rt: HostRuntime) -> Result<(), Fail> {
         panic!(rt; "not three streams");
     };
     assert_eq!(rt; open.name.as_slice(), b"open".as_slice());
-    assert!(rt; by_name(&open.publish, b"") && by_name(&open.play, b""));
-    assert!(rt; cam.mode == Mode::Plain && by_name(&cam.publish, b"s3cret"));
-    assert!(rt; !by_name(&cam.publish, b"secret") && by_name(&cam.play, b""));
-    assert!(rt; studio.mode == Mode::Digest && by_digest(&studio.publish, b"abc"));
-    assert!(rt; !by_digest(&studio.publish, b"abd") && !by_digest(&studio.play, b"abc"));
+    assert!(rt; by_name(&open.publish, b"open", b"") && by_name(&open.play, b"open", b""));
+    assert!(rt; cam.mode == Mode::Plain && by_name(&cam.publish, b"cam", b"s3cret"));
+    assert!(rt; !by_name(&cam.publish, b"cam", b"secret") && by_name(&cam.play, b"cam", b""));
+    assert!(rt; studio.mode == Mode::Digest && by_digest(&studio.publish, b"studio", b"abc"));
+    assert!(rt;
+        !by_digest(&studio.publish, b"studio", b"abd")
+            && !by_digest(&studio.play, b"studio", b"abc")
+    );
     assert!(rt; cam.flv.is_some() && cam.ts.is_none() && open.flv.is_none());
     Ok(())
 }

@@ -10,47 +10,66 @@ use std::test::Fail;
 const DIGEST_OF_ABC: &[u8; 32] =
     b"\xba\x78\x16\xbf\x8f\x01\xcf\xea\x41\x41\x40\xde\x5d\xae\x22\x23\xb0\x03\x61\xa3\x96\x17\x7a\x9c\xb4\x10\xff\x61\xf2\x00\x15\xad";
 
+// The SHA-256 of `cam:abc`, by Python's hashlib.
+const DIGEST_OF_CAM_ABC: &[u8; 32] =
+    b"\xd7\x41\x7f\x87\x3c\x50\xd8\x49\xb4\x70\x19\x95\x85\x6d\xb2\x33\xb4\x63\xb0\xa1\x83\xbf\x99\xd7\x40\xc8\xc2\x52\xbc\xb9\xe0\x4d";
+
 fn only(alloc: Global, key: &[u8]) -> Result<Grants, AllocError> {
     let key = Bytes::from_vec(key.to_vec(alloc)?);
     Ok(Grants::Keys(KeyList::from_vec(vec![in alloc; key]?)))
 }
 
 // Whether the grants allow the key in mode `Plain`.
-fn is_named(grants: &Grants, key: &[u8]) -> bool
-    ensures { result ≡ is_allowed Mode.Plain grants.now key.now }
+fn is_plain(grants: &Grants, name: &[u8], key: &[u8]) -> bool
+    ensures { result ≡ is_allowed Mode.Plain grants.now name.now key.now }
 {
-    by_name(grants, key)
+    by_name(grants, name, key)
 }
 
 // Whether the grants allow the key in mode `Digest`.
-fn is_digested(grants: &Grants, key: &[u8]) -> bool
-    ensures { result ≡ is_allowed Mode.Digest grants.now key.now }
+fn is_digested(grants: &Grants, name: &[u8], key: &[u8]) -> bool
+    ensures { result ≡ is_allowed Mode.Digest grants.now name.now key.now }
 {
-    by_digest(grants, key)
+    by_digest(grants, name, key)
+}
+
+// Whether the grants allow the key in mode `Named`.
+fn is_named(grants: &Grants, name: &[u8], key: &[u8]) -> bool
+    ensures { result ≡ is_allowed Mode.Named grants.now name.now key.now }
+{
+    by_named(grants, name, key)
 }
 
 // The guards of a relay.
 pub(crate) fn guards(alloc: Global) -> Result<Guards, Fail> {
-    let plain = Guard::new(Mode::Plain, Box::new(alloc, is_named)?);
+    let plain = Guard::new(Mode::Plain, Box::new(alloc, is_plain)?);
     let digest = Guard::new(Mode::Digest, Box::new(alloc, is_digested)?);
-    Ok(Guards::new(plain, digest))
+    let named = Guard::new(Mode::Named, Box::new(alloc, is_named)?);
+    Ok(Guards::new(plain, digest, named))
 }
 
 #[test]
 fn a_guard_answers_what_its_mode_allows(rt: HostRuntime) -> Result<(), Fail> {
     let alloc = rt.alloc();
     let guards = guards(alloc)?;
-    let named = only(alloc, b"abc")?;
+    let plain = only(alloc, b"abc")?;
     let digests = only(alloc, DIGEST_OF_ABC)?;
+    let named = only(alloc, DIGEST_OF_CAM_ABC)?;
     let none = Grants::Keys(KeyList::from_vec(Vec::new(alloc)));
-    assert!(rt; guards.allows(Mode::Plain, &Grants::Open, b""));
-    assert!(rt; guards.allows(Mode::Digest, &Grants::Open, b"abd"));
-    assert!(rt; !guards.allows(Mode::Plain, &none, b""));
-    assert!(rt; guards.allows(Mode::Plain, &named, b"abc"));
-    assert!(rt; !guards.allows(Mode::Plain, &named, b"abd"));
-    assert!(rt; !guards.allows(Mode::Plain, &named, b""));
-    assert!(rt; guards.allows(Mode::Digest, &digests, b"abc"));
-    assert!(rt; !guards.allows(Mode::Digest, &digests, b"abd"));
-    assert!(rt; !guards.allows(Mode::Digest, &named, b"abc"));
+    assert!(rt; guards.allows(Mode::Plain, &Grants::Open, b"cam", b""));
+    assert!(rt; guards.allows(Mode::Digest, &Grants::Open, b"cam", b"abd"));
+    assert!(rt; guards.allows(Mode::Named, &Grants::Open, b"cam", b"abd"));
+    assert!(rt; !guards.allows(Mode::Plain, &none, b"cam", b""));
+    assert!(rt; guards.allows(Mode::Plain, &plain, b"cam", b"abc"));
+    assert!(rt; !guards.allows(Mode::Plain, &plain, b"cam", b"abd"));
+    assert!(rt; !guards.allows(Mode::Plain, &plain, b"cam", b""));
+    assert!(rt; guards.allows(Mode::Digest, &digests, b"cam", b"abc"));
+    assert!(rt; !guards.allows(Mode::Digest, &digests, b"cam", b"abd"));
+    assert!(rt; !guards.allows(Mode::Digest, &plain, b"cam", b"abc"));
+    assert!(rt; guards.allows(Mode::Named, &named, b"cam", b"abc"));
+    assert!(rt; !guards.allows(Mode::Named, &named, b"bob", b"abc"));
+    assert!(rt; !guards.allows(Mode::Named, &named, b"cam", b"abd"));
+    assert!(rt; !guards.allows(Mode::Named, &digests, b"cam", b"abc"));
+    assert!(rt; !guards.allows(Mode::Digest, &named, b"cam", b"abc"));
     Ok(())
 }

@@ -285,6 +285,171 @@ const SCRIPTS: &[u8] = b"
 <counts 0 0 0 0 0
 <code 4 at 2
 
+># a lagging player passes over a disposable frame
+>ring 1000000 4 4
+>begin 1
+>push 1 key 0 100
+>join 2
+>take 2 0 av
+>push 1 spare 40 50
+>push 1 inter 80 100
+>push 1 audio 90 10
+>take 2 0 av
+>take 2 0 av
+>take 2 0 av
+>push 1 spare 120 50
+>take 2 0 av
+<began 0
+<pushed 1
+<joined 0 1
+<item 1 1 key 0 100
+<pushed 2
+<pushed 3
+<pushed 4
+<item 2 3 inter 80 100
+<item 4 4 audio 90 10
+<notyet 5
+<pushed 5
+<item 5 5 spare 120 50
+
+># one slot: a name has it until its publisher and its players are gone
+>ring 1000 16 4
+>pool 1
+>begin 1 a
+>push 1 vconfig 0 30
+>join 2 b
+>end 1
+>join 2 b
+>take 2 0 av
+>begin 3 a
+>leave 2 0
+>begin 3 a
+<began 2
+<pushed 3
+<noslot 1
+<ended 4
+<joined 0 7
+<notyet 7
+<noslot 1
+<left 0
+<began 9
+
+># three slots and five names: each call at a slot without a name, at one that is live, one with a player, and an idle one
+>ring 1000 16 2
+>pool 3
+>push 1 key 0 50
+>end 1
+>take 2 0 av
+>leave 2 0
+>begin 1 a
+>begin 2 a
+>push 1 key 0 50
+>push 2 key 0 50
+>join 3 a
+>join 4 b
+>begin 5 b
+>end 5
+>begin 1 c
+>push 1 inter 40 10
+>begin 6 d
+>join 6 d
+>take 4 0 av
+>take 4 0 av
+>leave 4 0
+>join 4 b
+>leave 4 0
+>begin 6 d
+>join 4 b
+>join 4 d
+>join 7 d
+>join 8 d
+>take 3 0 av
+>take 3 0 av
+>take 3 0 av
+>end 1
+>push 1 key 0 20
+>take 3 0 av
+>leave 3 0
+>begin 9 e
+>push 9 audio 0 7
+>join 3 e
+>take 3 0 av
+>count
+>held
+<notpublisher -
+<notpublisher -
+<notplayer
+<notplayer
+<began 2
+<inuse 1
+<pushed 3
+<notpublisher -
+<joined 0 3
+<joined 0 2
+<began 2
+<ended 3
+<began 2
+<pushed 4
+<noslot 3
+<noslot 3
+<item 2 2 begin
+<item 3 3 end
+<left 0
+<joined 0 4
+<left 0
+<began 6
+<noslot 3
+<joined 0 7
+<joined 1 7
+<full
+<item 3 3 key 0 50
+<item 4 4 inter 40 10
+<notyet 5
+<ended 5
+<pushed 3
+<item 5 5 end
+<left 0
+<began 8
+<pushed 9
+<joined 0 10
+<notyet 10
+<counts 5 4 2 6 0
+<held 90
+
+># a broadcast at a pool has a name, and one at a stream has none
+>pool 1
+>begin 1
+<code 4 at 3
+
+>pool 1
+>join 1
+<code 4 at 2
+
+>begin 1 a
+<code 4 at 1
+
+>join 1 a
+<code 4 at 1
+
+>ring 1000 16 4
+>pool 2
+>pool 2
+<code 4 at 3
+
+>pool 2
+>ring 1000 16 4
+<code 4 at 2
+
+>count
+>pool 2
+<counts 0 0 0 0 0
+<code 4 at 2
+
+>held
+>pool 2
+<held 0
+<code 4 at 2
+
 ";
 
 #[test]
@@ -372,6 +537,7 @@ fn replayed_in(alloc: Global, script: &[u8], piece: usize) -> Result<Vec<u8>, Fa
 fn a_session_ends_at_a_bad_version(rt: HostRuntime) -> Result<(), Fail> {
     let alloc = rt.alloc();
     let script = b"stream live cam
+openapp live 2
 record 0 flv
 open
 in 0 06
@@ -386,7 +552,8 @@ session 0 end badversion 0
 recorder 0 file 464c5601050000000900000000
 recorder 0 end none
 stream 0 held 0
-held 0 sum 59289600
+open 0 held 0
+held 0 sum 126791808
 "
                 .as_slice()
         );

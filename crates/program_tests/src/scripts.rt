@@ -4,14 +4,23 @@ use relay_script::{
 };
 use std::alloc::{AllocError, Global};
 use std::test::Fail;
-use stream_model::Reply;
+use stream_model::{Call, Entry, Reply};
 
-// `.` for a line that does nothing, `=` for limits, `+` for a step, `h` for `held`, `-` for a line outside the
-// grammar.
+// `.` for a line that does nothing, `=` for limits, `p` for a pool, `+` for a step, `n` for one with a name, `h` for
+// `held`, `-` for a line outside the grammar.
 fn judged(alloc: Global, line: &[u8]) -> Result<u8, AllocError> {
     match drill_line(alloc, line) {
         Ok(DrillLine::Nothing) => Ok(b'.'),
         Ok(DrillLine::Ring(_)) => Ok(b'='),
+        Ok(DrillLine::Pool(_)) => Ok(b'p'),
+        Ok(
+            DrillLine::Step(
+                Entry {
+                    call: Call::BeginAs(_) | Call::JoinAs(_),
+                    ..
+                },
+            ),
+        ) => Ok(b'n'),
         Ok(DrillLine::Step(_)) => Ok(b'+'),
         Ok(DrillLine::Held) => Ok(b'h'),
         Err(LineFail::Outside) => Ok(b'-'),
@@ -44,7 +53,13 @@ fn a_line_is_inside_the_grammar(rt: HostRuntime) -> Result<(), Fail> {
 .#begin 1
 =ring 0 1 1
 =ring 268435456 65536 256
+ppool 1
+ppool 64
 hheld
+nbegin 1 2
+nbegin 1 anna
+njoin 4294967295 A.z_9-
+njoin 1 1234567890123456789012345678901234567890123456789012345678901234
 +begin 0
 +begin 4294967295
 +end 1
@@ -57,6 +72,7 @@ hheld
 +count
 +push 1 key 4294967295 4194304
 +push 1 inter 0 0
++push 1 spare 0 4194304
 +push 1 audio 0 1
 +push 1 data 0 65537
 +push 1 meta 0 65536
@@ -80,9 +96,17 @@ fn a_line_is_outside_the_grammar(rt: HostRuntime) -> Result<(), Fail> {
 -begin 1x
 -begin 4294967296
 -begin 18446744073709551617
--begin 1 2
+-begin 1 a b
+-begin 1 a/b
+-begin a 1
 -end
--join 1 2
+-end 1 a
+-join 1 12345678901234567890123456789012345678901234567890123456789012345
+-join 1 a \n-pool
+-pool 0
+-pool 65
+-pool 01
+-pool 1 1
 -leave 1
 -leave 1 256
 -take 1 0
@@ -93,6 +117,7 @@ fn a_line_is_outside_the_grammar(rt: HostRuntime) -> Result<(), Fail> {
 -count \n-push 1 key 0
 -push 1 Key 0 1
 -push 1 keys 0 1
+-push 1 spare 0 4194305
 -push 1 key 4294967296 1
 -push 1 key 0 4194305
 -push 1 meta 0 65537
@@ -129,10 +154,11 @@ fn a_reply_line_is_added_at_the_end(rt: HostRuntime) -> Result<(), Fail> {
         },
         &mut out,
     )?;
+    reply_text(alloc, &Reply::NoSlot { slots: 64 }, &mut out)?;
     held_text(alloc, 708, &mut out)?;
     assert_eq!(rt;
         out.as_slice(),
-        b"notpublisher 7\nskip 3 18446744073709551615\nheld 708\n".as_slice()
+        b"notpublisher 7\nskip 3 18446744073709551615\nnoslot 64\nheld 708\n".as_slice()
     );
     Ok(())
 }
@@ -162,6 +188,18 @@ fn told(alloc: Global, line: &[u8]) -> Result<String, AllocError> {
             let key = key.as_slice();
             format!(in alloc; "{stream} {side:?} {mode:?} {key:?}")
         }
+        Ok(ReplayLine::OpenApp { app, names }) => opened(alloc, &app, names),
+        Ok(
+            ReplayLine::GuardOpen {
+                table,
+                side,
+                mode,
+                key,
+            },
+        ) => {
+            let key = key.as_slice();
+            format!(in alloc; "open {table} {side:?} {mode:?} {key:?}")
+        }
         Ok(ReplayLine::Recorder { stream, form }) => format!(in alloc; "{stream} {form:?}"),
         Ok(ReplayLine::Session) => format!(in alloc; "session"),
         Ok(ReplayLine::Piece { session, bytes }) => given(alloc, session, &bytes),
@@ -183,6 +221,11 @@ fn named(alloc: Global, app: &Bytes, name: &Bytes) -> Result<String, AllocError>
     let app = app.as_slice();
     let name = name.as_slice();
     format!(in alloc; "{app:?} {name:?}")
+}
+
+fn opened(alloc: Global, app: &Bytes, names: u32) -> Result<String, AllocError> {
+    let app = app.as_slice();
+    format!(in alloc; "open {app:?} {names}")
 }
 
 fn given(alloc: Global, session: u32, bytes: &Bytes) -> Result<String, AllocError> {
@@ -212,6 +255,11 @@ stream a -
 stream Li.ve_1 z
 guard 0 publish plain a.b
 guard 1 play digest 000102030405060708090a0b0c0d0e0f101112131415161718191a1b1c1d1eff
+openapp a 1
+openapp -.z 64
+guardopen 4294967295 play plain a.b
+guardopen 0 publish digest 000102030405060708090a0b0c0d0e0f101112131415161718191a1b1c1d1eff
+guardopen 0 publish named 000102030405060708090a0b0c0d0e0f101112131415161718191a1b1c1d1eff
 record 2 flv
 record 3 ts
 open
@@ -240,6 +288,11 @@ nothing
 [76, 105, 46, 118, 101, 95, 49] [122]
 0 Publish Plain [97, 46, 98]
 1 Play Digest [0, 1, 2, 3, 4, 5, 6, 7, 8, 9, 10, 11, 12, 13, 14, 15, 16, 17, 18, 19, 20, 21, 22, 23, 24, 25, 26, 27, 28, 29, 30, 255]
+open [97] 1
+open [45, 46, 122] 64
+open 4294967295 Play Plain [97, 46, 98]
+open 0 Publish Digest [0, 1, 2, 3, 4, 5, 6, 7, 8, 9, 10, 11, 12, 13, 14, 15, 16, 17, 18, 19, 20, 21, 22, 23, 24, 25, 26, 27, 28, 29, 30, 255]
+open 0 Publish Named [0, 1, 2, 3, 4, 5, 6, 7, 8, 9, 10, 11, 12, 13, 14, 15, 16, 17, 18, 19, 20, 21, 22, 23, 24, 25, 26, 27, 28, 29, 30, 255]
 2 Flv
 3 Ts
 session
@@ -289,6 +342,18 @@ guard 0 publish digest abc
 guard 0 publish digest 000102030405060708090A0b0c0d0e0f101112131415161718191a1b1c1d1eff
 guard 0 publisher plain a
 guard 0 play named a
+guard 0 play named 000102030405060708090a0b0c0d0e0f101112131415161718191a1b1c1d1eff
+guardopen 0 publish named
+guardopen 0 publish named a
+guardopen 0 publish named 000102030405060708090A0b0c0d0e0f101112131415161718191a1b1c1d1eff
+guardopen 0 publish names a
+guardopen 4294967296 play plain a
+openapp
+openapp live
+openapp live 0
+openapp live 65
+openapp l+ve 1
+openapp live 1 1
 guard 0 play plain a b
 record 0
 record 0 mp4

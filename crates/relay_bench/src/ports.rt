@@ -1,5 +1,5 @@
 //! Calls a second through ports, beside streams under a mutex of std.
-ghost use Rattle.std.specs.Prelude.{◌≤◌, length, IfOk};
+ghost use Rattle.std.specs.Prelude.{◌≡◌, ◌≤◌, length, IfOk};
 
 use crate::stream::Busy;
 use av_unit::{Bytes, OutOfMemory};
@@ -8,8 +8,8 @@ use std::sync::{Arc, Mutex, Wait};
 use std::thread::Threads;
 use std::time::{Clock, Instant};
 use std::{hint, io, thread};
-use stream_core::{Call, Entry, StreamLimits};
-use stream_registry::{Desk, Name, NameList, Shared, Sole, StreamPort, shared_ports};
+use stream_core::{Call, Entry, ShortName, StreamLimits};
+use stream_registry::{Desk, Name, NameList, OpenList, Shared, Sole, StreamPort, shared_ports};
 
 // How many calls each thread makes.
 const CALLS: u64 = 200_000;
@@ -29,32 +29,32 @@ const COUNT: Entry = Entry {
     call: Call::Count,
 };
 
-fn bytes(alloc: Global, text: &[u8]) -> Result<Bytes, OutOfMemory> {
+fn bytes(alloc: Global, text: &[u8]) -> Result<Bytes, OutOfMemory>
+    ensures { IfOk result (λ b. b ≡ text.now) }
+{
     let mut bytes = Bytes::new(alloc);
     bytes.append(text)?;
     Ok(bytes)
+}
+
+// The stream of this name in the application `live`.
+fn name(alloc: Global, text: &[u8]) -> Result<Name, OutOfMemory>
+    requires { length text.now ≤ 64 }
+{
+    Ok(Name {
+        app: bytes(alloc, b"live")?,
+        name: ShortName::new(bytes(alloc, text)?),
+    })
 }
 
 pub(crate) fn names(alloc: Global) -> Result<NameList, OutOfMemory>
     ensures { IfOk result (λ n. length n ≤ 64) }
 {
     let mut names = NameList::new(alloc);
-    names.push(Name {
-        app: bytes(alloc, b"live")?,
-        name: bytes(alloc, b"a")?,
-    })?;
-    names.push(Name {
-        app: bytes(alloc, b"live")?,
-        name: bytes(alloc, b"b")?,
-    })?;
-    names.push(Name {
-        app: bytes(alloc, b"live")?,
-        name: bytes(alloc, b"c")?,
-    })?;
-    names.push(Name {
-        app: bytes(alloc, b"live")?,
-        name: bytes(alloc, b"d")?,
-    })?;
+    names.push(name(alloc, b"a")?)?;
+    names.push(name(alloc, b"b")?)?;
+    names.push(name(alloc, b"c")?)?;
+    names.push(name(alloc, b"d")?)?;
     Ok(names)
 }
 
@@ -144,7 +144,7 @@ fn at_ports(
     threads: usize,
     spread: bool,
 ) -> Result<Vec<AtPort<Shared<Desk>>>, OutOfMemory> {
-    let mut ports = shared_ports(alloc, names(alloc)?, LIMITS, threads)?;
+    let mut ports = shared_ports(alloc, names(alloc)?, OpenList::new(alloc), LIMITS, threads)?;
     let mut callers = Vec::new(alloc);
     for thread in 0..threads {
         if let Some(port) = ports.pop() {
@@ -215,7 +215,7 @@ fn measure_sole<R: Clock + Print>(rt: &R, alloc: Global) -> io::Result<()> {
     let Ok(names) = names(alloc) else {
         return Err(AllocError.into());
     };
-    let Ok(mut sole) = Sole::new(alloc, names, LIMITS) else {
+    let Ok(mut sole) = Sole::new(alloc, names, OpenList::new(alloc), LIMITS) else {
         return Err(AllocError.into());
     };
     let start = Instant::now(rt)?;

@@ -17,7 +17,7 @@ use std::io;
 use std::sync::Wait;
 use std::time::{Clock, Instant};
 use stream_model::StreamLimits;
-use stream_registry::{Sole, StreamPort};
+use stream_registry::{OpenList, Sole, StreamPort};
 
 const PLAYERS: u32 = 100;
 
@@ -128,7 +128,7 @@ fn door(alloc: Global) -> Result<MemDoor, AllocError>
 fn deliver<W: Wait>(rt: &W, alloc: Global, door: MemDoor) -> Result<MemDoor, OutOfMemory>
     requires { IsNewDoor (door_told door) }
 {
-    let port = Sole::new(alloc, names(alloc)?, STREAM)?;
+    let port = Sole::new(alloc, names(alloc)?, OpenList::new(alloc), STREAM)?;
     let Ok(place) = port.find(b"live", b"a") else {
         return Err(OutOfMemory);
     };

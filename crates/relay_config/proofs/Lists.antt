@@ -6,7 +6,7 @@ use Rattle.std.specs.List.{list_all, cons_option}
 use Rattle.std.proofs.lemmas.List.{take_more, map-append}
 use Rattle.std.proofs.lemmas.List.Elements.{filter_map-append}
 use Rattle.key_guard.specs.declared.check.Mode.{Mode}
-use Rattle.relay_config.specs.Values.{kept, keys_of_texts, place_of}
+use Rattle.relay_config.specs.Values.{kept, keys_of_texts, place_of, open_of}
 use Rattle.toml.specs.Data.{Data, as_array, as_str}
 use Rattle.toml.specs.View.{view, items_view}
 use Rattle.toml.specs.declared.value.Value.{Value}
@@ -31,10 +31,16 @@ pub list_of_all : (test : Data → Bool) (vs : List Value) (d : Data) (r : Bool)
     → r ≡ list_all (λ v. test (view v)) vs → r ≡ is_list_of test d
 list_of_all test vs d r there is e = e ∙ all_of test vs (elements d) is ∙ ap (λ b. b && list_all test (elements d)) there
 
--- the places of streams
+-- the streams and the open tables
+all_mapped : {X : Type 0} (f : Data → X) (vs : List Value) → map (λ v. f (view v)) vs ≡ map f (map view vs)
+all_mapped f [] = refl
+all_mapped f (v ∷ vs) = ap (λ xs. f (view v) ∷ xs) (all_mapped f vs)
+
 pub places_viewed : (vs : List Value) → map (λ v. place_of (view v)) vs ≡ map place_of (map view vs)
-places_viewed [] = refl
-places_viewed (v ∷ vs) = ap (λ ps. place_of (view v) ∷ ps) (places_viewed vs)
+places_viewed vs = all_mapped place_of vs
+
+pub opens_viewed : (vs : List Value) → map (λ v. open_of (view v)) vs ≡ map open_of (map view vs)
+opens_viewed vs = all_mapped open_of vs
 
 -- the keys of one value more
 keys_with : (m : Mode) (vs : List Value) (v : Value)

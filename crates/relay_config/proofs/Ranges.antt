@@ -55,8 +55,8 @@ number_inside (Some value) least most default low high h = go (number_in value) 
     go None k = absurd (cc)
     go (Some n) k = grind (arith, nat_tests, k)
 
-in_rows : (d : Data) (streams : List Data) → Each (is_outside d) relay_rows → InRange (config_of d streams)
-in_rows d streams h =
+in_rows : (d : Data) (streams opens : List Data) → Each (is_outside d) relay_rows → InRange (config_of d streams opens)
+in_rows d streams opens h =
     let message = number_inside (value_at key.MaxMessage d) 4096 4194304 4194304 (lit≤ tt) (lit≤ tt) h.1.1.1.1.0 in
     let window = number_inside (value_at key.Window d) 1000 2147483647 2500000 (lit≤ tt) (lit≤ tt) h.1.1.1.1.1.1.1.1.0 in
     record {
@@ -71,5 +71,5 @@ in_rows d streams h =
       window = (window.0, omega (arith, window.1));
     }
 
-pub in_range : (d : Data) (streams : List Data) (config : Config) → table_refusal relay_rows d ≡ None → config ≡ config_of d streams → InRange config
-in_range d streams config h is = let P : Config → Type 0 = InRange in subst P (sym is) (in_rows d streams (each_inside relay_rows d h))
+pub in_range : (d : Data) (streams opens : List Data) (config : Config) → table_refusal relay_rows d ≡ None → config ≡ config_of d streams opens → InRange config
+in_range d streams opens config h is = let P : Config → Type 0 = InRange in subst P (sym is) (in_rows d streams opens (each_inside relay_rows d h))

@@ -1,12 +1,13 @@
 -- How the keys of a configuration are written
 use Rattle.std.specs.Prelude.{ℕ, List, codes}
 use Rattle.relay_config.specs.declared.key.Key.{Key}
-use Rattle.relay_config.specs.declared.key.Key.TheVariants.{Relay, Stream, Listen, Workers, Links, Accept, MaxMessage, RingBytes, RingItems, Players}
-use Rattle.relay_config.specs.declared.key.Key.TheVariants.{Window, App, Name, Publish, Play, Digest, Flv, Ts}
+use Rattle.relay_config.specs.declared.key.Key.TheVariants.{Relay, Stream, Open, Listen, Workers, Links, Accept, MaxMessage, RingBytes, RingItems, Players}
+use Rattle.relay_config.specs.declared.key.Key.TheVariants.{Window, App, Name, Names, Publish, Play, Digest, Flv, Ts}
 
 abbrev pub name_of : Key → List ℕ
 name_of Relay = codes "relay"
 name_of Stream = codes "stream"
+name_of Open = codes "open"
 name_of Listen = codes "listen"
 name_of Workers = codes "workers"
 name_of Links = codes "links"
@@ -18,6 +19,7 @@ name_of Players = codes "players"
 name_of Window = codes "window"
 name_of App = codes "app"
 name_of Name = codes "name"
+name_of Names = codes "names"
 name_of Publish = codes "publish"
 name_of Play = codes "play"
 name_of Digest = codes "digest"

@@ -1,5 +1,5 @@
 -- The tests that a configuration must pass, in order, and what is answered at the first that fails
-use Rattle.std.specs.Prelude.{◌≡◌, ℕ, ◌⊎◌, Bool, true, false, not, ◌&&◌, ◌==◌, nat_lt, nat_eq, if◌then◌else◌, List, [], ◌∷◌, length}
+use Rattle.std.specs.Prelude.{◌≡◌, ℕ, ◌+◌, ◌⊎◌, Bool, true, false, not, ◌&&◌, ◌==◌, nat_lt, nat_eq, if◌then◌else◌, List, [], ◌∷◌, length}
 use Rattle.std.specs.Prelude.{take, map, Option, Some, None, option_map, is_none, slice_get, Result, MatchResult}
 use Rattle.std.specs.Option.{option_or, option_and_then, option_map_or}
 use Rattle.std.specs.List.{find, list_any, range_with_len}
@@ -7,6 +7,7 @@ use Rattle.std.specs.Cmp.Lexicographic.{pointwise}
 use Rattle.toml.specs.Data.{Data, Members, no_members, member, as_table}
 use Rattle.relay_config.specs.declared.config.Config.{Config}
 use Rattle.relay_config.specs.declared.config.PlaceRule.{PlaceRule}
+use Rattle.relay_config.specs.declared.config.OpenRule.{OpenRule}
 use Rattle.relay_config.specs.declared.config.ConfigFail.{ConfigFail}
 use Rattle.relay_config.specs.declared.config.ConfigFail.TheVariants as fail
 use Rattle.relay_config.specs.declared.key.Key.{Key}
@@ -16,8 +17,8 @@ use Rattle.relay_config.specs.declared.rows.Form.TheVariants.{Table, Tables, Tex
 use Rattle.relay_config.specs.declared.rows.Row.{Row}
 use Rattle.relay_config.specs.Names.{name_of}
 use Rattle.relay_config.specs.Forms.{value_at, fits}
-use Rattle.relay_config.specs.Sum.{configured_sum}
-use Rattle.relay_config.specs.Values.{config_of, streams_of}
+use Rattle.relay_config.specs.Sum.{names_of, configured_sum}
+use Rattle.relay_config.specs.Values.{config_of, streams_of, opens_of}
 
 -- the first of the refusals
 abbrev pub first_of : List (Option ConfigFail) → Option ConfigFail
@@ -33,7 +34,7 @@ abbrev pub optional : Key → Form → Row
 optional k f = record { key = k; required = false; form = f }
 
 abbrev pub whole_rows : List Row
-whole_rows = required key.Relay Table ∷ optional key.Stream Tables ∷ []
+whole_rows = required key.Relay Table ∷ optional key.Stream Tables ∷ optional key.Open Tables ∷ []
 
 abbrev pub relay_rows : List Row
 relay_rows =
@@ -57,6 +58,15 @@ stream_rows =
     ∷ optional key.Digest Truth
     ∷ optional key.Flv (Text 255)
     ∷ optional key.Ts (Text 255)
+    ∷ []
+
+abbrev pub open_rows : List Row
+open_rows =
+    required key.App Word
+    ∷ required key.Names (Number 1 64)
+    ∷ optional key.Publish Keys
+    ∷ optional key.Play Keys
+    ∷ optional key.Digest Truth
     ∷ []
 
 -- ---- the tests of one table
@@ -94,27 +104,36 @@ table_refusal rows d = first_of (
     ∷ option_map fail.Range (first_key (is_outside d) rows)
     ∷ [])
 
--- ---- the tests of the streams together
+-- ---- the tests of the streams and open tables together
 
 abbrev pub same_names : PlaceRule → PlaceRule → Bool
 same_names p q = pointwise nat_eq p.app q.app && pointwise nat_eq p.name q.name
 
--- whether an earlier stream has the pair of names of the stream at place i
-abbrev pub repeats : List PlaceRule → ℕ → Bool
-repeats places i = option_map_or (λ p. list_any (same_names p) (take i places)) (slice_get places i) false
+abbrev pub same_app : OpenRule → OpenRule → Bool
+same_app o p = pointwise nat_eq o.app p.app
 
--- the least place of a stream that has the names of an earlier one
-abbrev pub twice_in : List PlaceRule → Option ℕ
-twice_in places = find (repeats places) (range_with_len 0 (length places))
+-- whether an earlier one is the same as the one at index i
+abbrev pub repeats : {X : Type 0} → (X → X → Bool) → List X → ℕ → Bool
+repeats same xs i = option_map_or (λ x. list_any (same x) (take i xs)) (slice_get xs i) false
+
+-- the least index of one that is the same as an earlier one
+abbrev pub twice_in : {X : Type 0} → (X → X → Bool) → List X → Option ℕ
+twice_in same xs = find (repeats same xs) (range_with_len 0 (length xs))
+
+-- the least place of a stream that has the names of an earlier one, else that of an open table that has the app of an earlier
+-- one; the places of open tables are counted on behind those of the streams
+abbrev pub twice_of : Config → Option ℕ
+twice_of config = option_or (twice_in same_names config.places) (option_map (λ i. length config.places + i) (twice_in same_app config.opens))
 
 abbrev pub when : Bool → ConfigFail → Option ConfigFail
 when b e = if b then Some e else None
 
 abbrev pub whole_refusal : Config → Option ConfigFail
 whole_refusal config = first_of (
-    when (length config.places == 0) (fail.Missing key.Stream)
+    when (length config.places + length config.opens == 0) (fail.Missing key.Stream)
     ∷ when (nat_lt 64 (length config.places)) (fail.Range key.Stream)
-    ∷ option_map fail.Twice (twice_in config.places)
+    ∷ when (nat_lt 64 (length config.places + names_of config.opens)) (fail.Range key.Names)
+    ∷ option_map fail.Twice (twice_of config)
     ∷ when (nat_lt 6442450944 (configured_sum config)) (fail.TooMuch (configured_sum config))
     ∷ [])
 
@@ -123,17 +142,18 @@ whole_refusal config = first_of (
 abbrev pub relay_refusal : Data → Option ConfigFail
 relay_refusal d = option_and_then (table_refusal relay_rows) (value_at key.Relay d)
 
-abbrev pub streams_refusal : List Data → Option ConfigFail
-streams_refusal streams = first_of (map (table_refusal stream_rows) streams)
+abbrev pub tables_refusal : List Row → List Data → Option ConfigFail
+tables_refusal rows tables = first_of (map (table_refusal rows) tables)
 
 abbrev pub values_of : Data → Option Config
-values_of d = option_map (λ relay. config_of relay (streams_of d)) (value_at key.Relay d)
+values_of d = option_map (λ relay. config_of relay (streams_of d) (opens_of d)) (value_at key.Relay d)
 
 abbrev pub first_refusal : Data → Option ConfigFail
 first_refusal d = first_of (
     table_refusal whole_rows d
     ∷ relay_refusal d
-    ∷ streams_refusal (streams_of d)
+    ∷ tables_refusal stream_rows (streams_of d)
+    ∷ tables_refusal open_rows (opens_of d)
     ∷ option_and_then whole_refusal (values_of d)
     ∷ [])
 

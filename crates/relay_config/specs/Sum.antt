@@ -1,13 +1,18 @@
 -- The bound on the memory that a relay holds, in bytes
-use Rattle.std.specs.Prelude.{ℕ, ◌+◌, ◌*◌, ◌<◌, ◌≤◌, ◌^◌, List, length, count_by, is_some}
+use Rattle.std.specs.Prelude.{ℕ, ◌+◌, ◌*◌, ◌<◌, ◌≤◌, ◌^◌, List, [], ◌∷◌, length, count_by, is_some}
 use Rattle.std.specs.Int.{div_ceil}
 use Rattle.relay_base.specs.declared.limits.Limits.{Limits}
 use Rattle.relay_config.specs.declared.config.Config.{Config}
 use Rattle.relay_config.specs.declared.config.PlaceRule.{PlaceRule}
+use Rattle.relay_config.specs.declared.config.OpenRule.{OpenRule}
 
 -- a stream: its ring, and one configuration of each kind
 abbrev pub stream_bytes : Limits → ℕ
 stream_bytes limits = limits.ring_bytes + 196608
+
+-- a name of an open table: those of a stream, and the name itself
+abbrev pub name_bytes : Limits → ℕ
+name_bytes limits = limits.ring_bytes + 196672
 
 -- a session: its input, what its reader assembles, its answers, and the unit in its hand as it is and in chunks
 abbrev pub session_bytes : Limits → ℕ
@@ -16,17 +21,23 @@ session_bytes limits = 4096 + (limits.max_message + 65536) + 32768 + limits.max_
 abbrev pub recorder_bytes : Limits → ℕ
 recorder_bytes limits = 4 * limits.max_message + 262144
 
-abbrev pub total_of : Limits → ℕ → ℕ → ℕ → ℕ
-total_of limits streams sessions recorders =
-    streams * stream_bytes limits + sessions * session_bytes limits + recorders * recorder_bytes limits
+abbrev pub total_of : Limits → ℕ → ℕ → ℕ → ℕ → ℕ
+total_of limits streams names sessions recorders =
+    streams * stream_bytes limits + names * name_bytes limits + sessions * session_bytes limits + recorders * recorder_bytes limits
 
 -- the recordings that a configuration names
 abbrev pub recorders_of : List PlaceRule → ℕ
 recorders_of places = count_by (λ p. is_some p.flv) places + count_by (λ p. is_some p.ts) places
 
+-- the names that open tables have together
+abbrev pub names_of : List OpenRule → ℕ
+names_of [] = 0
+names_of (o ∷ opens) = o.names + names_of opens
+
 -- the configured sum
 abbrev pub configured_sum : Config → ℕ
-configured_sum config = total_of config.limits (length config.places) (config.workers * config.links) (recorders_of config.places)
+configured_sum config =
+    total_of config.limits (length config.places) (names_of config.opens) (config.workers * config.links) (recorders_of config.places)
 
 -- the ranges of a configuration's numbers
 pub record InRange (config : Config) : Type 0 where

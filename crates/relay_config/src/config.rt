@@ -18,6 +18,8 @@ pub struct Config {
     pub limits: Limits,
     /// Its streams, each at its place.
     pub places: PlaceList,
+    /// Its open tables, which have the places behind those of the streams.
+    pub opens: OpenRules,
 }
 
 /// One stream: the pair of names by which it is asked for, who may publish and play it, and where it is recorded.
@@ -38,6 +40,21 @@ pub struct PlaceRule {
 /// Streams, in order.
 pub type PlaceList = Listed<PlaceRule>;
 
+/// An open table: an application whose streams nobody listed. Who publishes in it gives the stream its name.
+#[derive(Debug, Drop)]
+pub struct OpenRule {
+    pub app: Bytes,
+    /// How many names it has at a time.
+    pub names: u32,
+    pub publish: Grants,
+    pub play: Grants,
+    /// How the keys of both lists are kept: `Plain` or `Named`.
+    pub mode: Mode,
+}
+
+/// Open tables, in order.
+pub type OpenRules = Listed<OpenRule>;
+
 /// Why a configuration is refused: the first test that it fails.
 #[derive(Debug, PartialEq, Eq, Drop)]
 pub enum ConfigFail {
@@ -45,11 +62,11 @@ pub enum ConfigFail {
     NotToml,
     /// A table has a key that it may not have.
     Unknown { key: Bytes },
-    /// A table lacks a key, or there is no stream.
+    /// A table lacks a key, or there is neither a stream nor an open table.
     Missing { key: Key },
-    /// A value has a wrong form or is out of its range, or there are too many streams.
+    /// A value has a wrong form or is out of its range, or there are too many streams or names.
     Range { key: Key },
-    /// The stream at this place has the names of an earlier one.
+    /// The stream at this place has the names of an earlier one, or the open table the application of an earlier one.
     Twice { place: u32 },
     /// The configured sum passes the bound.
     TooMuch { sum: u64 },

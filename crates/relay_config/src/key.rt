@@ -1,12 +1,13 @@
 ghost use Rattle.std.specs.Prelude.{◌≡◌};
 ghost use Rattle.relay_config.specs.Names.{name_of};
 
-/// The keys that a configuration may have: `relay` and `stream` of the whole, then those of the table `relay`,
-/// then those of each table `stream`.
+/// The keys that a configuration may have: `relay`, `stream` and `open` of the whole, then those of the table
+/// `relay`, then those of each table `stream` and of each table `open`.
 #[derive(Clone, Copy, Debug, PartialEq, Eq)]
 pub enum Key {
     Relay,
     Stream,
+    Open,
     Listen,
     Workers,
     Links,
@@ -18,6 +19,7 @@ pub enum Key {
     Window,
     App,
     Name,
+    Names,
     Publish,
     Play,
     Digest,
@@ -33,6 +35,7 @@ impl Key {
         match self {
             Key::Relay => "relay",
             Key::Stream => "stream",
+            Key::Open => "open",
             Key::Listen => "listen",
             Key::Workers => "workers",
             Key::Links => "links",
@@ -44,6 +47,7 @@ impl Key {
             Key::Window => "window",
             Key::App => "app",
             Key::Name => "name",
+            Key::Names => "names",
             Key::Publish => "publish",
             Key::Play => "play",
             Key::Digest => "digest",

@@ -1,6 +1,6 @@
-//! What a relay is told before it starts: where it listens, how much it takes, which streams it has and who may
-//! publish and play each. A configuration is a TOML text of at most 1,048,576 bytes; docs/use/configuration.md has
-//! each key with its range and its default.
+//! What a relay is told before it starts: where it listens, how much it takes, which streams it has, in which
+//! applications a publisher may name one, and who may publish and play each. A configuration is a TOML text of at
+//! most 1,048,576 bytes; docs/use/configuration.md has each key with its range and its default.
 //!
 //! `read_config` answers the configuration of a text that is accepted, and else the first test that the text
 //! fails. A configuration tells its bound of memory, its sum, before anything runs, and one whose sum passes
@@ -18,7 +18,7 @@ mod total;
 mod values;
 mod whole;
 
-pub use config::{Config, ConfigFail, PlaceList, PlaceRule};
+pub use config::{Config, ConfigFail, OpenRule, OpenRules, PlaceList, PlaceRule};
 pub use key::Key;
 pub use read::read_config;
 pub use report_line::report;

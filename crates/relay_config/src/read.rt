@@ -1,11 +1,12 @@
 ghost use Rattle.std.specs.Prelude.{◌≡◌, ◌⊎◌, Some, None, map, IfOk, IfErr};
 ghost use Rattle.toml.specs.View.{view};
-ghost use Rattle.relay_config.specs.Values.{streams_of};
-ghost use Rattle.relay_config.specs.Refusals.{Tells, streams_refusal, first_refusal, values_of};
+ghost use Rattle.relay_config.specs.Values.{tables_at};
+ghost use Rattle.relay_config.specs.Refusals.{Tells, tables_refusal, first_refusal, values_of};
 ghost use Rattle.relay_config.specs.Accepts.{document, refusal, Accepts, Lawful};
 
 use crate::check::check_table;
 use crate::forms::{elements, value_at};
+use crate::rows::Row;
 use crate::values::config;
 use crate::whole::check_whole;
 use crate::{Config, ConfigFail, Key, rows};
@@ -32,21 +33,22 @@ fn document(alloc: Global, bytes: &[u8]) -> Result<Value, ConfigFail>
     }
 }
 
-fn streams_of(whole: &Value) -> &[Value]
-    ensures { map (λ v. view v) result.now ≡ streams_of (view whole.now) }
+// The tables of a list, none where it isn't there.
+fn tables_at(whole: &Value, key: Key) -> &[Value]
+    ensures { map (λ v. view v) result.now ≡ tables_at key (view whole.now) }
 {
-    match value_at(whole, Key::Stream) {
+    match value_at(whole, key) {
         Some(list) => elements(list),
         None => &[],
     }
 }
 
-fn check_streams(alloc: Global, streams: &[Value]) -> Result<(), ConfigFail>
-    ensures { Tells result (streams_refusal (map (λ v. view v) streams.now)) }
+// The tests of each table of a list, one table after the other.
+fn check_tables(alloc: Global, rows: &[Row], tables: &[Value]) -> Result<(), ConfigFail>
+    ensures { Tells result (tables_refusal rows.now (map (λ v. view v) tables.now)) }
 {
-    let rows = rows::stream();
-    for stream in streams {
-        check_table(alloc, &rows, stream)?;
+    for table in tables {
+        check_table(alloc, rows, table)?;
     }
     Ok(())
 }
@@ -61,9 +63,11 @@ fn read_whole(alloc: Global, whole: &Value) -> Result<Config, ConfigFail>
         return Err(ConfigFail::Missing { key: Key::Relay });
     };
     check_table(alloc, &rows::relay(), relay)?;
-    let streams = streams_of(whole);
-    check_streams(alloc, streams)?;
-    let config = config(alloc, relay, streams)?;
+    let streams = tables_at(whole, Key::Stream);
+    check_tables(alloc, &rows::stream(), streams)?;
+    let opens = tables_at(whole, Key::Open);
+    check_tables(alloc, &rows::open_table(), opens)?;
+    let config = config(alloc, relay, streams, opens)?;
     check_whole(&config)?;
     Ok(config)
 }
@@ -71,9 +75,9 @@ fn read_whole(alloc: Global, whole: &Value) -> Result<Config, ConfigFail>
 /// The configuration that a text tells.
 ///
 /// It is Ok exactly where the text is accepted, with its values and defaults. Else it is the first test that the
-/// text fails: `NotToml`; for the whole, the table `relay` and each stream in order, `Unknown`, then `Missing`,
-/// then `Range` of the first such key; for the streams together `Missing`, `Range`, `Twice` and `TooMuch`.
-/// `OutOfMemory` may come in place of any of these.
+/// text fails: `NotToml`; for the whole, the table `relay`, each stream and each open table in order, `Unknown`, then
+/// `Missing`, then `Range` of the first such key; for the streams and open tables together `Missing`, `Range` of the
+/// streams and of the names, `Twice` and `TooMuch`. `OutOfMemory` may come in place of any of these.
 pub fn read_config(alloc: Global, bytes: &[u8]) -> Result<Config, ConfigFail>
     ensures ok { IfOk result (Accepts bytes.now) }
     ensures refused { IfErr result (λ e. (e ≡ ConfigFail.OutOfMemory) ⊎ (refusal bytes.now ≡ Some e)) }

@@ -1,5 +1,5 @@
 ghost use Rattle.std.specs.Prelude.{◌≡◌};
-ghost use Rattle.relay_config.specs.Refusals.{required, optional, whole_rows, relay_rows, stream_rows};
+ghost use Rattle.relay_config.specs.Refusals.{required, optional, whole_rows, relay_rows, stream_rows, open_rows};
 
 use crate::Key;
 
@@ -62,12 +62,13 @@ fn number(key: Key, least: u32, most: u32) -> Row
 }
 
 /// What the text has.
-pub(crate) fn whole() -> [Row; 2]
+pub(crate) fn whole() -> [Row; 3]
     ensures { result ≡ whole_rows }
 {
     [
         Row::required(Key::Relay, Form::Table),
         Row::optional(Key::Stream, Form::Tables),
+        Row::optional(Key::Open, Form::Tables),
     ]
 }
 
@@ -100,5 +101,18 @@ pub(crate) fn stream() -> [Row; 7]
         Row::optional(Key::Digest, Form::Truth),
         Row::optional(Key::Flv, Form::Text { most: 255 }),
         Row::optional(Key::Ts, Form::Text { most: 255 }),
+    ]
+}
+
+/// What a table `open` has.
+pub(crate) fn open_table() -> [Row; 5]
+    ensures { result ≡ open_rows }
+{
+    [
+        Row::required(Key::App, Form::Word),
+        Row::required(Key::Names, Form::Number { least: 1, most: 64 }),
+        Row::optional(Key::Publish, Form::Keys),
+        Row::optional(Key::Play, Form::Keys),
+        Row::optional(Key::Digest, Form::Truth),
     ]
 }

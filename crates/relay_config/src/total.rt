@@ -1,7 +1,7 @@
 ghost use Rattle.std.specs.Prelude.{◌≡◌, ◌+◌, ◌*◌, ◌≤◌, ◌<◌, ◌^◌, length};
-ghost use Rattle.relay_config.specs.Sum.{stream_bytes, session_bytes, recorder_bytes, total_of, recorders_of, configured_sum, InRange};
+ghost use Rattle.relay_config.specs.Sum.{stream_bytes, name_bytes, session_bytes, recorder_bytes, total_of, recorders_of, names_of, configured_sum, InRange};
 
-use crate::{Config, PlaceRule};
+use crate::{Config, OpenRule, PlaceRule};
 use relay_base::Limits;
 
 fn stream_bytes(limits: &Limits) -> u64
@@ -10,6 +10,14 @@ fn stream_bytes(limits: &Limits) -> u64
     ensures most { result < 2 ^ 29 }
 {
     limits.ring_bytes + 196_608
+}
+
+fn name_bytes(limits: &Limits) -> u64
+    requires { limits.now.ring_bytes ≤ 268435456 }
+    ensures value { result ≡ name_bytes limits.now }
+    ensures most { result < 2 ^ 29 }
+{
+    limits.ring_bytes + 196_672
 }
 
 fn session_bytes(limits: &Limits) -> u64
@@ -29,15 +37,16 @@ fn recorder_bytes(limits: &Limits) -> u64
     4 * limits.max_message as u64 + 262_144
 }
 
-/// How many bytes so many streams, sessions and recorders hold at most, with these limits: each stream its ring
-/// and a configuration of each kind, each session its input, its answers and the unit in its hand, each recorder
-/// the unit that it writes.
-pub fn sum_of(limits: &Limits, streams: u32, sessions: u32, recorders: u32) -> u64
+/// How many bytes so many streams, names of open tables, sessions and recorders hold at most, with these limits:
+/// each stream its ring and a configuration of each kind, each name the same and itself, each session its input, its
+/// answers and the unit in its hand, each recorder the unit that it writes.
+pub fn sum_of(limits: &Limits, streams: u32, names: u32, sessions: u32, recorders: u32) -> u64
     requires ring { limits.now.ring_bytes ≤ 268435456 }
     requires message { limits.now.max_message ≤ 4194304 }
-    ensures { result ≡ total_of limits.now streams sessions recorders }
+    ensures { result ≡ total_of limits.now streams names sessions recorders }
 {
     streams as u64 * stream_bytes(limits)
+        + names as u64 * name_bytes(limits)
         + sessions as u64 * session_bytes(limits)
         + recorders as u64 * recorder_bytes(limits)
 }
@@ -52,10 +61,21 @@ fn recorders_of(places: &[PlaceRule]) -> usize
     flv + ts
 }
 
+fn names_of(opens: &[OpenRule]) -> u32
+    requires { names_of opens.now ≤ 64 }
+    ensures { result ≡ names_of opens.now }
+{
+    let mut names = 0;
+    for rule in opens {
+        names += rule.names;
+    }
+    names
+}
+
 /// How many bytes a relay of this configuration holds at most: the configured sum.
 pub fn sum(config: &Config) -> u64
     requires numbers { InRange config.now }
-    requires streams { length config.now.places ≤ 64 }
+    requires names { length config.now.places + names_of config.now.opens ≤ 64 }
     ensures { result ≡ configured_sum config.now }
 {
     let places = config.places.as_slice();
@@ -64,6 +84,7 @@ pub fn sum(config: &Config) -> u64
     sum_of(
         &config.limits,
         places.len() as u32,
+        names_of(config.opens.as_slice()),
         sessions,
         recorders as u32,
     )

@@ -2,10 +2,10 @@ ghost use Rattle.std.specs.Prelude.{◌≡◌, [], map, IfOk};
 ghost use Rattle.std.specs.Option.{unwrap_or};
 ghost use Rattle.toml.specs.View.{view};
 ghost use Rattle.relay_config.specs.Forms.{text_at};
-ghost use Rattle.relay_config.specs.Values.{kept, keys_of_texts, mode_of, grants_at, place_of, limits_of, config_of};
+ghost use Rattle.relay_config.specs.Values.{kept, keys_of_texts, mode_by, grants_at, place_of, open_of, limits_of, config_of};
 
 use crate::forms::{elements, is_true_at, number_or, text_at, value_at};
-use crate::{Config, Key, PlaceList, PlaceRule};
+use crate::{Config, Key, OpenRule, OpenRules, PlaceList, PlaceRule};
 use av_unit::{Bytes, OutOfMemory};
 use hex::FromHexError;
 use key_guard::{Grants, KeyList, Mode};
@@ -45,7 +45,7 @@ fn kept(alloc: Global, mode: Mode, text: &str) -> Result<Bytes, OutOfMemory>
 {
     match mode {
         Mode::Plain => copied(alloc, text),
-        Mode::Digest => match hex::decode(alloc, text.as_bytes()) {
+        Mode::Digest | Mode::Named => match hex::decode(alloc, text.as_bytes()) {
             Ok(digest) => Ok(Bytes::from_vec(digest)),
             Err(FromHexError::OutOfMemory) => Err(OutOfMemory),
             Err(_) => Ok(Bytes::new(alloc)),
@@ -74,11 +74,22 @@ fn grants(alloc: Global, table: &Value, key: Key, mode: Mode) -> Result<Grants, 
     }
 }
 
-fn mode(table: &Value) -> Mode
-    ensures { result ≡ mode_of (view table.now) }
+// Who may publish and who may play.
+fn both_grants(alloc: Global, table: &Value, mode: Mode) -> Result<(Grants, Grants), OutOfMemory>
+    ensures publish { IfOk result (λ both. both.0 ≡ grants_at Key.Publish mode (view table.now)) }
+    ensures play { IfOk result (λ both. both.1 ≡ grants_at Key.Play mode (view table.now)) }
+{
+    let publish = grants(alloc, table, Key::Publish, mode)?;
+    let play = grants(alloc, table, Key::Play, mode)?;
+    Ok((publish, play))
+}
+
+// How a table keeps its keys, with the mode of its kind of digests.
+fn mode(table: &Value, digests: Mode) -> Mode
+    ensures { result ≡ mode_by digests (view table.now) }
 {
     if is_true_at(table, Key::Digest) {
-        Mode::Digest
+        digests
     } else {
         Mode::Plain
     }
@@ -87,12 +98,13 @@ fn mode(table: &Value) -> Mode
 fn place(alloc: Global, table: &Value) -> Result<PlaceRule, OutOfMemory>
     ensures { IfOk result (λ place. place ≡ place_of (view table.now)) }
 {
-    let mode = mode(table);
+    let mode = mode(table, Mode::Digest);
+    let (publish, play) = both_grants(alloc, table, mode)?;
     Ok(PlaceRule {
         app: required_text(alloc, table, Key::App)?,
         name: required_text(alloc, table, Key::Name)?,
-        publish: grants(alloc, table, Key::Publish, mode)?,
-        play: grants(alloc, table, Key::Play, mode)?,
+        publish,
+        play,
         mode,
         flv: optional_text(alloc, table, Key::Flv)?,
         ts: optional_text(alloc, table, Key::Ts)?,
@@ -109,6 +121,30 @@ fn places(alloc: Global, streams: &[Value]) -> Result<PlaceList, OutOfMemory>
     Ok(PlaceList::from_vec(places))
 }
 
+fn open_rule(alloc: Global, table: &Value) -> Result<OpenRule, OutOfMemory>
+    ensures { IfOk result (λ rule. rule ≡ open_of (view table.now)) }
+{
+    let mode = mode(table, Mode::Named);
+    let (publish, play) = both_grants(alloc, table, mode)?;
+    Ok(OpenRule {
+        app: required_text(alloc, table, Key::App)?,
+        names: number_or(table, Key::Names, 0),
+        publish,
+        play,
+        mode,
+    })
+}
+
+fn opens(alloc: Global, tables: &[Value]) -> Result<OpenRules, OutOfMemory>
+    ensures { IfOk result (λ rules. rules ≡ map (λ v. open_of (view v)) tables.now) }
+{
+    let mut opens = Vec::with_capacity(alloc, tables.len())?;
+    for table in tables {
+        opens.push(open_rule(alloc, table)?)?;
+    }
+    Ok(OpenRules::from_vec(opens))
+}
+
 fn limits(relay: &Value) -> Limits
     ensures { result ≡ limits_of (view relay.now) }
 {
@@ -121,10 +157,15 @@ fn limits(relay: &Value) -> Limits
     }
 }
 
-/// The configuration of the table `relay` and the tables `stream`, with its defaults.
-#[tactic(auto, using(crate::proofs::Lists::places_viewed))]
-pub(crate) fn config(alloc: Global, relay: &Value, streams: &[Value]) -> Result<Config, OutOfMemory>
-    ensures { IfOk result (λ config. config ≡ config_of (view relay.now) (map (λ v. view v) streams.now)) }
+/// The configuration of the table `relay`, the tables `stream` and the tables `open`, with its defaults.
+#[tactic(auto, using(crate::proofs::Lists::places_viewed, crate::proofs::Lists::opens_viewed))]
+pub(crate) fn config(
+    alloc: Global,
+    relay: &Value,
+    streams: &[Value],
+    tables: &[Value],
+) -> Result<Config, OutOfMemory>
+    ensures { IfOk result (λ config. config ≡ config_of (view relay.now) (map (λ v. view v) streams.now) (map (λ v. view v) tables.now)) }
 {
     Ok(Config {
         listen: required_text(alloc, relay, Key::Listen)?,
@@ -133,5 +174,6 @@ pub(crate) fn config(alloc: Global, relay: &Value, streams: &[Value]) -> Result<
         accept: number_or(relay, Key::Accept, 0),
         limits: limits(relay),
         places: places(alloc, streams)?,
+        opens: opens(alloc, tables)?,
     })
 }

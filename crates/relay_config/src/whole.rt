@@ -1,58 +1,119 @@
-ghost use Rattle.std.specs.Prelude.{◌≡◌, ◌≤◌, ◌<◌, length};
-ghost use Rattle.std.specs.List.{list_any};
-ghost use Rattle.relay_config.specs.Sum.{InRange};
-ghost use Rattle.relay_config.specs.Refusals.{Tells, same_names, repeats, twice_in, whole_refusal};
+ghost use Rattle.std.specs.Prelude.{◌≡◌, ◌≤◌, ◌<◌, ◌+◌, Bool, length, nat_le, IfSome};
+ghost use Rattle.std.specs.List.{list_any, AllPass};
+ghost use Rattle.relay_config.specs.Sum.{InRange, names_of};
+ghost use Rattle.relay_config.specs.Accepts.{has_room};
+ghost use Rattle.relay_config.specs.Refusals.{Tells, repeats, twice_in, twice_of, whole_refusal};
 
-use crate::{Config, ConfigFail, Key, PlaceRule, sum};
+use crate::{Config, ConfigFail, Key, OpenRule, PlaceRule, sum};
 
-// How many streams a relay has at most, and how many bytes the configured sum may have.
-const MOST_STREAMS: usize = 64;
+// How many streams and names a relay has at most, and how many bytes the configured sum may have.
+const MOST_NAMES: usize = 64;
 
 const MOST_SUM: u64 = 6_442_450_944;
 
-fn same_names(place: &PlaceRule, other: &PlaceRule) -> bool
-    ensures { result ≡ same_names place.now other.now }
-{
-    place.app == other.app && place.name == other.name
+// That of which a configuration has no two that are the same.
+trait Single {
+    // Whether two are the same.
+    ghost same: { Self → Self → Bool };
+
+    // Whether the other is the same.
+    fn is_same(&self, other: &Self) -> bool
+        ensures { result ≡ same self.now other.now };
 }
 
-fn has_names_of(places: &[PlaceRule], place: &PlaceRule) -> bool
-    ensures { result ≡ list_any (same_names place.now) places.now }
-{
-    places.iter().any(|earlier| same_names(place, earlier))
+impl Single for PlaceRule {
+    ghost use Rattle.relay_config.specs.Refusals.{same_names};
+
+    ghost same = { same_names };
+
+    fn is_same(&self, other: &PlaceRule) -> bool {
+        self.app == other.app && self.name == other.name
+    }
 }
 
-// Whether an earlier place has the names of the place at this index.
-fn repeats(places: &[PlaceRule], index: usize) -> bool
-    ensures { result ≡ repeats places.now index }
+impl Single for OpenRule {
+    ghost use Rattle.relay_config.specs.Refusals.{same_app};
+
+    ghost same = { same_app };
+
+    fn is_same(&self, other: &OpenRule) -> bool {
+        self.app == other.app
+    }
+}
+
+fn has<T: Single>(list: &[T], one: &T) -> bool
+    ensures { result ≡ list_any (T.same one.now) list.now }
 {
-    match places.get(index) {
-        Some(place) => has_names_of(&places[..index], place),
+    list.iter().any(|other| one.is_same(other))
+}
+
+// Whether an earlier one is the same as the one at this index.
+fn repeats<T: Single>(list: &[T], index: usize) -> bool
+    ensures { result ≡ repeats T.same list.now index }
+{
+    match list.get(index) {
+        Some(one) => has(&list[..index], one),
         None => false,
     }
 }
 
-// The least place that has the names of an earlier one.
-fn twice_in(places: &[PlaceRule]) -> Option<u32>
-    requires { length places.now ≤ 64 }
-    ensures { result ≡ twice_in places.now }
+// The least index of one that is the same as an earlier one.
+fn twice_in<T: Single>(list: &[T]) -> Option<u32>
+    requires { length list.now ≤ 64 }
+    ensures value { result ≡ twice_in T.same list.now }
+    ensures there { IfSome result (λ i. i < length list.now) }
 {
-    (0..places.len() as u32).find(|place| repeats(places, *place as usize))
+    (0..list.len() as u32).find(|index| repeats(list, *index as usize))
 }
 
-/// The tests of the streams together and of the sum.
+// The least place of a stream or an open table that is the same as an earlier one.
+fn twice_of(config: &Config) -> Option<u32>
+    requires places { length config.now.places ≤ 64 }
+    requires opens { length config.now.opens ≤ 64 }
+    ensures { result ≡ twice_of config.now }
+{
+    let places = config.places.as_slice();
+    if let Some(place) = twice_in(places) {
+        return Some(place);
+    }
+    match twice_in(config.opens.as_slice()) {
+        Some(index) => Some(places.len() as u32 + index),
+        None => None,
+    }
+}
+
+// Whether open tables have so many names together at most.
+fn fit(opens: &[OpenRule], room: u32) -> bool
+    ensures { result ≡ nat_le (names_of opens.now) room }
+{
+    let mut left = room;
+    for rule in opens {
+        if rule.names > left {
+            return false;
+        }
+        left -= rule.names;
+    }
+    true
+}
+
+/// The tests of the streams and open tables together and of the sum.
 pub(crate) fn check_whole(config: &Config) -> Result<(), ConfigFail>
-    requires { InRange config.now }
+    requires numbers { InRange config.now }
+    requires rooms { AllPass has_room config.now.opens }
     ensures tells { Tells result (whole_refusal config.now) }
 {
     let places = config.places.as_slice();
-    if places.is_empty() {
+    let opens = config.opens.as_slice();
+    if places.is_empty() && opens.is_empty() {
         return Err(ConfigFail::Missing { key: Key::Stream });
     }
-    if places.len() > MOST_STREAMS {
+    if places.len() > MOST_NAMES {
         return Err(ConfigFail::Range { key: Key::Stream });
     }
-    if let Some(place) = twice_in(places) {
+    if !fit(opens, (MOST_NAMES - places.len()) as u32) {
+        return Err(ConfigFail::Range { key: Key::Names });
+    }
+    if let Some(place) = twice_of(config) {
         return Err(ConfigFail::Twice { place });
     }
     let sum = sum(config);

@@ -6,28 +6,28 @@ use Rattle.relay_program.specs.declared.drills.Drilling.{Drilling}
 use Rattle.relay_program.specs.declared.drills.DrillFail.{DrillFail}
 use Rattle.relay_program.specs.declared.drills.DrillFail.TheVariants.{Outside, SourceFault, SinkFault, OutOfMemory}
 use Rattle.relay_script.specs.Script.{Line, lines_from, lines}
-use Rattle.relay_program.specs.Drill.{State, text_from, outside_from, drill_text, outside_line}
+use Rattle.relay_program.specs.Drill.{State, fresh, text_from, outside_from, drill_text, outside_line}
 use Rattle.relay_program.specs.Outcome.{Writes, WritesPart}
 use Rattle.relay_program.specs.Parts.{lines_ahead, text_ahead, outside_ahead, Advances, FailsAt, Fails}
 use Rattle.relay_program.specs.Ends.{Ahead}
 use Rattle.relay_program.proofs.Known.{nothing_written, write_then, write_part_then}
 use Rattle.relay_program.proofs.Fails.{fail_part, result_part}
 
-pub start : (d : Drilling) (left held : Option (List ℕ)) (text : List ℕ) → left ≡ Some text → d.stream ≡ None → d.line ≡ [] → d.place ≡ 0 → d.number ≡ 1
+pub start : (d : Drilling) (left held : Option (List ℕ)) (text : List ℕ) → left ≡ Some text → d.made ≡ fresh → d.line ≡ [] → d.place ≡ 0 → d.number ≡ 1
     → Ahead d left held text held
-start d left held text e stream line place number =
+start d left held text e made line place number =
     let same : (more : List ℕ) → lines_ahead d more ≡ lines more =
     λ more. ap (λ (n : ℕ). lines_from n d.line more) place ∙ ap (λ (l : List ℕ). lines_from 0 l more) line in
     let all : (more : List ℕ) → text_ahead d more ≡ drill_text more =
-    λ more. ap (λ (l : List Line). text_from l d.stream) (same more) ∙ ap (λ (s : State). text_from (lines more) s) stream in
+    λ more. ap (λ (l : List Line). text_from l d.made) (same more) ∙ ap (λ (s : State). text_from (lines more) s) made in
     record {
       read = [];
       rest = text;
       script_is = refl;
       left_is = e;
       writes = λ more. subst (λ (l : List ℕ). Writes (drill_text more) l held held) (sym (all more)) (nothing_written (drill_text more) held);
-      outside = λ more. ap (λ (l : List Line). outside_from d.number l d.stream) (same more) ∙ ap (λ (n : ℕ). outside_from n (lines more) d.stream) number
-          ∙ ap (λ (s : State). outside_from 1 (lines more) s) stream;
+      outside = λ more. ap (λ (l : List Line). outside_from d.number l d.made) (same more) ∙ ap (λ (n : ℕ). outside_from n (lines more) d.made) number
+          ∙ ap (λ (s : State). outside_from 1 (lines more) s) made;
       counted = λ more. ap (λ (n : ℕ). n + length (lines_ahead d more)) number ∙ ap (λ (l : List Line). 1 + length l) (same more);
     }
 

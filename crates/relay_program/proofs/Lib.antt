@@ -1,6 +1,7 @@
 pub mod Known
-pub mod Past
-pub mod Says
+pub mod Counts
+pub mod FewSlots
+pub mod Kept
 pub mod Script
 pub mod Steps
 pub mod Ahead

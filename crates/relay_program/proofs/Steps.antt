@@ -46,7 +46,7 @@ result_then (Err fail) old mid new a b c before between now p q = fails_then fai
 
 -- ---- a line that is outside
 
-pub first_fails : (n : ℕ) (d : Drilling) (ahead : List ℕ) (before now : Option (List ℕ)) → IsFirstOutside d.number (lines_ahead d ahead) d.stream → n ≡ d.number
+pub first_fails : (n : ℕ) (d : Drilling) (ahead : List ℕ) (before now : Option (List ℕ)) → IsFirstOutside d.number (lines_ahead d ahead) d.made → n ≡ d.number
     → now ≡ before → Fails (Outside n) d ahead before now
 first_fails n d ahead before now first number kept = (
   record { wrote = []; parts = sym first.none; grown = kept ∙ sym (append_known_nil before) },
@@ -62,12 +62,12 @@ run_goes old new run rest before clean e =
     lines_of_run run rest old.place old.line clean ∙ ap (λ (l : List ℕ). lines_from (old.place + length run) l rest) (sym e.line)
     ∙ ap (λ (n : ℕ). lines_from n new.line rest) (sym e.place) in
     let text : text_ahead new rest ≡ text_ahead old (run ++ rest) =
-    ap (λ (l : List Line). text_from l new.stream) (sym lines) ∙ ap (λ (s : State). text_from (lines_ahead old (run ++ rest)) s) e.stream in
+    ap (λ (l : List Line). text_from l new.made) (sym lines) ∙ ap (λ (s : State). text_from (lines_ahead old (run ++ rest)) s) e.made in
     let ahead = lines_ahead old (run ++ rest) in
     record {
       writes = record { wrote = []; parts = text; grown = sym (append_known_nil before) };
-      outside = ap (λ (l : List Line). outside_from new.number l new.stream) (sym lines) ∙ ap (λ (n : ℕ). outside_from n ahead new.stream) e.number
-          ∙ ap (λ (s : State). outside_from old.number ahead s) e.stream;
+      outside = ap (λ (l : List Line). outside_from new.number l new.made) (sym lines) ∙ ap (λ (n : ℕ). outside_from n ahead new.made) e.number
+          ∙ ap (λ (s : State). outside_from old.number ahead s) e.made;
       counted = ap (λ (n : ℕ). n + length (lines_ahead new rest)) e.number ∙ ap (λ (l : List Line). old.number + length l) (sym lines);
     }
 
@@ -80,9 +80,9 @@ over_appended line run place h = subst (λ (n : ℕ). IsOver n place) (sym (leng
 pub run_fails : (fail : DrillFail) (d : Drilling) (run rest : List ℕ) (before : Option (List ℕ)) → Fit d → NoLineFeed run → ExtendFails fail d run
     → Fails fail d (run ++ rest) before before
 run_fails (Outside n) d run rest before fit clean e =
-    let first = over rest d.number (d.place + length run) (d.line ++ run) d.stream (some_bytes d run fit e.1)
+    let first = over rest d.number (d.place + length run) (d.line ++ run) d.made (some_bytes d run fit e.1)
     (over_appended d.line run (d.place + length run) e.1) in
-    first_fails n d (run ++ rest) before before (subst (λ (l : List Line). IsFirstOutside d.number l d.stream)
+    first_fails n d (run ++ rest) before before (subst (λ (l : List Line). IsFirstOutside d.number l d.made)
     (sym (lines_of_run run rest d.place d.line clean)) first) e.0 refl
 run_fails SourceFault d run rest before fit clean e = absurd e
 run_fails SinkFault d run rest before fit clean e = absurd e
@@ -97,8 +97,8 @@ pub record IsNext (d : Drilling) (ahead : List ℕ) (line : Line) (lines : List 
 
 -- what the line does
 next_does : (d : Drilling) (ahead : List ℕ) (line : Line) (lines : List Line) → IsNext d ahead line lines →
-    after_line (line_says meaning line) d.stream ≡ after_line (meaning d.line) d.stream
-next_does d ahead line lines next = ap (λ (m : Option DrillLine). after_line m d.stream) next.meaning_is
+    after_line (line_says meaning line) d.made ≡ after_line (meaning d.line) d.made
+next_does d ahead line lines next = ap (λ (m : Option DrillLine). after_line m d.made) next.meaning_is
 
 text_begins : (line : Line) (lines : List Line) (s : State) → (rest : List ℕ)
     × (text_from (line ∷ lines) s ≡ said_by (after_line (line_says meaning line) s) ++ rest)
@@ -107,25 +107,25 @@ text_begins line lines s =
     [ None ↦ ([], refl) | Some d ↦ (text_from lines d.state, refl) ]
 
 part_ahead : (d : Drilling) (ahead : List ℕ) (line : Line) (lines : List Line) (before now : Option (List ℕ)) → IsNext d ahead line lines →
-    WritesPart (said_by (after_line (meaning d.line) d.stream)) before now → WritesPart (text_ahead d ahead) before now
+    WritesPart (said_by (after_line (meaning d.line) d.made)) before now → WritesPart (text_ahead d ahead) before now
 part_ahead d ahead line lines before now next w =
-    let begins = text_begins line lines d.stream in
-    let text : said_by (after_line (meaning d.line) d.stream) ++ begins.0 ≡ text_ahead d ahead =
+    let begins = text_begins line lines d.made in
+    let text : said_by (after_line (meaning d.line) d.made) ++ begins.0 ≡ text_ahead d ahead =
     ap (λ (m : Option Done). said_by m ++ begins.0) (sym (next_does d ahead line lines next)) ∙ sym begins.1
-    ∙ ap (λ (l : List Line). text_from l d.stream) (sym next.ahead_is) in
-    subst (λ (l : List ℕ). WritesPart l before now) text (part_of_more (said_by (after_line (meaning d.line) d.stream)) begins.0 before now w)
+    ∙ ap (λ (l : List Line). text_from l d.made) (sym next.ahead_is) in
+    subst (λ (l : List ℕ). WritesPart l before now) text (part_of_more (said_by (after_line (meaning d.line) d.made)) begins.0 before now w)
 
-outside_next : (d : Drilling) (ahead : List ℕ) (line : Line) (lines : List Line) → IsNext d ahead line lines → after_line (meaning d.line) d.stream ≡ None
-    → IsFirstOutside d.number (lines_ahead d ahead) d.stream
+outside_next : (d : Drilling) (ahead : List ℕ) (line : Line) (lines : List Line) → IsNext d ahead line lines → after_line (meaning d.line) d.made ≡ None
+    → IsFirstOutside d.number (lines_ahead d ahead) d.made
 outside_next d ahead line lines next none = record {
-  outside = ap (λ (l : List Line). outside_from d.number l d.stream) next.ahead_is
-      ∙ outside_first d.number line lines d.stream (next_does d ahead line lines next ∙ none);
-  none = ap (λ (l : List Line). text_from l d.stream) next.ahead_is ∙ outside_ends line lines d.stream (next_does d ahead line lines next ∙ none);
+  outside = ap (λ (l : List Line). outside_from d.number l d.made) next.ahead_is
+      ∙ outside_first d.number line lines d.made (next_does d ahead line lines next ∙ none);
+  none = ap (λ (l : List Line). text_from l d.made) next.ahead_is ∙ outside_ends line lines d.made (next_does d ahead line lines next ∙ none);
 }
 
 pub answer_fails : (fail : DrillFail) (d : Drilling) (ahead : List ℕ) (line : Line) (lines : List Line) (before now : Option (List ℕ))
     → IsNext d ahead line lines →
-    AnswerFails fail (after_line (meaning d.line) d.stream) d.number before now → Fails fail d ahead before now
+    AnswerFails fail (after_line (meaning d.line) d.made) d.number before now → Fails fail d ahead before now
 answer_fails (Outside n) d ahead line lines before now next p = first_fails n d ahead before now (outside_next d ahead line lines next p.1) p.0 p.2
 answer_fails SourceFault d ahead line lines before now next p = absurd p
 answer_fails SinkFault d ahead line lines before now next p = part_ahead d ahead line lines before now next p
@@ -136,14 +136,14 @@ pub record Inside (d : Drilling) (new : State) (ahead : List ℕ) (lines : List 
   pub outside : outside_from (d.number + 1) lines new ≡ outside_ahead d ahead
 
 pub inside : (d : Drilling) (new : State) (ahead : List ℕ) (line : Line) (lines : List Line) (before now : Option (List ℕ)) → IsNext d ahead line lines →
-    (a : Answered (after_line (meaning d.line) d.stream) new before now) → Inside d new ahead lines a.does
+    (a : Answered (after_line (meaning d.line) d.made) new before now) → Inside d new ahead lines a.does
 inside d new ahead line lines before now next a =
     let means = next_does d ahead line lines next ∙ a.after_is in
     record {
-      text = ap (λ (s : State). a.does.text ++ text_from lines s) a.state ∙ sym (inside_text line lines d.stream a.does means)
-          ∙ ap (λ (l : List Line). text_from l d.stream) (sym next.ahead_is);
-      outside = ap (λ (s : State). outside_from (d.number + 1) lines s) a.state ∙ sym (inside_first d.number line lines d.stream a.does means)
-          ∙ ap (λ (l : List Line). outside_from d.number l d.stream) (sym next.ahead_is);
+      text = ap (λ (s : State). a.does.text ++ text_from lines s) a.state ∙ sym (inside_text line lines d.made a.does means)
+          ∙ ap (λ (l : List Line). text_from l d.made) (sym next.ahead_is);
+      outside = ap (λ (s : State). outside_from (d.number + 1) lines s) a.state ∙ sym (inside_first d.number line lines d.made a.does means)
+          ∙ ap (λ (l : List Line). outside_from d.number l d.made) (sym next.ahead_is);
     }
 
 is_near : (line : List ℕ) (end : ℕ) → end ≤ 2 ^ 28 → line_says meaning (line_at line end) ≡ meaning line
@@ -155,22 +155,22 @@ pub feed_next : (d : Drilling) (more : List ℕ) → d.place + 1 ≤ 2 ^ 28 → 
 feed_next d more h = record { ahead_is = refl; meaning_is = is_near d.line (d.place + 1) h }
 
 pub feed_fails : (fail : DrillFail) (d : Drilling) (more : List ℕ) (before now : Option (List ℕ)) → d.place + 1 ≤ 2 ^ 28 →
-    AnswerFails fail (after_line (meaning d.line) d.stream) d.number before now → Fails fail d (10 ∷ more) before now
+    AnswerFails fail (after_line (meaning d.line) d.made) d.number before now → Fails fail d (10 ∷ more) before now
 feed_fails fail d more before now h p = answer_fails fail d (10 ∷ more) (line_at d.line (d.place + 1)) (lines_from (d.place + 1) [] more) before now
     (feed_next d more h) p
 
 pub feed_goes : (d new : Drilling) (more : List ℕ) (before now : Option (List ℕ)) → d.place + 1 ≤ 2 ^ 28 → new.line ≡ [] → new.place ≡ d.place + 1
     → new.number ≡ d.number + 1
-    → Answered (after_line (meaning d.line) d.stream) new.stream before now → Advances d (10 ∷ more) new more before now
+    → Answered (after_line (meaning d.line) d.made) new.made before now → Advances d (10 ∷ more) new more before now
 feed_goes d new more before now h line place number a =
     let next = feed_next d more h in
     let rest = lines_from (d.place + 1) [] more in
-    let i = inside d new.stream (10 ∷ more) (line_at d.line (d.place + 1)) rest before now next a in
+    let i = inside d new.made (10 ∷ more) (line_at d.line (d.place + 1)) rest before now next a in
     let lines : lines_ahead new more ≡ rest = ap (λ (n : ℕ). lines_from n new.line more) place ∙ ap (λ (l : List ℕ). lines_from (d.place + 1) l more) line in
     record {
-      writes = record { wrote = a.does.text; parts = ap (λ (l : List Line). a.does.text ++ text_from l new.stream) lines ∙ i.text; grown = a.writes };
-      outside = ap (λ (n : ℕ). outside_from n (lines_ahead new more) new.stream) number
-          ∙ ap (λ (l : List Line). outside_from (d.number + 1) l new.stream) lines ∙ i.outside;
+      writes = record { wrote = a.does.text; parts = ap (λ (l : List Line). a.does.text ++ text_from l new.made) lines ∙ i.text; grown = a.writes };
+      outside = ap (λ (n : ℕ). outside_from n (lines_ahead new more) new.made) number
+          ∙ ap (λ (l : List Line). outside_from (d.number + 1) l new.made) lines ∙ i.outside;
       counted = omega (arith, number, ap (λ (l : List Line). length l) lines);
     }
 
@@ -184,8 +184,8 @@ pub end_next : (d : Drilling) → Fit d → 0 < length d.line → IsNext d [] (l
 end_next d fit some = record { ahead_is = one_left d.place d.line some; meaning_is = is_near d.line d.place fit.place }
 
 pub end_said : (r : Result (Unit {0}) DrillFail) (d : Drilling) (new : State) (before now : Option (List ℕ)) → Fit d → 0 < length d.line →
-    MatchResult r (λ _. Answered (after_line (meaning d.line) d.stream) new before now)
-    (λ fail. AnswerFails fail (after_line (meaning d.line) d.stream) d.number before now)
+    MatchResult r (λ _. Answered (after_line (meaning d.line) d.made) new before now)
+    (λ fail. AnswerFails fail (after_line (meaning d.line) d.made) d.number before now)
     → MatchResult r (λ _. Writes (text_ahead d []) [] before now × (outside_ahead d [] ≡ None)) (λ fail. Fails fail d [] before now)
 end_said (Ok x) d new before now fit some a =
     let i = inside d new [] (line_at d.line d.place) [] before now (end_next d fit some) a in

@@ -8,7 +8,7 @@ use Rattle.relay_script.specs.Lines.{meaning}
 use Rattle.relay_script.specs.Script.{NoLineFeed, Line, line_at, lines_from, lines, line_says}
 use Rattle.relay_script.proofs.OneLine.{both}
 use Rattle.relay_program.specs.declared.drills.Drilling.{Drilling}
-use Rattle.relay_program.specs.Drill.{State, after_line, text_from, text_then, outside_from, outside_then, drill_text, outside_line}
+use Rattle.relay_program.specs.Drill.{State, fresh, after_line, text_from, text_then, outside_from, outside_then, drill_text, outside_line}
 use Rattle.relay_program.specs.Outcome.{Writes, IsWholeLines, WritesWholeLines}
 use Rattle.relay_program.specs.Ends.{Ahead}
 use Rattle.relay_program.proofs.Known.{wrote_all}
@@ -94,18 +94,18 @@ whole_written d left held whole line rest before bytes many ended clean a read =
     let all : lines (a.read ++ bytes) ≡ lines whole ++ lines_from split.0 [] (line ++ bytes) =
     ap (λ (l : List ℕ). lines (l ++ bytes)) read ∙ ap lines (append_assoc whole line bytes) ∙ split.1 in
     let last = over_long (line ++ bytes) d.number split.0 [] (begun line bytes clean many) in
-    let ahead = over_long bytes d.number d.place d.line many d.stream in
+    let ahead = over_long bytes d.number d.place d.line many d.made in
     let text : drill_text (a.read ++ bytes) ≡ drill_text whole =
-    ap (λ (l : List Line). text_from l None) all ∙ text_end (lines whole) (lines_from split.0 [] (line ++ bytes)) None (λ t. (last t).none) in
-    let outside : outside_from 1 (lines whole ++ lines_from split.0 [] (line ++ bytes)) None ≡ Some d.number =
-    sym (ap (λ (l : List Line). outside_from 1 l None) all) ∙ sym (a.outside bytes) ∙ ahead.outside in
+    ap (λ (l : List Line). text_from l fresh) all ∙ text_end (lines whole) (lines_from split.0 [] (line ++ bytes)) fresh (λ t. (last t).none) in
+    let outside : outside_from 1 (lines whole ++ lines_from split.0 [] (line ++ bytes)) fresh ≡ Some d.number =
+    sym (ap (λ (l : List Line). outside_from 1 l fresh) all) ∙ sym (a.outside bytes) ∙ ahead.outside in
     let total : length (lines (a.read ++ bytes)) ≡ length (lines whole) + 1 =
     ap length all ∙ length-append (lines whole) (lines_from split.0 [] (line ++ bytes))
     ∙ ap (λ (n : ℕ). length (lines whole) + n) (one_long (line ++ bytes) split.0 [] (begun line bytes clean many)) in
     let number : d.number ≡ 1 + length (lines whole) = omega (arith, a.counted bytes, total, one_long bytes d.place d.line many) in (
       wrote_all (drill_text (a.read ++ bytes)) before held (subst (λ (l : List ℕ). Writes (drill_text (a.read ++ bytes)) l before held) ahead.none
           (a.writes bytes)) ∙ ap (append_known before) text,
-      none_before (lines whole) (lines_from split.0 [] (line ++ bytes)) 1 d.number None number outside,
+      none_before (lines whole) (lines_from split.0 [] (line ++ bytes)) 1 d.number fresh number outside,
     )
 
 zeros_clean : (n : ℕ) → NoLineFeed (replicate n 0)

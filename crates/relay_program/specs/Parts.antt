@@ -5,12 +5,15 @@ use Rattle.std.specs.declared.option.Option.{Option}
 use Rattle.std.specs.declared.result.Result.{Result}
 use Rattle.std.specs.Io.KnownBytes.{append_known}
 use Rattle.relay_outside.specs.Counts.{Rose}
-use Rattle.stream_model.specs.declared.calls.StreamLimits.{StreamLimits}
 use Rattle.relay_program.specs.declared.drills.Drilling.{Drilling}
 use Rattle.relay_program.specs.declared.drills.DrillFail.{DrillFail}
 use Rattle.relay_program.specs.declared.drills.DrillFail.TheVariants.{Outside, SourceFault, SinkFault, OutOfMemory}
+use Rattle.relay_script.specs.declared.line.DrillLine.{DrillLine}
+use Rattle.relay_script.specs.declared.line.DrillLine.TheVariants.{Nothing, Ring, Pool, Step, Held}
+use Rattle.relay_script.specs.declared.line.LineFail.{LineFail}
+use Rattle.relay_script.specs.declared.line.LineFail.TheVariants as line_fail
 use Rattle.relay_script.specs.Script.{Line, lines_from}
-use Rattle.relay_program.specs.Drill.{State, Done, stream_of, ring_does, text_from, outside_from, drill_text, outside_line}
+use Rattle.relay_program.specs.Drill.{State, Done, table_of, text_from, outside_from, drill_text, outside_line}
 use Rattle.relay_program.specs.Outcome.{Writes, WritesPart, WritesWholeLines}
 
 -- why a text isn't put
@@ -60,18 +63,24 @@ AnswerFails SourceFault after number before now = ⊥
 AnswerFails SinkFault after number before now = WritesPart (said_by after) before now
 AnswerFails OutOfMemory after number before now = WritesPart (said_by after) before now
 
--- why the limits aren't taken
-abbrev pub LimitsFail : DrillFail → StreamLimits → State → ℕ → Type 0
-LimitsFail (Outside n) limits s number = (n ≡ number) × (ring_does limits s ≡ None)
-LimitsFail SourceFault limits s number = ⊥
-LimitsFail SinkFault limits s number = ⊥
-LimitsFail OutOfMemory limits s number = Unit {0}
+-- why a line does nothing
+abbrev pub ActFails : LineFail → Option Done → Type 0
+ActFails line_fail.Outside after = after ≡ None
+ActFails line_fail.OutOfMemory after = Unit {0}
+
+-- a pool has at most 64 slots
+abbrev pub HasFewSlots : DrillLine → Type 0
+HasFewSlots Nothing = Unit {0}
+HasFewSlots (Ring limits) = Unit {0}
+HasFewSlots (Pool slots) = slots ≤ 64
+HasFewSlots (Step entry) = Unit {0}
+HasFewSlots Held = Unit {0}
 
 -- what a drill keeps of itself
 pub record Fit (d : Drilling) : Type 0 where
   pub place : d.place ≤ 2 ^ 28
   pub line : length d.line ≤ 65536
-  pub past : length (stream_of d.stream).past ≤ d.place
+  pub past : length (table_of d.made).past ≤ d.place
   pub number : d.number ≤ d.place + 1
 
 -- the lines, the reply lines and the first line outside, of what comes after a part of the script
@@ -79,10 +88,10 @@ abbrev pub lines_ahead : Drilling → List ℕ → List Line
 lines_ahead d rest = lines_from d.place d.line rest
 
 abbrev pub text_ahead : Drilling → List ℕ → List ℕ
-text_ahead d rest = text_from (lines_ahead d rest) d.stream
+text_ahead d rest = text_from (lines_ahead d rest) d.made
 
 abbrev pub outside_ahead : Drilling → List ℕ → Option ℕ
-outside_ahead d rest = outside_from d.number (lines_ahead d rest) d.stream
+outside_ahead d rest = outside_from d.number (lines_ahead d rest) d.made
 
 -- from before some bytes of the script to after them
 pub record Advances (old : Drilling) (ahead : List ℕ) (new : Drilling) (left : List ℕ) (before now : Option (List ℕ)) : Type 0 where
@@ -114,7 +123,7 @@ AfterFaultOf (Err fail) script left before now = AfterFault fail script left bef
 
 -- bytes were added to the line
 pub record Extended (old : Drilling) (run : List ℕ) (new : Drilling) : Type 0 where
-  pub stream : new.stream ≡ old.stream
+  pub made : new.made ≡ old.made
   pub line : new.line ≡ old.line ++ run
   pub place : new.place ≡ old.place + length run
   pub number : new.number ≡ old.number

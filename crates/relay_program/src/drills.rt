@@ -1,45 +1,30 @@
 ghost use Rattle.std.specs.Prelude.{◌≡◌, ◌<◌, ◌≤◌, ◌+◌, ◌^◌, ◌++◌, ◌∷◌, [], List, ℕ, length, map, position, ◌==◌};
 ghost use Rattle.std.specs.Prelude.{Some, None, MatchResult, IfOk, OnOk};
 ghost use Rattle.std.specs.Io.KnownBytes.{append_known, IsAtEnd};
-ghost use Rattle.stream_model.specs.Answer.{reply};
-ghost use Rattle.stream_model.specs.Known.{answered};
-ghost use Rattle.stream_model.specs.History.{items_of};
-ghost use Rattle.stream_model.specs.Held.{held};
 ghost use Rattle.relay_script.specs.Lines.{meaning};
 ghost use Rattle.relay_script.specs.Script.{NoLineFeed};
-ghost use Rattle.relay_program.specs.Drill.{defaults, done, stream_of, ring_does, held_does, after_line, drill_text, outside_line};
+ghost use Rattle.relay_program.specs.Drill.{done, fresh, table_of, after_line, drill_text, outside_line};
 ghost use Rattle.relay_program.specs.Outcome.{in_out, Outcome, Writes, WritesPartOfRead};
-ghost use Rattle.relay_program.specs.Parts.{PutFails, AfterFaultOf, SinkCause, SinkFaults, SourceFaults, Answered, AnswerFails, LimitsFail};
+ghost use Rattle.relay_program.specs.Parts.{PutFails, AfterFaultOf, SinkCause, SinkFaults, SourceFaults, ActFails, Answered, AnswerFails};
 ghost use Rattle.relay_program.specs.Parts.{Fit, Advances, Fails, FailsAt, Extended, ExtendFails, text_ahead, outside_ahead};
 ghost use Rattle.relay_program.specs.Ends.{status_of};
-ghost use Rattle.relay_program.specs.Words.{is_drill};
+ghost use Rattle.relay_program.specs.Words.{is_drill, only_word_is};
 
-use av_unit::{Bytes, OutOfMemory};
+use crate::made::Made;
+use av_unit::Bytes;
 use relay_base::Status;
 use relay_outside::{Got, Put, Sink, Source};
-use relay_script::{DrillLine, LineFail, drill_line, held_text, reply_text};
+use relay_script::{LineFail, drill_line};
 use std::alloc::Global;
-use stream_core::{Entry, Reply, Stream, StreamLimits};
 
 /// A script's bytes are numbered from 1; a line with a byte past this one is outside the grammar.
-const MOST_BYTES: u64 = 1 << 28;
+pub(crate) const MOST_BYTES: u64 = 1 << 28;
 
 /// The most bytes of a line, its LF not counted.
-const MOST_LINE: usize = 65536;
+pub(crate) const MOST_LINE: usize = 65536;
 
 /// How many bytes are asked of a script at a time.
-const PIECE: usize = 4096;
-
-// The limits of a stream of which the script says none.
-fn default_limits() -> StreamLimits
-    ensures { result ≡ defaults }
-{
-    StreamLimits {
-        bytes: 33554432,
-        items: 16384,
-        players: 256,
-    }
-}
+pub(crate) const PIECE: usize = 4096;
 
 // Why a drill fails before its script's end.
 #[derive(Clone, Copy, Debug, PartialEq, Eq)]
@@ -67,120 +52,41 @@ pub(crate) fn put_all<K: Sink>(out: &mut K, text: &[u8]) -> Result<(), DrillFail
     Ok(())
 }
 
-// Takes the limits that the line with that number says.
-fn take_limits(
-    alloc: Global,
-    stream: &mut Option<Stream>,
-    limits: StreamLimits,
-    number: u64,
-) -> Result<(), DrillFail>
-    ensures says { MatchResult result (λ _. ring_does limits stream.old ≡ Some (done stream.new [])) (λ fail. LimitsFail fail limits stream.old number) }
-    ensures empty { OnOk result ((stream_of stream.new).past ≡ []) }
+// Does what the line says, and gives what it prints.
+fn said(alloc: Global, made: &mut Made, line: &[u8]) -> Result<Bytes, LineFail>
+    requires { length (table_of made.old).past < 2 ^ 62 }
+    ensures { MatchResult result (λ text. after_line (meaning line.now) made.old ≡ Some (done made.new text))
+        (λ fail. ActFails fail (after_line (meaning line.now) made.old)) }
 {
-    if stream.is_some() {
-        return Err(DrillFail::Outside { line: number });
-    }
-    match Stream::new(alloc, limits) {
-        Ok(new) => {
-            *stream = Some(new);
-            Ok(())
-        }
-        Err(_) => Err(DrillFail::OutOfMemory),
-    }
-}
-
-// Makes a call at the stream, with the default limits where the script has said none.
-fn make_call(alloc: Global, stream: &mut Option<Stream>, entry: Entry) -> Result<Reply, OutOfMemory>
-    requires { length (stream_of stream.old).past < 2 ^ 62 }
-    ensures reply { IfOk result (λ r. r ≡ reply (stream_of stream.old).limits (stream_of stream.old).past entry) }
-    ensures stream { IfOk result (λ r. stream.new ≡ Some (answered (stream_of stream.old) entry r)) }
-{
-    match stream {
-        Some(stream) => stream.apply(entry),
-        None => {
-            let mut new = Stream::new(alloc, default_limits())?;
-            let reply = new.apply(entry)?;
-            *stream = Some(new);
-            Ok(reply)
-        }
-    }
-}
-
-// The number of bytes that the stream holds, which has the default limits where the script has said none.
-fn held_bytes(alloc: Global, stream: &mut Option<Stream>) -> Result<u64, OutOfMemory>
-    ensures held { IfOk result (λ n. n ≡ held (stream_of stream.old).limits (items_of (stream_of stream.old).past)) }
-    ensures stream { IfOk result (λ _. stream.new ≡ Some (stream_of stream.old)) }
-{
-    match stream {
-        Some(stream) => Ok(stream.held()),
-        None => {
-            let new = Stream::new(alloc, default_limits())?;
-            let bytes = new.held();
-            *stream = Some(new);
-            Ok(bytes)
-        }
-    }
-}
-
-// Puts the line of what the stream holds.
-fn tell_held<K: Sink>(
-    alloc: Global,
-    stream: &mut Option<Stream>,
-    out: &mut K,
-) -> Result<(), DrillFail>
-    ensures stream { OnOk result (stream.new ≡ Some (stream_of stream.old)) }
-    ensures says { MatchResult result (λ _. Answered (Some (held_does (stream_of stream.old))) stream.new (K.holds out.old) (K.holds out.new))
-        (λ fail. PutFails fail (held_does (stream_of stream.old)).text (K.holds out.old) (K.holds out.new)) }
-    ensures faults { MatchResult result (λ _. K.faults out.new ≡ K.faults out.old) (λ fail. SinkCause fail (K.faults out.old) (K.faults out.new)) }
-{
-    let Ok(bytes) = held_bytes(alloc, stream) else {
-        return Err(DrillFail::OutOfMemory);
-    };
-    let mut text = Bytes::new(alloc);
-    let Ok(()) = held_text(alloc, bytes, &mut text) else {
-        return Err(DrillFail::OutOfMemory);
-    };
-    put_all(out, text.as_slice())
+    made.act(alloc, drill_line(alloc, line)?)
 }
 
 // Answers the line with that number.
 fn answer<K: Sink>(
     alloc: Global,
-    stream: &mut Option<Stream>,
+    made: &mut Made,
     line: &[u8],
     number: u64,
     out: &mut K,
 ) -> Result<(), DrillFail>
-    requires { length (stream_of stream.old).past < 2 ^ 62 }
-    ensures count { OnOk result (length (stream_of stream.new).past ≤ length (stream_of stream.old).past + 1) }
-    ensures says { MatchResult result (λ _. Answered (after_line (meaning line.now) stream.old) stream.new (K.holds out.old) (K.holds out.new))
-        (λ fail. AnswerFails fail (after_line (meaning line.now) stream.old) number (K.holds out.old) (K.holds out.new)) }
+    requires { length (table_of made.old).past < 2 ^ 62 }
+    ensures count { OnOk result (length (table_of made.new).past ≤ length (table_of made.old).past + 1) }
+    ensures says { MatchResult result (λ _. Answered (after_line (meaning line.now) made.old) made.new (K.holds out.old) (K.holds out.new))
+        (λ fail. AnswerFails fail (after_line (meaning line.now) made.old) number (K.holds out.old) (K.holds out.new)) }
     ensures faults { MatchResult result (λ _. K.faults out.new ≡ K.faults out.old) (λ fail. SinkCause fail (K.faults out.old) (K.faults out.new)) }
 {
-    let entry = match drill_line(alloc, line) {
-        Ok(DrillLine::Nothing) => return Ok(()),
-        Ok(DrillLine::Ring(limits)) => return take_limits(alloc, stream, limits, number),
-        Ok(DrillLine::Held) => return tell_held(alloc, stream, out),
-        Ok(DrillLine::Step(entry)) => entry,
-        Err(LineFail::Outside) => return Err(DrillFail::Outside { line: number }),
-        Err(LineFail::OutOfMemory) => return Err(DrillFail::OutOfMemory),
-    };
-    let Ok(reply) = make_call(alloc, stream, entry) else {
-        return Err(DrillFail::OutOfMemory);
-    };
-    let mut text = Bytes::new(alloc);
-    let Ok(()) = reply_text(alloc, &reply, &mut text) else {
-        return Err(DrillFail::OutOfMemory);
-    };
-    put_all(out, text.as_slice())
+    match said(alloc, made, line) {
+        Ok(text) => put_all(out, text.as_slice()),
+        Err(LineFail::Outside) => Err(DrillFail::Outside { line: number }),
+        Err(LineFail::OutOfMemory) => Err(DrillFail::OutOfMemory),
+    }
 }
 
 // A drill in the middle of its script.
 #[derive(Drop)]
 struct Drilling {
     alloc: Global,
-    // None until a line has done something.
-    stream: Option<Stream>,
+    made: Made,
     // What stands after the last LF.
     line: Bytes,
     // How many bytes of the script were read.
@@ -189,7 +95,7 @@ struct Drilling {
     number: u64,
 }
 
-fn first_line_feed(text: &[u8]) -> Option<usize>
+pub(crate) fn first_line_feed(text: &[u8]) -> Option<usize>
     ensures { result ≡ position (λ c. c == 10) text.now }
 {
     text.iter().position(|c| *c == b'\n')
@@ -198,11 +104,11 @@ fn first_line_feed(text: &[u8]) -> Option<usize>
 impl Drilling {
     fn new(alloc: Global) -> Drilling
         ensures fit { Fit result }
-        ensures begins { (result.stream ≡ None) × (result.line ≡ []) × (result.place ≡ 0) × (result.number ≡ 1) }
+        ensures begins { (result.made ≡ fresh) × (result.line ≡ []) × (result.place ≡ 0) × (result.number ≡ 1) }
     {
         Drilling {
             alloc,
-            stream: None,
+            made: Made::new(),
             line: Bytes::new(alloc),
             place: 0,
             number: 1,
@@ -240,7 +146,7 @@ impl Drilling {
         }
         answer(
             self.alloc,
-            &mut self.stream,
+            &mut self.made,
             self.line.as_slice(),
             self.number,
             out,
@@ -294,7 +200,7 @@ impl Drilling {
         }
         answer(
             self.alloc,
-            &mut self.stream,
+            &mut self.made,
             self.line.as_slice(),
             self.number,
             out,
@@ -343,21 +249,28 @@ pub(crate) fn status_of(fail: DrillFail) -> Status
     }
 }
 
-fn is_drill(words: &[Vec<u8>]) -> bool
-    ensures { result ≡ is_drill (map (λ w. w.items) words.now) }
+pub(crate) fn only_word_is(words: &[Vec<u8>], text: &[u8]) -> bool
+    ensures { result ≡ only_word_is (map (λ w. w.items) words.now) text.now }
 {
     match words {
-        [word] => word.as_slice() == b"drill".as_slice(),
+        [word] => word.as_slice() == text,
         _ => false,
     }
 }
 
-/// Answers a script of calls at one stream: it puts the reply line of each call as it goes.
+fn is_drill(words: &[Vec<u8>]) -> bool
+    ensures { result ≡ is_drill (map (λ w. w.items) words.now) }
+{
+    only_word_is(words, b"drill".as_slice())
+}
+
+/// Answers a script of calls at one stream, or at one pool of slots: it puts the reply line of each call as it goes.
 ///
-/// The one word is `drill`. A first line `ring` says the limits of the stream; without it they are the
-/// default ones: 33,554,432 bytes, 16,384 items and 256 players. A line is outside the grammar where
-/// [`drill_line`] says so, where it is a `ring` after a line that did something, or where it has a byte past
-/// the script's first 2^28. The code of the answer tells how the drill ended:
+/// The one word is `drill`. A first line `ring` says the limits of the stream, or of each slot of the pool; without it they
+/// are the default ones: 33,554,432 bytes, 16,384 items and 256 players. The calls are made at a pool where the line `pool`
+/// comes first of the others, and else at a stream. A line is outside the grammar where [`drill_line`] says so, where it is
+/// a `ring` after a line that did something, a `pool` after any but `ring`, a `begin` or `join` that has a name at a stream
+/// or none at a pool, or where it has a byte past the script's first 2^28. The code of the answer tells how the drill ended:
 ///
 /// | Code | Comes | Written |
 /// |---|---|---|

@@ -1,4 +1,4 @@
-ghost use Rattle.std.specs.Prelude.{◌≡◌, ◌<◌, ◌+◌, ◌^◌, ◌++◌, ◌∷◌, [], List, ℕ, length, map, position, ◌==◌};
+ghost use Rattle.std.specs.Prelude.{◌≡◌, ◌<◌, ◌+◌, ◌^◌, ◌++◌, ◌∷◌, [], List, ℕ, length, map};
 ghost use Rattle.std.specs.Prelude.{Some, None, MatchResult, OnOk, IfErr};
 ghost use Rattle.std.specs.Io.KnownBytes.{IsAtEnd};
 ghost use Rattle.relay_script.specs.Script.{NoLineFeed};
@@ -10,7 +10,9 @@ ghost use Rattle.relay_program.specs.Replayed.{Replayed};
 ghost use Rattle.relay_program.specs.ReplayParts.{HasNoSink, Fit, Advances, Stops, StopsAt, Extended, ExtendFails, Obeyed, ObeyFails, EndsIn, EndsPrinted};
 ghost use Rattle.relay_program.specs.Words.{is_replay};
 
-use crate::drills::{DrillFail, put_all, status_of};
+use crate::drills::{
+    DrillFail, MOST_BYTES, MOST_LINE, PIECE, first_line_feed, only_word_is, put_all, status_of,
+};
 use av_unit::Bytes;
 use key_guard::Guards;
 use relay_base::Status;
@@ -19,22 +21,10 @@ use relay_replay::Scene;
 use relay_script::{LineFail, replay_line};
 use std::alloc::Global;
 
-/// A script's bytes are numbered from 1; a line with a byte past this one is outside the grammar.
-const MOST_BYTES: u64 = 1 << 28;
-
-/// The most bytes of a line, its LF not counted.
-const MOST_LINE: usize = 65536;
-
-/// How many bytes are asked of a script at a time.
-const PIECE: usize = 4096;
-
 fn is_replay(words: &[Vec<u8>]) -> bool
     ensures { result ≡ is_replay (map (λ w. w.items) words.now) }
 {
-    match words {
-        [word] => word.as_slice() == b"replay".as_slice(),
-        _ => false,
-    }
+    only_word_is(words, b"replay".as_slice())
 }
 
 // A replay in the middle of its script.
@@ -48,12 +38,6 @@ struct Replaying {
     place: u64,
     // The number of the line that is being read, from 1.
     number: u64,
-}
-
-fn first_line_feed(text: &[u8]) -> Option<usize>
-    ensures { result ≡ position (λ c. c == 10) text.now }
-{
-    text.iter().position(|c| *c == b'\n')
 }
 
 // Does what the line with that number says.

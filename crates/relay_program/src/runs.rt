@@ -8,9 +8,8 @@ ghost use Rattle.relay_program.specs.Drill.{drill_text, outside_line};
 ghost use Rattle.relay_program.specs.Outcome.{in_out, Outcome};
 ghost use Rattle.relay_program.specs.Replayed.{Replayed};
 ghost use Rattle.relay_program.specs.Soaked.{Soaked, units_asked};
-ghost use Rattle.relay_program.specs.Words.{only_word_is};
 
-use crate::drills::drill;
+use crate::drills::{drill, only_word_is};
 use crate::replays::replay;
 use crate::soaks::{soak, units_asked};
 use file_commands::{check, remux};
@@ -32,15 +31,6 @@ pub enum Command {
     Remux,
     /// [`check`]
     Check,
-}
-
-fn only_word_is(words: &[Vec<u8>], text: &[u8]) -> bool
-    ensures { result ≡ only_word_is (map (λ w. w.items) words.now) text.now }
-{
-    match words {
-        [word] => word.as_slice() == text,
-        _ => false,
-    }
 }
 
 /// The command that the words after the program's name ask for.

@@ -1,18 +1,20 @@
 -- What stays true of the cast.
 use Rattle.std.proofs.Common.{◌≡◌, ◌<◌, ◌+◌, ℕ, zero, suc, true, false, if◌then◌else◌, List, [], ◌∷◌, length, get_or, slice_get, slice_set}
 use Rattle.std.proofs.Common.{Option, Some, None, Result, Ok, Err, IfOk, OnOk, refl, ap, sym, ◌∙◌, subst, arith, is_some}
+use Rattle.std.proofs.lemmas.List.{length-map}
 use Rattle.std.proofs.lemmas.List.Elements.{All-set, All-weaker}
 use Rattle.av_unit.specs.declared.bytes.OutOfMemory.{OutOfMemory}
 use Rattle.command_dialog.specs.declared.types.Ask.{Ask}
 use Rattle.command_dialog.specs.declared.types.Grant.{Grant}
-use Rattle.command_dialog.specs.declared.types.Grant.TheVariants.{Refused, Place}
-use Rattle.key_guard.specs.Allowed.{is_allowed}
+use Rattle.command_dialog.specs.declared.types.Grant.TheVariants.{NoName, Refused, Place}
 use Rattle.relay_config.specs.declared.config.PlaceRule.{PlaceRule}
+use Rattle.relay_config.specs.declared.config.OpenRule.{OpenRule}
 use Rattle.relay_outside.specs.MemLinks.{MemHears, MemSays}
 use Rattle.stream_registry.specs.Books.{SoleState, SeenState, FitsSole, journal_at, sole_rules}
-use Rattle.stream_registry.specs.Names.{PortRules}
+use Rattle.stream_model.specs.Names.{is_name}
+use Rattle.stream_registry.specs.Names.{PortRules, places}
 use Rattle.media_recorder.specs.Ports.{FitsIf}
-use Rattle.relay_session.specs.Grants.{granted_from, grants_for, is_named, judged}
+use Rattle.relay_session.specs.Grants.{Keys, granted_from, has_app, is_named, judged, opened_from, stream_keys, table_keys, tables_from, takes_key}
 use Rattle.relay_session.specs.Places.{Asked, IsGrantThere, IsOffered, IsThere}
 use Rattle.relay_session.specs.SeatState.{HasFit}
 use Rattle.relay_session.specs.SessionState.{BeginsOwed, SessionState, StandsFor, lasting_of, life_at}
@@ -20,29 +22,68 @@ use Rattle.relay_session.specs.Turns.{EndedBy}
 use Rattle.relay_session.specs.declared.end.End.{End}
 use Rattle.relay_session.specs.declared.turn.Turn.{Turn}
 use Rattle.relay_replay.specs.Cast.{ConnState, RecState, CastState, AfterTurn, AnsweredBy, AnsweredTurn, Turned, Each}
-use Rattle.relay_replay.specs.Scenes.{Fits, Ready, ReadyBy, Sits}
+use Rattle.relay_replay.specs.Scenes.{Fits, IsPortOf, Ready, ReadyBy, Sits, name_of, open_name}
 
 -- ---- the desk grants places that are there
 
-judged_there : (p : PlaceRule) (ask : Ask) (n count : ℕ) → n < count → IsGrantThere count (judged p ask n)
-judged_there p ask n count h =
-    elim (is_allowed p.mode (grants_for ask.role p) ask.key) as (λ b. IsGrantThere count (if b then Place n else Refused)) [ true ↦ h | false ↦ tt ]
+judged_there : (k : Keys) (ask : Ask) (n count : ℕ) → n < count → IsGrantThere count (judged k ask n)
+judged_there k ask n count h = elim (takes_key k ask) as (λ b. IsGrantThere count (if b then Place n else Refused)) [ true ↦ h | false ↦ tt ]
 
-offered_from : (n : ℕ) (places : List PlaceRule) (ask : Ask) → IsGrantThere (n + length places) (granted_from n places ask)
-offered_from n [] ask = tt
-offered_from n (p ∷ rest) ask =
-    let same : n + 1 + length rest ≡ n + length (p ∷ rest) = omega arith in
-    let later = subst (λ (k : ℕ). IsGrantThere k (granted_from (n + 1) rest ask)) same (offered_from (n + 1) rest ask) in
-    elim (is_named p ask) as (λ b. IsGrantThere (n + length (p ∷ rest)) (if b then judged p ask n else granted_from (n + 1) rest ask)) [
-      | true ↦ judged_there p ask n (n + length (p ∷ rest)) (omega arith)
+tables_there : (n : ℕ) (opens : List OpenRule) (ask : Ask) → IsGrantThere (n + length opens) (tables_from n opens ask)
+tables_there n [] ask = tt
+tables_there n (o ∷ rest) ask =
+    let same : n + 1 + length rest ≡ n + length (o ∷ rest) = omega arith in
+    let later = subst (λ (k : ℕ). IsGrantThere k (tables_from (n + 1) rest ask)) same (tables_there (n + 1) rest ask) in
+    elim (has_app o ask) as (λ b. IsGrantThere (n + length (o ∷ rest)) (if b then judged (table_keys o) ask n else tables_from (n + 1) rest ask)) [
+      | true ↦ judged_there (table_keys o) ask n (n + length (o ∷ rest)) (omega arith)
+      | false ↦ later
+    ]
+
+opened_there : (n : ℕ) (opens : List OpenRule) (ask : Ask) → IsGrantThere (n + length opens) (opened_from n opens ask)
+opened_there n opens ask =
+    elim (is_name ask.name) as (λ b. IsGrantThere (n + length opens) (if b then tables_from n opens ask else NoName)) [
+      | true ↦ tables_there n opens ask
+      | false ↦ tt
+    ]
+
+offered_from : (n : ℕ) (places : List PlaceRule) (opens : List OpenRule) (ask : Ask)
+    → IsGrantThere (n + (length places + length opens)) (granted_from n places opens ask)
+offered_from n [] opens ask =
+    let same : length opens ≡ length {A = PlaceRule} [] + length opens = omega arith in
+    subst (λ (k : ℕ). IsGrantThere (n + k) (granted_from n [] opens ask)) same (opened_there n opens ask)
+offered_from n (p ∷ rest) opens ask =
+    let all = n + (length (p ∷ rest) + length opens) in
+    let same : n + 1 + (length rest + length opens) ≡ n + (length (p ∷ rest) + length opens) = omega arith in
+    let later = subst (λ (k : ℕ). IsGrantThere k (granted_from (n + 1) rest opens ask)) same (offered_from (n + 1) rest opens ask) in
+    elim (is_named p ask) as (λ b. IsGrantThere all (if b then judged (stream_keys p) ask n else granted_from (n + 1) rest opens ask)) [
+      | true ↦ judged_there (stream_keys p) ask n all (omega arith)
       | false ↦ later
     ]
 
 zero_and : (n : ℕ) → 0 + n ≡ n
 zero_and n = omega arith
 
-pub offered : (places : List PlaceRule) (count : ℕ) → count ≡ length places → IsOffered (granted_from 0 places) count
-offered places count e = λ ask. subst (λ (k : ℕ). IsGrantThere k (granted_from 0 places ask)) (zero_and (length places) ∙ sym e) (offered_from 0 places ask)
+-- a port to these streams and open tables has as many places
+pub as_many_places : (streams : List PlaceRule) (opens : List OpenRule) (port : SoleState) → IsPortOf streams opens port
+    → places (sole_rules port.rules) ≡ length streams + length opens
+as_many_places streams opens port p =
+    let names : length port.rules.names ≡ length streams = ap length p.names ∙ length-map streams name_of in
+    let tables : length port.rules.opens ≡ length opens = ap length p.tables ∙ length-map opens open_name in
+    omega (arith, names, tables)
+
+pub offered : (streams : List PlaceRule) (opens : List OpenRule) (port : SoleState) → IsPortOf streams opens port
+    → IsOffered (granted_from 0 streams opens) (places (sole_rules port.rules))
+offered streams opens port p = λ ask.
+    subst (λ (k : ℕ). IsGrantThere k (granted_from 0 streams opens ask)) (zero_and (length streams + length opens) ∙ sym (as_many_places streams opens port p))
+    (offered_from 0 streams opens ask)
+
+-- another port by the same rules
+pub port_on : (streams : List PlaceRule) (opens : List OpenRule) (port port' : SoleState) → sole_rules port'.rules ≡ sole_rules port.rules
+    → IsPortOf streams opens port → IsPortOf streams opens port'
+port_on streams opens port port' same p = record {
+  names = ap (λ (x : PortRules). x.names) same ∙ p.names;
+  tables = ap (λ (x : PortRules). x.opens) same ∙ p.tables;
+}
 
 -- ---- lists
 
@@ -62,7 +103,7 @@ ready_on : (e : Option End) (port port' : SoleState) (s : SessionState SeenState
     → ((q : ℕ) (p : SeenState) → FitsSole port q p → FitsSole port' q p) → ReadyBy e port s → ReadyBy e port' s
 ready_on None port port' s same fits r = record {
   fit = fit_on port port' s.seat.spot fits r.fit;
-  there = subst (λ (x : PortRules). IsThere (length x.names) s.parts.place) (sym same) r.there;
+  there = subst (λ (x : PortRules). IsThere (places x) s.parts.place) (sym same) r.there;
   calls = r.calls;
 }
 ready_on (Some e) port port' s same fits r = tt
@@ -81,30 +122,32 @@ fits_on port port' r same fits h = (
 
 -- ---- after a turn
 
-pub session_sits : (r : Result (Option Turn) OutOfMemory) (streams files n : ℕ) (c : CastState) (port' : SoleState) (d : ConnState) → Sits streams files c
-    → sole_rules port'.rules ≡ sole_rules c.port.rules → ((q : ℕ) (p : SeenState) → FitsSole c.port q p → FitsSole port' q p) → OnOk r (Ready port' d)
-    → OnOk r (Sits streams files (record { port = port'; sessions = slice_set c.sessions n d; recorders = c.recorders }))
-session_sits (Ok x) streams files n c port' d s same fits ready = record {
-  names = ap (λ (x : PortRules). length x.names) same ∙ s.names;
+pub session_sits : (r : Result (Option Turn) OutOfMemory) (streams : List PlaceRule) (opens : List OpenRule) (files n : ℕ) (c : CastState) (port' : SoleState)
+    (d : ConnState) → Sits streams opens files c → sole_rules port'.rules ≡ sole_rules c.port.rules
+    → ((q : ℕ) (p : SeenState) → FitsSole c.port q p → FitsSole port' q p) → OnOk r (Ready port' d)
+    → OnOk r (Sits streams opens files (record { port = port'; sessions = slice_set c.sessions n d; recorders = c.recorders }))
+session_sits (Ok x) streams opens files n c port' d s same fits ready = record {
+  port = port_on streams opens c.port port' same s.port;
   few = rw (length_set c.sessions n d) s.few;
   sessions = All-set (Ready port') c.sessions n d ready (All-weaker (Ready c.port) (Ready port')
       (λ x. ready_on x.ended c.port port' x.session same fits) c.sessions s.sessions);
   count = s.count;
   recorders = All-weaker (Fits c.port) (Fits port') (λ x. fits_on c.port port' x same fits) c.recorders s.recorders;
 }
-session_sits (Err e) streams files n c port' d s same fits ready = tt
+session_sits (Err e) streams opens files n c port' d s same fits ready = tt
 
-pub recorder_sits : (r : Result (Unit {0}) OutOfMemory) (streams files n : ℕ) (c : CastState) (port' : SoleState) (d : RecState) → Sits streams files c
-    → sole_rules port'.rules ≡ sole_rules c.port.rules → ((q : ℕ) (p : SeenState) → FitsSole c.port q p → FitsSole port' q p) → Fits port' d
-    → OnOk r (Sits streams files (record { port = port'; sessions = c.sessions; recorders = slice_set c.recorders n d }))
-recorder_sits (Ok x) streams files n c port' d s same fits fit = record {
-  names = ap (λ (x : PortRules). length x.names) same ∙ s.names;
+pub recorder_sits : (r : Result (Unit {0}) OutOfMemory) (streams : List PlaceRule) (opens : List OpenRule) (files n : ℕ) (c : CastState) (port' : SoleState)
+    (d : RecState) → Sits streams opens files c → sole_rules port'.rules ≡ sole_rules c.port.rules
+    → ((q : ℕ) (p : SeenState) → FitsSole c.port q p → FitsSole port' q p) → Fits port' d
+    → OnOk r (Sits streams opens files (record { port = port'; sessions = c.sessions; recorders = slice_set c.recorders n d }))
+recorder_sits (Ok x) streams opens files n c port' d s same fits fit = record {
+  port = port_on streams opens c.port port' same s.port;
   few = s.few;
   sessions = All-weaker (Ready c.port) (Ready port') (λ x. ready_on x.ended c.port port' x.session same fits) c.sessions s.sessions;
   count = length_set c.recorders n d ∙ s.count;
   recorders = All-set (Fits port') c.recorders n d fit (All-weaker (Fits c.port) (Fits port') (λ x. fits_on c.port port' x same fits) c.recorders s.recorders);
 }
-recorder_sits (Err e) streams files n c port' d s same fits fit = tt
+recorder_sits (Err e) streams opens files n c port' d s same fits fit = tt
 
 -- ---- a session's turn
 

@@ -1,7 +1,9 @@
 pub mod Keep
 pub mod New
-pub mod Totals
 pub mod Limiting
+pub mod Totals
 pub mod Taking
 pub mod Serving
+pub mod Naming
+pub mod Acting
 pub mod Recorders

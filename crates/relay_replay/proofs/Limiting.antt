@@ -1,5 +1,5 @@
 -- What runs keeps the limits of its script
-use Rattle.std.proofs.Common.{◌≡◌, ℕ, Bool, true, false, length, All, Option, Some, None, refl, sym, ap, ◌∙◌, subst}
+use Rattle.std.proofs.Common.{◌≡◌, ◌<◌, ◌+◌, ℕ, zero, suc, Bool, true, false, List, [], ◌∷◌, length, map, All, arith, Option, Some, None, refl, sym, ap, ◌∙◌, subst}
 use Rattle.std.proofs.lemmas.List.Elements.{All-nil, All-push, All-set}
 use Rattle.command_dialog.specs.declared.types.Ask.{Ask}
 use Rattle.command_dialog.specs.declared.types.Grant.{Grant}
@@ -10,12 +10,16 @@ use Rattle.relay_session.specs.declared.end.End.{End}
 use Rattle.relay_session.specs.declared.turn.Turn.{Turn as TurnAnswer}
 use Rattle.relay_session.specs.declared.turn.Turn.TheVariants.{Moved, Idle, Ended}
 use Rattle.relay_script.specs.declared.replay.ReplayLine.{ReplayLine}
-use Rattle.relay_script.specs.declared.replay.ReplayLine.TheVariants.{Nothing, Limits, Stream, Guard, Recorder, Session, Piece, Eof, Room, FailRecv, FailSend, FailPut, Turn, Rec, All as Rounds, Quit}
+use Rattle.relay_script.specs.declared.replay.ReplayLine.TheVariants.{Nothing, Limits, Stream, Guard, Recorder, Session, Piece, Eof, Room, FailRecv, FailSend, FailPut, Turn, Rec, All as Rounds, Quit, OpenApp, GuardOpen}
 use Rattle.stream_registry.specs.Books.{SeenState, SoleState, sole_rules}
-use Rattle.stream_registry.specs.Names.{PortRules}
+use Rattle.stream_model.specs.Shape.{pool_shape}
+use Rattle.stream_model.specs.declared.calls.StreamLimits.{StreamLimits}
+use Rattle.stream_registry.specs.Names.{places, shape_at, shapes_of}
+use Rattle.stream_registry.specs.declared.names.Name.{Name}
+use Rattle.stream_registry.specs.declared.names.OpenName.{OpenName}
 use Rattle.relay_replay.specs.Cast.{AfterTurn, CastState, ConnState, RecState, RecTurnOf, Round, SessionTurn, SettledBy, TurnOf}
 use Rattle.relay_replay.specs.Plays.{Plays, ToldBy, told_of}
-use Rattle.relay_replay.specs.Scenes.{IsLimited, IsOpen, IsSound, LimitedBy, LimitedIf, SceneState, stream_limits}
+use Rattle.relay_replay.specs.Scenes.{HaveLimits, IsLimited, IsOpen, IsSound, LimitedBy, LimitedIf, SceneState, stream_limits}
 use Rattle.relay_replay.proofs.Serving.{all_at, each_keep, settled_keep, times_keep}
 
 -- it takes messages of at most so many bytes
@@ -37,8 +41,9 @@ turn_takes : (m : ℕ) (e : Option End) (desk : Ask → Grant) (port : SoleState
 turn_takes m None desk port c port' d t k = after_takes t.answer t.mid t.between d port' t.leads ∙ ap (λ (l : Lasting). l.max) t.lasts ∙ k
 turn_takes m (Some e) desk port c port' d t k = subst (Takes m) (sym t.0) k
 
-limits_same : (l : AllLimits) (c d : CastState) → sole_rules d.port.rules ≡ sole_rules c.port.rules → c.port.rules.limits ≡ stream_limits l → d.port.rules.limits ≡ stream_limits l
-limits_same l c d e k = ap (λ (r : PortRules). r.limits 0) e ∙ k
+limits_same : (l : AllLimits) (c d : CastState) → sole_rules d.port.rules ≡ sole_rules c.port.rules → HaveLimits l (sole_rules c.port.rules)
+    → HaveLimits l (sole_rules d.port.rules)
+limits_same l c d e k = subst (HaveLimits l) (sym e) k
 
 limited_of : (l : AllLimits) (desk : Ask → Grant) (n : ℕ) (c d : CastState) → TurnOf desk n c d → IsLimited l c → IsLimited l d
 limited_of l desk n c d t k =
@@ -78,6 +83,8 @@ told_takes m Nothing c k = k
 told_takes m (Limits a b i q w) c k = k
 told_takes m (Stream app name) c k = k
 told_takes m (Guard n side mode key) c k = k
+told_takes m (OpenApp app n) c k = k
+told_takes m (GuardOpen n side mode key) c k = k
 told_takes m (Recorder n form) c k = k
 told_takes m Session c k = k
 told_takes m (FailPut n) c k = k
@@ -91,14 +98,14 @@ told_limited (Some n) line l c d t k =
     let m = l.max_message in
     let new = told_takes m line t.old (all_at (Takes m) c.sessions n t.old t.there k.sessions) in
     record {
-      streams = ap (λ (p : SoleState). p.rules.limits) t.port ∙ k.streams;
+      streams = subst (λ (x : SoleState). HaveLimits l (sole_rules x.rules)) (sym t.port) k.streams;
       sessions = subst (All (Takes m)) (sym t.sessions) (All-set (Takes m) c.sessions n (told_of line t.old) new k.sessions);
       recorders = subst (All (Writes m)) (sym t.recorders) k.recorders;
     }
 
 plays_limited : (line : ReplayLine) (l : AllLimits) (desk : Ask → Grant) (c d : CastState) → Plays l desk line c d → IsLimited l c → IsLimited l d
 plays_limited Session l desk c d p k = record {
-  streams = ap (λ (x : SoleState). x.rules.limits) p.port ∙ k.streams;
+  streams = subst (λ (x : SoleState). HaveLimits l (sole_rules x.rules)) (sym p.port) k.streams;
   sessions = subst (All (Takes l.max_message)) (sym p.sessions) (All-push (Takes l.max_message) c.sessions p.new k.sessions p.fresh.max);
   recorders = subst (All (Writes l.max_message)) (sym p.recorders) k.recorders;
 }
@@ -107,7 +114,7 @@ plays_limited (FailPut n) l desk c d p k =
     let was = all_at (Writes m) c.recorders n p.old p.there k.recorders in
     let new : RecState = record p.old { file = record p.old.file { put_fails = true } } in
     record {
-      streams = ap (λ (x : SoleState). x.rules.limits) p.port ∙ k.streams;
+      streams = subst (λ (x : SoleState). HaveLimits l (sole_rules x.rules)) (sym p.port) k.streams;
       sessions = subst (All (Takes m)) (sym p.sessions) k.sessions;
       recorders = subst (All (Writes m)) (sym p.recorders) (All-set (Writes m) c.recorders n new was k.recorders);
     }
@@ -124,6 +131,8 @@ plays_limited Nothing l desk c d p k = told_limited None Nothing l c d p k
 plays_limited (Limits a b i q w) l desk c d p k = told_limited None (Limits a b i q w) l c d p k
 plays_limited (Stream app name) l desk c d p k = told_limited None (Stream app name) l c d p k
 plays_limited (Guard n side mode key) l desk c d p k = told_limited None (Guard n side mode key) l c d p k
+plays_limited (OpenApp app n) l desk c d p k = told_limited None (OpenApp app n) l c d p k
+plays_limited (GuardOpen n side mode key) l desk c d p k = told_limited None (GuardOpen n side mode key) l c d p k
 plays_limited (Recorder n form) l desk c d p k = told_limited None (Recorder n form) l c d p k
 
 -- ---- a replay between two lines
@@ -137,9 +146,29 @@ pub none_limited : (fresh : Bool) (l m : AllLimits) (c : Option CastState) → f
 none_limited true l m c e k = subst (LimitedIf m) (sym k) tt
 none_limited false l m c e k = absurd (cc)
 
+-- the limits of all streams and slots are those of each place
+pools_limits : (m : StreamLimits) (opens : List OpenName) (q : ℕ) → q < length opens → (shape_at (map (λ o. pool_shape m o.slots) opens) q).limits ≡ m
+pools_limits m [] q h = absurd (omega (arith, h))
+pools_limits m (o ∷ opens) zero h = refl
+pools_limits m (o ∷ opens) (suc q) h = pools_limits m opens q (omega (arith, h))
+
+places_limits : (m : StreamLimits) (names : List Name) (opens : List OpenName) (q : ℕ) → q < length names + length opens
+    → (shape_at (shapes_of m names opens) q).limits ≡ m
+places_limits m [] opens q h = pools_limits m opens q (omega (arith, h))
+places_limits m (n ∷ names) opens zero h = refl
+places_limits m (n ∷ names) opens (suc q) h = places_limits m names opens q (omega (arith, h))
+
+new_limits : (l : AllLimits) (port : SoleState) → port.rules.limits ≡ stream_limits l → HaveLimits l (sole_rules port.rules)
+new_limits l port e = λ q h. places_limits port.rules.limits port.rules.names port.rules.opens q h ∙ e
+
+-- and where there is a place, its limits are those of all
+pub limits_there : (l : AllLimits) (port : SoleState) (q : ℕ) → q < places (sole_rules port.rules) → HaveLimits l (sole_rules port.rules)
+    → port.rules.limits ≡ stream_limits l
+limits_there l port q h k = sym (places_limits port.rules.limits port.rules.names port.rules.opens q h) ∙ k q h
+
 opened_by : (o : Option CastState) (s : SceneState) (c : CastState) → IsOpen o s c → LimitedIf s.limits o → IsLimited s.limits c
 opened_by None s c new k = record {
-  streams = new.limits;
+  streams = new_limits s.limits c.port new.limits;
   sessions = subst (All (Takes s.limits.max_message)) (sym new.sessions) (All-nil (Takes s.limits.max_message));
   recorders = new.longest;
 }

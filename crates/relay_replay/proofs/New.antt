@@ -1,16 +1,19 @@
 -- A new cast.
-use Rattle.std.proofs.Common.{◌≡◌, ◌<◌, ◌+◌, ◌^◌, ◌++◌, ℕ, zero, suc, List, [], ◌∷◌, length, take, map, get_or, All}
+use Rattle.std.proofs.Common.{◌≡◌, ◌<◌, ◌≤◌, ◌+◌, ◌^◌, ◌++◌, ℕ, zero, suc, List, [], ◌∷◌, length, take, map, get_or, All}
 use Rattle.std.proofs.Common.{None, refl, ap, sym, ◌∙◌, subst, arith}
 use Rattle.std.proofs.lemmas.List.{length-map}
 use Rattle.std.proofs.lemmas.List.Elements.{All-nil, All-cons, All-head, All-tail}
 use Rattle.relay_config.specs.declared.config.PlaceRule.{PlaceRule}
+use Rattle.relay_config.specs.declared.config.OpenRule.{OpenRule}
+use Rattle.relay_config.specs.Sum.{names_of}
+use Rattle.stream_registry.specs.Names.{AreFew, HaveSlots, slots_sum}
 use Rattle.stream_registry.specs.Books.{SoleState, SeenState, FitsSole, sole_rules}
 use Rattle.media_recorder.specs.Ports.{FitsIf}
 use Rattle.media_recorder.specs.Seats.{SeatState}
 use Rattle.relay_replay.specs.declared.recording.Plan.{Plan}
 use Rattle.relay_replay.specs.Stand.{no_plan}
 use Rattle.relay_replay.specs.Cast.{RecState}
-use Rattle.relay_replay.specs.Scenes.{AreNew, Fits, IsNewRecorder, Ready, Sits, name_of}
+use Rattle.relay_replay.specs.Scenes.{AreNamed, AreNew, Fits, IsNewRecorder, IsPortOf, Ready, Sits, name_of, open_name}
 
 -- ---- one recorder more
 
@@ -66,14 +69,41 @@ as_many n [] (r ∷ rs) a = absurd a
 as_many n (p ∷ ps) [] a = absurd a
 as_many n (p ∷ ps) (r ∷ rs) a = ap suc (as_many (n + 1) ps rs a.1)
 
-pub new_sits : (places : List PlaceRule) (ps : List Plan) (port : SoleState) (rs : List RecState) → port.rules.names ≡ map name_of places → AreNew 0 ps rs
-    → All (λ p. p.stream < length places) ps → Sits (length places) (length ps) (record { port = port; sessions = []; recorders = rs })
-new_sits places ps port rs names a spots =
-    let many : length (sole_rules port.rules).names ≡ length places = ap length names ∙ length-map places name_of in
+pub new_sits : (streams : List PlaceRule) (opens : List OpenRule) (ps : List Plan) (port : SoleState) (rs : List RecState)
+    → IsPortOf streams opens port → AreNew 0 ps rs → All (λ p. p.stream < length streams) ps → Sits streams opens (length ps) (record { port = port; sessions = []; recorders = rs })
+new_sits streams opens ps port rs p a spots =
+    let many : length (sole_rules port.rules).names ≡ length streams = ap length p.names ∙ length-map streams name_of in
     record {
-      names = many;
+      port = p;
       few = omega arith;
       sessions = All-nil (Ready port);
       count = as_many 0 ps rs a;
       recorders = all_fit port 0 ps rs a (subst (λ (k : ℕ). All (λ p. p.stream < k) ps) (sym many) spots);
     }
+
+-- ---- the names of a new port
+
+slots_are : (opens : List OpenRule) → slots_sum (map open_name opens) ≡ names_of opens
+slots_are [] = refl
+slots_are (o ∷ opens) = ap (λ (n : ℕ). o.names + n) (slots_are opens)
+
+have_slots : (opens : List OpenRule) → All (λ o. 1 ≤ o.names) opens → HaveSlots (map open_name opens)
+have_slots [] a = tt
+have_slots (o ∷ opens) a =
+    (All-head (λ (x : OpenRule). 1 ≤ x.names) o opens a, have_slots opens (All-tail (λ (x : OpenRule). 1 ≤ x.names) o opens a))
+
+pub are_few : (streams : List PlaceRule) (opens : List OpenRule) → AreNamed streams opens → AreFew (map name_of streams) (map open_name opens)
+are_few streams opens n = record {
+  some = have_slots opens n.some;
+  most = omega (arith, n.few, slots_are opens, length-map streams name_of);
+}
+
+pub many_names : (streams : List PlaceRule) (opens : List OpenRule) (port : SoleState) → IsPortOf streams opens port → length port.rules.names ≡ length streams
+many_names streams opens port p = ap length p.names ∙ length-map streams name_of
+
+pub many_tables : (streams : List PlaceRule) (opens : List OpenRule) (port : SoleState) → IsPortOf streams opens port → length port.rules.opens ≡ length opens
+many_tables streams opens port p = ap length p.tables ∙ length-map opens open_name
+
+pub many_slots : (streams : List PlaceRule) (opens : List OpenRule) (port : SoleState) → IsPortOf streams opens port
+    → slots_sum port.rules.opens ≡ names_of opens
+many_slots streams opens port p = ap slots_sum p.tables ∙ slots_are opens

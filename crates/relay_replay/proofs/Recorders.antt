@@ -8,15 +8,14 @@ use Rattle.media_recorder.specs.Taken.{taken}
 use Rattle.relay_base.specs.declared.limits.Limits.{Limits as AllLimits}
 use Rattle.relay_script.specs.declared.replay.Form.{Form}
 use Rattle.relay_script.specs.declared.replay.ReplayLine.{ReplayLine}
-use Rattle.relay_script.specs.declared.replay.ReplayLine.TheVariants.{Nothing, Limits, Stream, Guard, Recorder, Session, Piece, Eof, Room, FailRecv, FailSend, FailPut, Turn, Rec, All as Rounds, Quit}
-use Rattle.relay_session.specs.Grants.{granted_from}
+use Rattle.relay_script.specs.declared.replay.ReplayLine.TheVariants.{Nothing, Limits, Stream, Guard, Recorder, Session, Piece, Eof, Room, FailRecv, FailSend, FailPut, Turn, Rec, All as Rounds, Quit, OpenApp, GuardOpen}
 use Rattle.stream_registry.specs.Books.{SoleState, SeenState}
 use Rattle.relay_replay.specs.declared.recording.Plan.{Plan}
 use Rattle.relay_replay.specs.Cast.{CastState, RecState, RecTurnOf, RecorderTurn, Round, TurnOf, text_in}
 use Rattle.relay_replay.specs.Files.{FileState}
 use Rattle.relay_replay.specs.Plays.{Plays, ToldBy}
 use Rattle.relay_replay.specs.Recorded.{AreRecorded, IsRecorded, RecordedIf, RecordedIn}
-use Rattle.relay_replay.specs.Scenes.{AreNew, CastBy, Does, IsNewRecorder, IsOpen, SceneState, SettledIn, is_acting}
+use Rattle.relay_replay.specs.Scenes.{AreNew, CastBy, Does, IsNewRecorder, IsOpen, SceneState, SettledIn, desk_of, is_acting}
 use Rattle.relay_replay.proofs.Serving.{all_at, each_keep, settled_keep, times_keep}
 
 -- ---- a new recorder
@@ -80,6 +79,8 @@ plays_recorded Nothing limits desk c d p s = told_recorded None Nothing c d p s
 plays_recorded (Limits a b i q w) limits desk c d p s = told_recorded None (Limits a b i q w) c d p s
 plays_recorded (Stream app name) limits desk c d p s = told_recorded None (Stream app name) c d p s
 plays_recorded (Guard n side mode key) limits desk c d p s = told_recorded None (Guard n side mode key) c d p s
+plays_recorded (OpenApp app n) limits desk c d p s = told_recorded None (OpenApp app n) c d p s
+plays_recorded (GuardOpen n side mode key) limits desk c d p s = told_recorded None (GuardOpen n side mode key) c d p s
 plays_recorded (Recorder n form) limits desk c d p s = told_recorded None (Recorder n form) c d p s
 
 opened_recorded : (o : Option CastState) (s : SceneState) (c : CastState) → IsOpen o s c → RecordedIf o → RecordedIn c
@@ -90,14 +91,14 @@ line_recorded : (acts : Bool) (line : ReplayLine) (s t : SceneState) → CastBy 
 line_recorded false line s t c k = subst RecordedIf (sym c) k
 line_recorded true line s t a k =
     subst RecordedIf (sym a.cast)
-    (plays_recorded line s.limits (granted_from 0 s.places) a.before a.now a.plays (opened_recorded s.cast s a.before a.opened k))
+    (plays_recorded line s.limits (desk_of s) a.before a.now a.plays (opened_recorded s.cast s a.before a.opened k))
 
 pub does_recorded : (line : ReplayLine) (s t : SceneState) → Does line s t → AreRecorded s → AreRecorded t
 does_recorded line s t d k = line_recorded (is_acting line) line s t d.cast k
 
 pub settled_recorded : (done : Bool) (most n : ℕ) (s t : SceneState) → SettledIn done most n s t → AreRecorded s → AreRecorded t
 settled_recorded done most n s t x k =
-    let desk = granted_from 0 s.places in
+    let desk = desk_of s in
     subst RecordedIf (sym x.cast)
     (settled_keep RecordedIn desk n (recorded_of desk n) done most x.before x.now x.turns (opened_recorded s.cast s x.before x.opened k))
 

@@ -8,6 +8,7 @@ use Rattle.command_dialog.specs.declared.types.Ask.{Ask}
 use Rattle.command_dialog.specs.declared.types.Grant.{Grant}
 use Rattle.relay_base.specs.declared.limits.Limits.{Limits as AllLimits}
 use Rattle.relay_config.specs.declared.config.PlaceRule.{PlaceRule}
+use Rattle.relay_config.specs.declared.config.OpenRule.{OpenRule}
 use Rattle.session_owed.specs.Owed.{out}
 use Rattle.session_owed.specs.Talk.{hand_bytes}
 use Rattle.relay_outside.specs.MemLinks.{MemLinkState}
@@ -23,10 +24,10 @@ use Rattle.relay_session.specs.declared.end.End.{End}
 use Rattle.relay_session.specs.declared.turn.Turn.{Turn as TurnAnswer}
 use Rattle.relay_session.specs.declared.turn.Turn.TheVariants.{Moved, Idle, Ended}
 use Rattle.relay_script.specs.declared.replay.ReplayLine.{ReplayLine}
-use Rattle.relay_script.specs.declared.replay.ReplayLine.TheVariants.{Nothing, Limits, Stream, Guard, Recorder, Session, Piece, Eof, Room, FailRecv, FailSend, FailPut, Turn, Rec, All as Rounds, Quit}
+use Rattle.relay_script.specs.declared.replay.ReplayLine.TheVariants.{Nothing, Limits, Stream, Guard, Recorder, Session, Piece, Eof, Room, FailRecv, FailSend, FailPut, Turn, Rec, All as Rounds, Quit, OpenApp, GuardOpen}
 use Rattle.relay_replay.specs.Cast.{AfterTurn, AnsweredTurn, CastState, ConnState, Each, RecTurnOf, Round, SessionTurn, SettledBy, Times, TurnOf}
 use Rattle.relay_replay.specs.Plays.{IsNewSession, Plays, ToldBy, told_of}
-use Rattle.relay_replay.specs.Scenes.{Acts, CastBy, Does, IsOpen, SceneState, SettledIn, is_acting, stand_of}
+use Rattle.relay_replay.specs.Scenes.{Acts, CastBy, Does, IsOpen, SceneState, SettledIn, desk_of, is_acting, stand_of}
 use Rattle.relay_replay.specs.Served.{AreServed, IsServed, ServedIf, ServedIn, StandsIf}
 use Rattle.relay_replay.specs.Stand.{Stand, after, allows, is_setting}
 use Rattle.relay_replay.proofs.Taking.{turn_took}
@@ -125,6 +126,8 @@ told_served Nothing desk c s = s
 told_served (Limits a b i q w) desk c s = s
 told_served (Stream app name) desk c s = s
 told_served (Guard n side mode key) desk c s = s
+told_served (OpenApp app n) desk c s = s
+told_served (GuardOpen n side mode key) desk c s = s
 told_served (Recorder n form) desk c s = s
 told_served Session desk c s = s
 told_served (FailPut n) desk c s = s
@@ -162,6 +165,8 @@ plays_served Nothing limits desk c d p s = told_by_served None Nothing desk c d 
 plays_served (Limits a b i q w) limits desk c d p s = told_by_served None (Limits a b i q w) desk c d p s
 plays_served (Stream app name) limits desk c d p s = told_by_served None (Stream app name) desk c d p s
 plays_served (Guard n side mode key) limits desk c d p s = told_by_served None (Guard n side mode key) desk c d p s
+plays_served (OpenApp app n) limits desk c d p s = told_by_served None (OpenApp app n) desk c d p s
+plays_served (GuardOpen n side mode key) limits desk c d p s = told_by_served None (GuardOpen n side mode key) desk c d p s
 plays_served (Recorder n form) limits desk c d p s = told_by_served None (Recorder n form) desk c d p s
 
 -- ---- a replay between two lines
@@ -170,54 +175,66 @@ opened_served : (o : Option CastState) (s : SceneState) (desk : Ask → Grant) (
 opened_served None s desk c new k = subst (All (IsServed desk)) (sym new.sessions) (All-nil (IsServed desk))
 opened_served (Some d) s desk c e k = subst (ServedIn desk) (sym e) k
 
+-- what a stand says of the desk
+abbrev pub SameDesk : Stand → Stand → Type 0
+SameDesk x y = (y.places ≡ x.places) × (y.opens ≡ x.opens)
+
+same_desk : (s t : SceneState) → SameDesk (stand_of s) (stand_of t) → desk_of t ≡ desk_of s
+same_desk s t d =
+    ap (λ (l : List PlaceRule). granted_from 0 l t.opens) d.0 ∙ ap (λ (l : List OpenRule). granted_from 0 s.places l) d.1
+
 -- nothing changed that counts
-same_served : (s t : SceneState) → t.places ≡ s.places → t.cast ≡ s.cast → AreServed s → AreServed t
-same_served s t p c k =
-    subst (λ (l : List PlaceRule). ServedIf (granted_from 0 l) t.cast) (sym p) (subst (ServedIf (granted_from 0 s.places)) (sym c) k)
+same_served : (s t : SceneState) → SameDesk (stand_of s) (stand_of t) → t.cast ≡ s.cast → AreServed s → AreServed t
+same_served s t d c k =
+    subst (λ (g : Ask → Grant). ServedIf g t.cast) (sym (same_desk s t d)) (subst (ServedIf (desk_of s)) (sym c) k)
 
 -- nothing runs yet
 none_served : (s t : SceneState) (more : Bool) → (is_setting (option_map (λ (c : CastState). length c.sessions) s.cast) && more) ≡ true → t.cast ≡ s.cast → AreServed t
 none_served s t more e c = by_cast s.cast e c
   where
     by_cast : (o : Option CastState) → (is_setting (option_map (λ (c : CastState). length c.sessions) o) && more) ≡ true → t.cast ≡ o → AreServed t
-    by_cast None e c = subst (ServedIf (granted_from 0 t.places)) (sym c) tt
+    by_cast None e c = subst (ServedIf (desk_of t)) (sym c) tt
     by_cast (Some x) e c = absurd (cc)
 
-now_served : (s t : SceneState) (c : CastState) → t.places ≡ s.places → t.cast ≡ Some c → ServedIn (granted_from 0 s.places) c → AreServed t
-now_served s t c p e k =
-    subst (λ (l : List PlaceRule). ServedIf (granted_from 0 l) t.cast) (sym p) (subst (ServedIf (granted_from 0 s.places)) (sym e) k)
+now_served : (s t : SceneState) (c : CastState) → SameDesk (stand_of s) (stand_of t) → t.cast ≡ Some c → ServedIn (desk_of s) c → AreServed t
+now_served s t c d e k =
+    subst (λ (g : Ask → Grant). ServedIf g t.cast) (sym (same_desk s t d)) (subst (ServedIf (desk_of s)) (sym e) k)
 
-pub acts_served : (line : ReplayLine) (s t : SceneState) → t.places ≡ s.places → Acts line s t → AreServed s → AreServed t
-acts_served line s t p a k =
-    let desk = granted_from 0 s.places in
-    now_served s t a.now p a.cast (plays_served line s.limits desk a.before a.now a.plays (opened_served s.cast s desk a.before a.opened k))
+pub acts_served : (line : ReplayLine) (s t : SceneState) → SameDesk (stand_of s) (stand_of t) → Acts line s t → AreServed s → AreServed t
+acts_served line s t d a k =
+    now_served s t a.now d a.cast (plays_served line s.limits (desk_of s) a.before a.now a.plays (opened_served s.cast s (desk_of s) a.before a.opened k))
+
+-- a stand that is another with what isn't of the desk changed
+pub stand_desk : (s t : SceneState) (x : Stand) → stand_of t ≡ x → SameDesk (stand_of s) x → SameDesk (stand_of s) (stand_of t)
+stand_desk s t x e d = (ap (λ (y : Stand). y.places) e ∙ d.0, ap (λ (y : Stand). y.opens) e ∙ d.1)
 
 line_served : (line : ReplayLine) (s t : SceneState) → allows line (stand_of s) ≡ true → stand_of t ≡ after line (stand_of s) → CastBy (is_acting line) line s t → AreServed s → AreServed t
-line_served Nothing s t e p c k = same_served s t (ap (λ (x : Stand). x.places) p) c k
-line_served (Limits a b i q w) s t e p c k = same_served s t (ap (λ (x : Stand). x.places) p) c k
-line_served (Recorder n form) s t e p c k = same_served s t (ap (λ (x : Stand). x.places) p) c k
+line_served Nothing s t e p c k = same_served s t (stand_desk s t _ p (refl, refl)) c k
+line_served (Limits a b i q w) s t e p c k = same_served s t (stand_desk s t _ p (refl, refl)) c k
+line_served (Recorder n form) s t e p c k = same_served s t (stand_desk s t _ p (refl, refl)) c k
 line_served (Stream app name) s t e p c k = none_served s t _ e c
 line_served (Guard n side mode key) s t e p c k = none_served s t _ e c
-line_served Session s t e p c k = acts_served Session s t (ap (λ (x : Stand). x.places) p) c k
-line_served (FailPut n) s t e p c k = acts_served (FailPut n) s t (ap (λ (x : Stand). x.places) p) c k
-line_served (Turn n m) s t e p c k = acts_served (Turn n m) s t (ap (λ (x : Stand). x.places) p) c k
-line_served (Rec n m) s t e p c k = acts_served (Rec n m) s t (ap (λ (x : Stand). x.places) p) c k
-line_served (Rounds m) s t e p c k = acts_served (Rounds m) s t (ap (λ (x : Stand). x.places) p) c k
-line_served (Piece n bytes) s t e p c k = acts_served (Piece n bytes) s t (ap (λ (x : Stand). x.places) p) c k
-line_served (Eof n) s t e p c k = acts_served (Eof n) s t (ap (λ (x : Stand). x.places) p) c k
-line_served (Room n left) s t e p c k = acts_served (Room n left) s t (ap (λ (x : Stand). x.places) p) c k
-line_served (FailRecv n) s t e p c k = acts_served (FailRecv n) s t (ap (λ (x : Stand). x.places) p) c k
-line_served (FailSend n) s t e p c k = acts_served (FailSend n) s t (ap (λ (x : Stand). x.places) p) c k
-line_served (Quit n) s t e p c k = acts_served (Quit n) s t (ap (λ (x : Stand). x.places) p) c k
+line_served (OpenApp app n) s t e p c k = none_served s t _ e c
+line_served (GuardOpen n side mode key) s t e p c k = none_served s t _ e c
+line_served Session s t e p c k = acts_served Session s t (stand_desk s t _ p (refl, refl)) c k
+line_served (FailPut n) s t e p c k = acts_served (FailPut n) s t (stand_desk s t _ p (refl, refl)) c k
+line_served (Turn n m) s t e p c k = acts_served (Turn n m) s t (stand_desk s t _ p (refl, refl)) c k
+line_served (Rec n m) s t e p c k = acts_served (Rec n m) s t (stand_desk s t _ p (refl, refl)) c k
+line_served (Rounds m) s t e p c k = acts_served (Rounds m) s t (stand_desk s t _ p (refl, refl)) c k
+line_served (Piece n bytes) s t e p c k = acts_served (Piece n bytes) s t (stand_desk s t _ p (refl, refl)) c k
+line_served (Eof n) s t e p c k = acts_served (Eof n) s t (stand_desk s t _ p (refl, refl)) c k
+line_served (Room n left) s t e p c k = acts_served (Room n left) s t (stand_desk s t _ p (refl, refl)) c k
+line_served (FailRecv n) s t e p c k = acts_served (FailRecv n) s t (stand_desk s t _ p (refl, refl)) c k
+line_served (FailSend n) s t e p c k = acts_served (FailSend n) s t (stand_desk s t _ p (refl, refl)) c k
+line_served (Quit n) s t e p c k = acts_served (Quit n) s t (stand_desk s t _ p (refl, refl)) c k
 
 pub does_served : (line : ReplayLine) (s t : SceneState) → allows line (stand_of s) ≡ true → Does line s t → AreServed s → AreServed t
 does_served line s t e d k = line_served line s t e d.stand d.cast k
 
 pub settled_served : (done : Bool) (most n : ℕ) (s t : SceneState) → SettledIn done most n s t → AreServed s → AreServed t
 settled_served done most n s t x k =
-    let desk = granted_from 0 s.places in
-    now_served s t x.now (ap (λ (y : Stand). y.places) x.stand) x.cast
-    (settled_keep (ServedIn desk) desk n (served_of desk n) done most x.before x.now x.turns (opened_served s.cast s desk x.before x.opened k))
+    now_served s t x.now (stand_desk s t _ x.stand (refl, refl)) x.cast
+    (settled_keep (ServedIn (desk_of s)) (desk_of s) n (served_of (desk_of s) n) done most x.before x.now x.turns (opened_served s.cast s (desk_of s) x.before x.opened k))
 
-pub cast_served : (s : SceneState) (c : CastState) → IsOpen s.cast s c → AreServed s → ServedIn (granted_from 0 s.places) c
-cast_served s c o k = opened_served s.cast s (granted_from 0 s.places) c o k
+pub cast_served : (s : SceneState) (c : CastState) → IsOpen s.cast s c → AreServed s → ServedIn (desk_of s) c
+cast_served s c o k = opened_served s.cast s (desk_of s) c o k

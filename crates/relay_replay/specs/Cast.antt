@@ -7,7 +7,7 @@ use Rattle.relay_outside.specs.MemLinks.{MemLinkState, MemHears, MemSays}
 use Rattle.stream_model.specs.declared.calls.Entry.{Entry}
 use Rattle.stream_registry.specs.Books.{SoleState, SeenState, FitsSole, journal_at, sole_rules}
 use Rattle.relay_session.specs.Places.{Asked}
-use Rattle.relay_session.specs.SeatState.{GoOn, LeaveFails, LeavesFrom, left_at, place_of}
+use Rattle.relay_session.specs.SeatState.{GoOn, IsElsewhere, LeaveFails, LeavesFrom, StandsAt, left_at, place_of}
 use Rattle.relay_session.specs.SessionState.{BeginsOwed, SessionState, StandsFor, end_or_quit, lasting_of, life_at}
 use Rattle.relay_session.specs.Turns.{EndedBy}
 use Rattle.relay_session.specs.declared.end.End.{End}
@@ -16,6 +16,7 @@ use Rattle.relay_session.specs.declared.seat_answers.Leaving.{Leaving}
 use Rattle.relay_session.specs.declared.turn.Turn.{Turn}
 use Rattle.relay_session.specs.declared.turn.Turn.TheVariants.{Moved, Idle, Ended}
 use Rattle.flv_tags.specs.Text.{flv_text}
+use Rattle.media_recorder.specs.Ports.{Serves}
 use Rattle.media_recorder.specs.Taken.{taken}
 use Rattle.media_recorder.specs.Transport.{recorded_text}
 use Rattle.media_recorder.specs.Turns.{RecorderState, Turns}
@@ -69,12 +70,17 @@ pub record CastState : Type 0 where
 
 -- ---- a session's turn
 
+-- its calls stand in the histories
+abbrev pub StandsIn : SoleState → SessionState SeenState → Type 0
+StandsIn port s = StandsAt (λ (p : SoleState). sole_rules p.rules) (λ p. journal_at p.books) (λ (p : SeenState). p.seen) port s.seat
+
 -- it didn't end for want of memory
 abbrev pub HasMemory : End → Type 0
 HasMemory end.OutOfMemory = ⊥
 HasMemory _ = Unit {0}
 
--- it was closed: its last calls were made, and it has left
+-- It was closed: its last calls were made, and it has left. Where its calls stood in the histories they do so after it, and no history
+-- has more but that of the place where it was
 pub record IsClosed (port : SoleState) (s : SessionState SeenState) (port' : SoleState) (s' : SessionState SeenState) : Type 0 where
   pub leaving : Leaving
   pub leaves : LeavesFrom (place_of s.seat.spot) s.parts.who s.parts.fed s.parts.kept s.seat.active s.seat.visits
@@ -85,6 +91,8 @@ pub record IsClosed (port : SoleState) (s : SessionState SeenState) (port' : Sol
   pub left : place_of s'.seat.spot ≡ left_at leaving (place_of s.seat.spot)
   pub away : place_of s'.seat.spot ≡ None
   pub roots : GoOn (journal_at port.books) (journal_at port'.books)
+  pub others : (q : ℕ) → IsElsewhere s.seat.spot q → journal_at port'.books q ≡ journal_at port.books q
+  pub stands : StandsIn port s → StandsIn port' s'
   pub fixed : sole_rules port'.rules ≡ sole_rules port.rules
   pub ended : s'.ended ≡ Some (end_or_quit s.ended)
   pub parts : s'.parts ≡ record s.parts { kept = s'.parts.kept }
@@ -147,11 +155,17 @@ RecTurnsBy port r file answer port' r' file' =
     Turns (λ (s : SoleState). sole_rules s.rules) (λ s. journal_at s.books) (λ _. 0) (λ (p : SeenState). p.seen) (λ p. p.mine) (λ p. length p.seen) FileTakes
     r.end port port' file file' r answer r'
 
+-- the port after calls at that place: no other has a call more, and passes that fitted it still do
+abbrev pub ServesAt : ℕ → SoleState → SoleState → Type 0
+ServesAt place port port' =
+    Serves (λ (s : SoleState). sole_rules s.rules) (λ s. journal_at s.books) (λ _. 0) (λ s q (p : SeenState). FitsSole s q p) place port port'
+
 -- a recorder's turn. A file that had what was sent has it, and what is written is the text
 pub record RecorderTurn (port : SoleState) (c : RecState) (port' : SoleState) (d : RecState) : Type 0 where
   pub answer : RecTurn
   pub form : d.form ≡ c.form
   pub turn : RecTurnsBy port c.recorder c.file answer port' d.recorder d.file
+  pub served : ServesAt c.recorder.seat.place port port'
   pub took : c.file.bytes ≡ c.recorder.tape.sent → d.file.bytes ≡ d.recorder.tape.sent
   pub text : IsText d.form d.recorder
   pub longest : d.recorder.tape.longest ≡ c.recorder.tape.longest

@@ -1,5 +1,5 @@
 -- What a replay prints at its script's end.
-use Rattle.std.specs.Prelude.{◌≡◌, ◌≤◌, ℕ, zero, suc, ◌+◌, List, [], ◌∷◌, ◌++◌, length, reverse, codes, Option, None, Some}
+use Rattle.std.specs.Prelude.{◌≡◌, ◌<◌, ◌≤◌, ℕ, zero, suc, ◌+◌, ◌*◌, List, [], ◌∷◌, ◌++◌, length, reverse, slice_get, codes, Option, None, Some}
 use Rattle.std.specs.Fmt.{decimal}
 use Rattle.hex.specs.Hex.{encode_lower}
 use Rattle.chunk_reader.specs.declared.fail.ReadCause.{ReadCause}
@@ -8,13 +8,16 @@ use Rattle.media_recorder.specs.Mediums.{most_held as most_recorded}
 use Rattle.media_recorder.specs.declared.turn.RecEnd.{RecEnd}
 use Rattle.media_recorder.specs.declared.turn.RecEnd.TheVariants as rec_end
 use Rattle.relay_base.specs.declared.limits.Limits.{Limits}
-use Rattle.relay_config.specs.Sum.{total_of}
+use Rattle.relay_config.specs.Sum.{name_bytes, names_of, stream_bytes, total_of}
+use Rattle.relay_config.specs.declared.config.OpenRule.{OpenRule}
+use Rattle.relay_config.specs.declared.config.PlaceRule.{PlaceRule}
 use Rattle.relay_session.specs.Holding.{IsHolding, most_held}
 use Rattle.relay_session.specs.declared.end.End.{End}
 use Rattle.relay_session.specs.declared.end.End.TheVariants as end
-use Rattle.stream_model.specs.Held.{held}
-use Rattle.stream_model.specs.History.{items_of}
-use Rattle.stream_registry.specs.Books.{SoleState, journal_at}
+use Rattle.stream_model.specs.Shape.{shape_held}
+use Rattle.stream_registry.specs.Books.{SoleState, journal_at, shapes_in}
+use Rattle.stream_registry.specs.Names.{shape_at}
+use Rattle.stream_registry.specs.declared.names.OpenName.{OpenName}
 use Rattle.relay_replay.specs.Cast.{ConnState, RecState, CastState}
 use Rattle.relay_replay.specs.Scenes.{SceneState, IsOpen}
 
@@ -67,6 +70,9 @@ recorder_lines n file ended =
 abbrev pub stream_line : ℕ → ℕ → List ℕ
 stream_line n bytes = codes "stream " ++ decimal n ++ codes " held " ++ decimal bytes ++ codes "\n"
 
+abbrev pub open_line : ℕ → ℕ → List ℕ
+open_line n bytes = codes "open " ++ decimal n ++ codes " held " ++ decimal bytes ++ codes "\n"
+
 abbrev pub held_line : ℕ → ℕ → List ℕ
 held_line total sum = codes "held " ++ decimal total ++ codes " sum " ++ decimal sum ++ codes "\n"
 
@@ -79,14 +85,19 @@ abbrev pub recorders_text : ℕ → List RecState → List ℕ
 recorders_text n [] = []
 recorders_text n (r ∷ rs) = recorder_lines n r.file.bytes r.ended ++ recorders_text (n + 1) rs
 
--- what the stream at that place holds
+-- what the stream or the open table at that place holds
 abbrev pub held_at : SoleState → ℕ → ℕ
-held_at port n = held port.rules.limits (items_of (reverse (journal_at port.books n)))
+held_at port n = shape_held (shape_at (shapes_in port.rules) n) (reverse (journal_at port.books n))
 
--- the first so many
+-- the first so many streams
 abbrev pub streams_text : SoleState → ℕ → List ℕ
 streams_text port zero = []
 streams_text port (suc n) = streams_text port n ++ stream_line n (held_at port n)
+
+-- the first so many open tables, whose places are behind those of so many streams
+abbrev pub opens_text : SoleState → ℕ → ℕ → List ℕ
+opens_text port streams zero = []
+opens_text port streams (suc n) = opens_text port streams n ++ open_line n (held_at port (streams + n))
 
 -- ---- what all hold together
 
@@ -111,29 +122,52 @@ abbrev pub streams_hold : SoleState → ℕ → ℕ
 streams_hold port zero = 0
 streams_hold port (suc n) = streams_hold port n + held_at port n
 
--- TOTAL: the sum of what the open sessions, the recorders and the streams hold
-pub record IsTotal (streams : ℕ) (c : CastState) (total : ℕ) : Type 0 where
+abbrev pub opens_hold : SoleState → ℕ → ℕ → ℕ
+opens_hold port streams zero = 0
+opens_hold port streams (suc n) = opens_hold port streams n + held_at port (streams + n)
+
+-- each of the first so many streams holds no more than it may
+abbrev pub StreamsWithin : SoleState → ℕ → Type 0
+StreamsWithin port k = (n : ℕ) → n < k → held_at port n ≤ port.rules.limits.bytes + 196608
+
+-- and each of the first so many open tables
+abbrev pub TablesWithin : SoleState → ℕ → ℕ → Type 0
+TablesWithin port streams k =
+    (n : ℕ) (o : OpenName) → n < k → slice_get port.rules.opens n ≡ Some o → held_at port (streams + n) ≤ o.slots * (port.rules.limits.bytes + 196672)
+
+-- TOTAL: the sum of what the open sessions, the recorders, the streams and the open tables hold
+pub record IsTotal (streams tables : ℕ) (c : CastState) (total : ℕ) : Type 0 where
   pub by_sessions : ℕ
   pub sessions : AllHold Holds c.sessions by_sessions
   pub by_recorders : ℕ
   pub recorders : AllHold RecHolds c.recorders by_recorders
-  pub total_is : total ≡ by_sessions + by_recorders + streams_hold c.port streams
+  pub total_is : total ≡ by_sessions + by_recorders + (streams_hold c.port streams + opens_hold c.port streams tables)
+
+-- SUM: the most that all may hold
+abbrev pub most_of : Limits → List PlaceRule → List OpenRule → CastState → ℕ
+most_of limits streams opens c = total_of limits (length streams) (names_of opens) (length c.sessions) (length c.recorders)
 
 -- all that is printed, with that total
-abbrev pub text_of : Limits → ℕ → CastState → ℕ → List ℕ
-text_of limits streams c total =
-    ((sessions_text 0 c.sessions ++ recorders_text 0 c.recorders) ++ streams_text c.port streams)
-    ++ held_line total (total_of limits streams (length c.sessions) (length c.recorders))
+abbrev pub text_of : Limits → List PlaceRule → List OpenRule → CastState → ℕ → List ℕ
+text_of limits streams opens c total =
+    ((sessions_text 0 c.sessions ++ recorders_text 0 c.recorders) ++ streams_text c.port (length streams) ++ opens_text c.port (length streams) (length opens))
+    ++ held_line total (most_of limits streams opens c)
 
--- what is printed of so many streams, and of the sessions and the recorders. TOTAL IS AT MOST SUM
-pub record IsReport (limits : Limits) (streams : ℕ) (c : CastState) (text : List ℕ) : Type 0 where
+-- EACH STREAM holds at most its window and three configurations, and EACH OPEN TABLE the same for each of its names, and the name
+pub record AreWithin (limits : Limits) (streams : List PlaceRule) (opens : List OpenRule) (port : SoleState) : Type 0 where
+  pub streams_are : (n : ℕ) → n < length streams → held_at port n ≤ stream_bytes limits
+  pub tables_are : (n : ℕ) (o : OpenRule) → slice_get opens n ≡ Some o → held_at port (length streams + n) ≤ o.names * name_bytes limits
+
+-- what is printed of these streams and open tables, and of the sessions and the recorders. TOTAL IS AT MOST SUM
+pub record IsReport (limits : Limits) (streams : List PlaceRule) (opens : List OpenRule) (c : CastState) (text : List ℕ) : Type 0 where
   pub total : ℕ
-  pub sum : IsTotal streams c total
-  pub within : total ≤ total_of limits streams (length c.sessions) (length c.recorders)
-  pub text_is : text ≡ text_of limits streams c total
+  pub sum : IsTotal (length streams) (length opens) c total
+  pub within : total ≤ most_of limits streams opens c
+  pub each : AreWithin limits streams opens c.port
+  pub text_is : text ≡ text_of limits streams opens c total
 
 -- WHAT IS PRINTED: of the state that the lines led to, or of an empty one where none has acted
 pub record Prints (s : SceneState) (text : List ℕ) : Type 0 where
   pub cast : CastState
   pub opened : IsOpen s.cast s cast
-  pub report : IsReport s.limits (length s.places) cast text
+  pub report : IsReport s.limits s.places s.opens cast text

@@ -1,19 +1,25 @@
 -- A replay between two lines of its script.
 use Rattle.std.specs.Prelude.{◌≡◌, ℕ, ◌+◌, ◌^◌, ◌<◌, ◌≤◌, Bool, true, false, List, [], ◌∷◌, length, map, All, Option, None, Some}
 use Rattle.std.specs.Option.{option_map}
+use Rattle.command_dialog.specs.declared.types.Ask.{Ask}
+use Rattle.command_dialog.specs.declared.types.Grant.{Grant}
 use Rattle.relay_base.specs.declared.limits.Limits.{Limits as AllLimits}
 use Rattle.relay_config.specs.declared.config.PlaceRule.{PlaceRule}
+use Rattle.relay_config.specs.declared.config.OpenRule.{OpenRule}
+use Rattle.relay_config.specs.Sum.{names_of}
 use Rattle.media_recorder.specs.Ports.{FitsIf}
 use Rattle.stream_model.specs.declared.calls.StreamLimits.{StreamLimits}
 use Rattle.stream_registry.specs.Books.{SoleState, SeenState, FitsSole, journal_at, sole_rules}
+use Rattle.stream_registry.specs.Names.{PortRules, places}
 use Rattle.stream_registry.specs.declared.names.Name.{Name}
+use Rattle.stream_registry.specs.declared.names.OpenName.{OpenName}
 use Rattle.relay_session.specs.Grants.{granted_from}
 use Rattle.relay_session.specs.Places.{IsAt}
 use Rattle.relay_session.specs.SessionState.{SessionState}
 use Rattle.relay_session.specs.declared.end.End.{End}
 use Rattle.relay_script.specs.declared.replay.ReplayLine.{ReplayLine}
 use Rattle.relay_script.specs.declared.replay.ReplayLine.TheVariants.{Nothing, Limits, Stream, Guard, Recorder, Session, Piece, Eof, Room, FailRecv, FailSend}
-use Rattle.relay_script.specs.declared.replay.ReplayLine.TheVariants.{FailPut, Turn, Rec, Quit}
+use Rattle.relay_script.specs.declared.replay.ReplayLine.TheVariants.{FailPut, Turn, Rec, Quit, OpenApp, GuardOpen}
 use Rattle.relay_replay.specs.declared.recording.Plan.{Plan}
 use Rattle.relay_replay.specs.Stand.{Stand, acted, after, count, defaults}
 use Rattle.relay_replay.specs.Cast.{ConnState, RecState, CastState, SettledBy, text_in}
@@ -24,12 +30,13 @@ pub record SceneState : Type 0 where
   pub fresh : Bool
   pub limits : AllLimits
   pub places : List PlaceRule
+  pub opens : List OpenRule
   pub recorders : List Plan
   -- what runs, once a line has acted
   pub cast : Option CastState
 
 abbrev pub start : SceneState
-start = record { fresh = true; limits = defaults; places = []; recorders = []; cast = None }
+start = record { fresh = true; limits = defaults; places = []; opens = []; recorders = []; cast = None }
 
 -- what its lines have said
 abbrev pub stand_of : SceneState → Stand
@@ -37,9 +44,14 @@ stand_of s = record {
   fresh = s.fresh;
   limits = s.limits;
   places = s.places;
+  opens = s.opens;
   recorders = s.recorders;
   sessions = option_map (λ c. length c.sessions) s.cast;
 }
+
+-- its desk: what its streams and open tables grant
+abbrev pub desk_of : SceneState → Ask → Grant
+desk_of s = granted_from 0 s.places s.opens
 
 -- ---- what runs at first
 
@@ -48,6 +60,14 @@ stream_limits l = record { bytes = l.ring_bytes; items = l.ring_items; players =
 
 abbrev pub name_of : PlaceRule → Name
 name_of p = record { app = p.app; name = p.name }
+
+abbrev pub open_name : OpenRule → OpenName
+open_name o = record { app = o.app; slots = o.names }
+
+-- A port of these streams and open tables, each of which has its place
+pub record IsPortOf (streams : List PlaceRule) (opens : List OpenRule) (port : SoleState) : Type 0 where
+  pub names : port.rules.names ≡ map name_of streams
+  pub tables : port.rules.opens ≡ map open_name opens
 
 -- a recorder of that name, as it was planned, which has made no call. The text of no items is pending
 pub record IsNewRecorder (who : ℕ) (p : Plan) (r : RecState) : Type 0 where
@@ -68,7 +88,7 @@ AreNew n (p ∷ ps) (r ∷ rs) = IsNewRecorder (2 ^ 60 + n) p r × AreNew (n + 1
 
 -- EMPTY HISTORIES, no session, and a fresh recorder for each that was named
 pub record IsNewCast (s : SceneState) (c : CastState) : Type 0 where
-  pub names : c.port.rules.names ≡ map name_of s.places
+  pub port : IsPortOf s.places s.opens c.port
   pub limits : c.port.rules.limits ≡ stream_limits s.limits
   pub empty : (q : ℕ) → journal_at c.port.books q ≡ []
   pub sessions : c.sessions ≡ []
@@ -87,6 +107,8 @@ is_acting Nothing = false
 is_acting (Limits message bytes items players window) = false
 is_acting (Stream app name) = false
 is_acting (Guard n side mode key) = false
+is_acting (OpenApp app n) = false
+is_acting (GuardOpen n side mode key) = false
 is_acting (Recorder n form) = false
 is_acting _ = true
 
@@ -94,7 +116,7 @@ pub record Acts (line : ReplayLine) (s t : SceneState) : Type 0 where
   pub before : CastState
   pub opened : IsOpen s.cast s before
   pub now : CastState
-  pub plays : Plays s.limits (granted_from 0 s.places) line before now
+  pub plays : Plays s.limits (desk_of s) line before now
   pub cast : t.cast ≡ Some now
 
 abbrev pub CastBy : Bool → ReplayLine → SceneState → SceneState → Type 0
@@ -112,14 +134,14 @@ pub record SettledIn (done : Bool) (most n : ℕ) (s t : SceneState) : Type 0 wh
   pub before : CastState
   pub opened : IsOpen s.cast s before
   pub now : CastState
-  pub turns : SettledBy done most (granted_from 0 s.places) n before now
+  pub turns : SettledBy done most (desk_of s) n before now
   pub cast : t.cast ≡ Some now
 
 -- ---- what stays true
 
 -- a session that lives belongs to the streams
 abbrev pub ReadyBy : Option End → SoleState → SessionState SeenState → Type 0
-ReadyBy None port s = IsAt (FitsSole port) (length (sole_rules port.rules).names) s.parts s.seat
+ReadyBy None port s = IsAt (FitsSole port) (places (sole_rules port.rules)) s.parts s.seat
 ReadyBy (Some e) port s = Unit {0}
 
 abbrev pub Ready : SoleState → ConnState → Type 0
@@ -129,21 +151,25 @@ Ready port c = ReadyBy c.ended port c.session
 abbrev pub Fits : SoleState → RecState → Type 0
 Fits port r = (r.recorder.seat.place < length (sole_rules port.rules).names) × FitsIf (FitsSole port r.recorder.seat.place) r.recorder.seat.pass
 
--- of so many streams and recorders
-pub record Sits (streams files : ℕ) (c : CastState) : Type 0 where
-  pub names : length (sole_rules c.port.rules).names ≡ streams
+-- at these streams and open tables, with so many recorders
+pub record Sits (streams : List PlaceRule) (opens : List OpenRule) (files : ℕ) (c : CastState) : Type 0 where
+  pub port : IsPortOf streams opens c.port
   pub few : length c.sessions ≤ 64
   pub sessions : All (Ready c.port) c.sessions
   pub count : length c.recorders ≡ files
   pub recorders : All (Fits c.port) c.recorders
 
-abbrev pub SitsIf : ℕ → ℕ → Option CastState → Type 0
-SitsIf streams recorders None = Unit {0}
-SitsIf streams recorders (Some c) = Sits streams recorders c
+abbrev pub SitsIf : List PlaceRule → List OpenRule → ℕ → Option CastState → Type 0
+SitsIf streams opens recorders None = Unit {0}
+SitsIf streams opens recorders (Some c) = Sits streams opens recorders c
 
--- WHAT RUNS KEEPS THE LIMITS of its script: those of the streams, and the longest message of the sessions and the recorders
+-- each place has these limits
+abbrev pub HaveLimits : AllLimits → PortRules → Type 0
+HaveLimits l r = (q : ℕ) → q < places r → (r.limits q).limits ≡ stream_limits l
+
+-- WHAT RUNS KEEPS THE LIMITS of its script: those of the places, and the longest message of the sessions and the recorders
 pub record IsLimited (l : AllLimits) (c : CastState) : Type 0 where
-  pub streams : c.port.rules.limits ≡ stream_limits l
+  pub streams : HaveLimits l (sole_rules c.port.rules)
   pub sessions : All (λ s. s.session.parts.reader.max ≡ l.max_message) c.sessions
   pub recorders : All (λ r. r.recorder.tape.longest ≡ l.max_message) c.recorders
 
@@ -156,12 +182,19 @@ abbrev pub LimitedBy : Bool → AllLimits → Option CastState → Type 0
 LimitedBy true l c = c ≡ None
 LimitedBy false l c = LimitedIf l c
 
+-- The streams and the names of the open tables are at most 64. No stream has a longer name than a call may carry, and no open table
+-- has none
+pub record AreNamed (streams : List PlaceRule) (opens : List OpenRule) : Type 0 where
+  pub few : length streams + names_of opens ≤ 64
+  pub short : All (λ p. length p.name ≤ 64) streams
+  pub some : All (λ o. 1 ≤ o.names) opens
+
 pub record IsSound (s : SceneState) : Type 0 where
   pub message : s.limits.max_message ≤ 4194304
   pub ring : s.limits.ring_bytes ≤ 268435456
-  pub few : length s.places ≤ 64
+  pub named : AreNamed s.places s.opens
   pub recorders : All (λ p. p.stream < length s.places) s.recorders
-  pub cast : SitsIf (length s.places) (length s.recorders) s.cast
+  pub cast : SitsIf s.places s.opens (length s.recorders) s.cast
   pub limited : LimitedBy s.fresh s.limits s.cast
 
 -- the session or recorder that it names is there, and a session more finds room

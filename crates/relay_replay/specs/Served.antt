@@ -3,11 +3,10 @@ use Rattle.std.specs.Prelude.{◌≡◌, All, Option, None, Some}
 use Rattle.command_dialog.specs.declared.types.Ask.{Ask}
 use Rattle.command_dialog.specs.declared.types.Grant.{Grant}
 use Rattle.stream_registry.specs.Books.{SeenState}
-use Rattle.relay_session.specs.Grants.{granted_from}
 use Rattle.relay_session.specs.SessionState.{BeginsOwed, SessionState, StandsFor}
 use Rattle.relay_session.specs.declared.end.End.{End}
 use Rattle.relay_replay.specs.Cast.{ConnState, CastState}
-use Rattle.relay_replay.specs.Scenes.{SceneState}
+use Rattle.relay_replay.specs.Scenes.{SceneState, desk_of}
 
 -- one that lives stands for what it was fed and its calls
 abbrev pub StandsIf : Option End → (Ask → Grant) → SessionState SeenState → Type 0
@@ -28,10 +27,10 @@ abbrev pub ServedIf : (Ask → Grant) → Option CastState → Type 0
 ServedIf desk None = Unit {0}
 ServedIf desk (Some c) = ServedIn desk c
 
--- of a replay between two lines: before the desk of its streams
+-- of a replay between two lines: before the desk of its streams and open tables
 abbrev pub AreServed : SceneState → Type 0
-AreServed s = ServedIf (granted_from 0 s.places) s.cast
+AreServed s = ServedIf (desk_of s) s.cast
 
 -- of what is printed of it
 abbrev pub IsServedIn : SceneState → CastState → Type 0
-IsServedIn s c = ServedIn (granted_from 0 s.places) c
+IsServedIn s c = ServedIn (desk_of s) c

@@ -2,14 +2,15 @@
 use Rattle.std.specs.Prelude.{◌≡◌, ◌≤◌, ℕ, ◌+◌, ◌==◌, ◌&&◌, Bool, true, false, List, [], ◌∷◌, ◌++◌, length, drop, count_by, codes}
 use Rattle.std.specs.Fmt.{decimal}
 use Rattle.relay_base.specs.declared.limits.Limits.{Limits}
-use Rattle.relay_config.specs.Sum.{total_of}
+use Rattle.relay_config.specs.declared.config.OpenRule.{OpenRule}
+use Rattle.relay_config.specs.declared.config.PlaceRule.{PlaceRule}
 use Rattle.stream_model.specs.Counts.{is_pushed, is_skip}
 use Rattle.stream_model.specs.declared.replies.Reply.{Reply}
 use Rattle.stream_model.specs.declared.replies.Reply.TheVariants.{Sent}
 use Rattle.stream_registry.specs.Books.{journal_at}
 use Rattle.stream_registry.specs.Told.{Step}
 use Rattle.relay_replay.specs.Cast.{ConnState, CastState}
-use Rattle.relay_replay.specs.Prints.{IsTotal, held_line}
+use Rattle.relay_replay.specs.Prints.{IsTotal, held_line, most_of}
 use Rattle.relay_replay.specs.Scenes.{SceneState, IsOpen}
 
 abbrev pub is_sent : Reply → Bool
@@ -34,7 +35,8 @@ pushed_line calls = codes "pushed " ++ decimal (pushes calls) ++ codes "\n"
 -- of the session with that number, to which these bytes were sent
 abbrev pub player_line : ℕ → List Step → List ℕ → List ℕ
 player_line n calls sent =
-    codes "player " ++ decimal n ++ codes " items " ++ decimal (items_to n calls) ++ codes " skips " ++ decimal (skips_to n calls) ++ codes " bytes " ++ decimal (length sent) ++ codes "\n"
+    codes "player " ++ decimal n ++ codes " items " ++ decimal (items_to n calls) ++ codes " skips " ++ decimal (skips_to n calls)
+    ++ codes " bytes " ++ decimal (length sent) ++ codes "\n"
 
 -- of the sessions from number n on
 abbrev pub players_text : ℕ → List Step → List ConnState → List ℕ
@@ -42,20 +44,20 @@ players_text n calls [] = []
 players_text n calls (c ∷ cs) = player_line n calls c.link.sent ++ players_text (n + 1) calls cs
 
 -- of all sessions but the first, with that total
-abbrev pub summary_of : Limits → ℕ → CastState → ℕ → List ℕ
-summary_of limits streams c total =
+abbrev pub summary_of : Limits → List PlaceRule → List OpenRule → CastState → ℕ → List ℕ
+summary_of limits streams opens c total =
     (pushed_line (journal_at c.port.books 0) ++ players_text 1 (journal_at c.port.books 0) (drop 1 c.sessions))
-    ++ held_line total (total_of limits streams (length c.sessions) (length c.recorders))
+    ++ held_line total (most_of limits streams opens c)
 
 -- TOTAL IS AT MOST SUM
-pub record IsSummary (limits : Limits) (streams : ℕ) (c : CastState) (text : List ℕ) : Type 0 where
+pub record IsSummary (limits : Limits) (streams : List PlaceRule) (opens : List OpenRule) (c : CastState) (text : List ℕ) : Type 0 where
   pub total : ℕ
-  pub sum : IsTotal streams c total
-  pub within : total ≤ total_of limits streams (length c.sessions) (length c.recorders)
-  pub text_is : text ≡ summary_of limits streams c total
+  pub sum : IsTotal (length streams) (length opens) c total
+  pub within : total ≤ most_of limits streams opens c
+  pub text_is : text ≡ summary_of limits streams opens c total
 
 -- WHAT A RUN COMES TO: of the state that the lines led to, or of an empty one where none has acted
 pub record Sums (s : SceneState) (text : List ℕ) : Type 0 where
   pub cast : CastState
   pub opened : IsOpen s.cast s cast
-  pub summary : IsSummary s.limits (length s.places) cast text
+  pub summary : IsSummary s.limits s.places s.opens cast text

@@ -104,9 +104,9 @@ impl Cast {
     // One turn of a session, and what it was answered; none of one that has ended.
     fn turn(&mut self, n: usize, desk: &PlaceDesk<'_>) -> Result<Option<Turn>, OutOfMemory>
         requires there { n < length self.old.sessions }
-        requires sits { Sits (length desk.now.list.now) (length self.old.recorders) self.old }
-        ensures turn { IfOk result (λ a. AnsweredTurn (granted_from 0 desk.now.list.now) n a self.old self.new) }
-        ensures sits { OnOk result (Sits (length desk.now.list.now) (length self.old.recorders) self.new) }
+        requires sits { Sits desk.now.list.now desk.now.opens.now (length self.old.recorders) self.old }
+        ensures turn { IfOk result (λ a. AnsweredTurn (granted_from 0 desk.now.list.now desk.now.opens.now) n a self.old self.new) }
+        ensures sits { OnOk result (Sits desk.now.list.now desk.now.opens.now (length self.old.recorders) self.new) }
         ensures count { OnOk result (length self.new.sessions ≡ length self.old.sessions) }
     {
         self.sessions[n].turn(self.alloc, &mut self.port, desk)
@@ -120,9 +120,9 @@ impl Cast {
         desk: &PlaceDesk<'_>,
     ) -> Result<bool, OutOfMemory>
         requires there { n < length self.old.sessions }
-        requires sits { Sits (length desk.now.list.now) (length self.old.recorders) self.old }
-        ensures settled { IfOk result (λ done. SettledBy done most (granted_from 0 desk.now.list.now) n self.old self.new) }
-        ensures sits { OnOk result (Sits (length desk.now.list.now) (length self.old.recorders) self.new) }
+        requires sits { Sits desk.now.list.now desk.now.opens.now (length self.old.recorders) self.old }
+        ensures settled { IfOk result (λ done. SettledBy done most (granted_from 0 desk.now.list.now desk.now.opens.now) n self.old self.new) }
+        ensures sits { OnOk result (Sits desk.now.list.now desk.now.opens.now (length self.old.recorders) self.new) }
         ensures count { OnOk result (length self.new.sessions ≡ length self.old.sessions) }
     {
         for _ in 0..most {
@@ -135,13 +135,14 @@ impl Cast {
     }
 
     // One turn of a recorder.
-    fn rec(&mut self, n: usize, streams: usize) -> Result<(), OutOfMemory>
+    fn rec(&mut self, n: usize, desk: &PlaceDesk<'_>) -> Result<(), OutOfMemory>
         requires there { n < length self.old.recorders }
-        requires sits { Sits streams (length self.old.recorders) self.old }
+        requires sits { Sits desk.now.list.now desk.now.opens.now (length self.old.recorders) self.old }
         ensures turn { OnOk result (RecTurnOf n self.old self.new) }
-        ensures sits { OnOk result (Sits streams (length self.old.recorders) self.new) }
+        ensures sits { OnOk result (Sits desk.now.list.now desk.now.opens.now (length self.old.recorders) self.new) }
         ensures count { OnOk result (length self.new.sessions ≡ length self.old.sessions) }
     {
+        let _ = desk;
         self.recorders[n].turn(&mut self.port)
     }
 
@@ -153,9 +154,9 @@ impl Cast {
         desk: &PlaceDesk<'_>,
     ) -> Result<(), OutOfMemory>
         requires there { n < length self.old.sessions }
-        requires sits { Sits (length desk.now.list.now) (length self.old.recorders) self.old }
-        ensures turns { OnOk result (Times count (TurnOf (granted_from 0 desk.now.list.now) n) self.old self.new) }
-        ensures sits { OnOk result (Sits (length desk.now.list.now) (length self.old.recorders) self.new) }
+        requires sits { Sits desk.now.list.now desk.now.opens.now (length self.old.recorders) self.old }
+        ensures turns { OnOk result (Times count (TurnOf (granted_from 0 desk.now.list.now desk.now.opens.now) n) self.old self.new) }
+        ensures sits { OnOk result (Sits desk.now.list.now desk.now.opens.now (length self.old.recorders) self.new) }
         ensures count { OnOk result (length self.new.sessions ≡ length self.old.sessions) }
     {
         for _ in 0..count {
@@ -164,25 +165,30 @@ impl Cast {
         Ok(())
     }
 
-    // So many turns of a recorder, where there are so many streams.
-    pub(crate) fn recs(&mut self, n: u32, count: u32, streams: usize) -> Result<(), OutOfMemory>
+    // So many turns of a recorder at the desk's streams.
+    pub(crate) fn recs(
+        &mut self,
+        n: u32,
+        count: u32,
+        desk: &PlaceDesk<'_>,
+    ) -> Result<(), OutOfMemory>
         requires there { n < length self.old.recorders }
-        requires sits { Sits streams (length self.old.recorders) self.old }
+        requires sits { Sits desk.now.list.now desk.now.opens.now (length self.old.recorders) self.old }
         ensures turns { OnOk result (Times count (RecTurnOf n) self.old self.new) }
-        ensures sits { OnOk result (Sits streams (length self.old.recorders) self.new) }
+        ensures sits { OnOk result (Sits desk.now.list.now desk.now.opens.now (length self.old.recorders) self.new) }
         ensures count { OnOk result (length self.new.sessions ≡ length self.old.sessions) }
     {
         for _ in 0..count {
-            self.rec(n as usize, streams)?;
+            self.rec(n as usize, desk)?;
         }
         Ok(())
     }
 
     // A turn of each session.
     fn each_session(&mut self, desk: &PlaceDesk<'_>) -> Result<(), OutOfMemory>
-        requires sits { Sits (length desk.now.list.now) (length self.old.recorders) self.old }
-        ensures turns { OnOk result (Each (length self.old.sessions) (TurnOf (granted_from 0 desk.now.list.now)) self.old self.new) }
-        ensures sits { OnOk result (Sits (length desk.now.list.now) (length self.old.recorders) self.new) }
+        requires sits { Sits desk.now.list.now desk.now.opens.now (length self.old.recorders) self.old }
+        ensures turns { OnOk result (Each (length self.old.sessions) (TurnOf (granted_from 0 desk.now.list.now desk.now.opens.now)) self.old self.new) }
+        ensures sits { OnOk result (Sits desk.now.list.now desk.now.opens.now (length self.old.recorders) self.new) }
         ensures count { OnOk result (length self.new.sessions ≡ length self.old.sessions) }
     {
         for n in 0..self.sessions.len() {
@@ -192,34 +198,34 @@ impl Cast {
     }
 
     // A turn of each recorder.
-    fn each_recorder(&mut self, streams: usize) -> Result<(), OutOfMemory>
-        requires sits { Sits streams (length self.old.recorders) self.old }
+    fn each_recorder(&mut self, desk: &PlaceDesk<'_>) -> Result<(), OutOfMemory>
+        requires sits { Sits desk.now.list.now desk.now.opens.now (length self.old.recorders) self.old }
         ensures turns { OnOk result (Each (length self.old.recorders) RecTurnOf self.old self.new) }
-        ensures sits { OnOk result (Sits streams (length self.old.recorders) self.new) }
+        ensures sits { OnOk result (Sits desk.now.list.now desk.now.opens.now (length self.old.recorders) self.new) }
         ensures count { OnOk result (length self.new.sessions ≡ length self.old.sessions) }
     {
         for n in 0..self.recorders.len() {
-            self.rec(n, streams)?;
+            self.rec(n, desk)?;
         }
         Ok(())
     }
 
     // A round: a turn of each session, then one of each recorder.
     fn round(&mut self, desk: &PlaceDesk<'_>) -> Result<(), OutOfMemory>
-        requires sits { Sits (length desk.now.list.now) (length self.old.recorders) self.old }
-        ensures round { OnOk result (Round (granted_from 0 desk.now.list.now) self.old self.new) }
-        ensures sits { OnOk result (Sits (length desk.now.list.now) (length self.old.recorders) self.new) }
+        requires sits { Sits desk.now.list.now desk.now.opens.now (length self.old.recorders) self.old }
+        ensures round { OnOk result (Round (granted_from 0 desk.now.list.now desk.now.opens.now) self.old self.new) }
+        ensures sits { OnOk result (Sits desk.now.list.now desk.now.opens.now (length self.old.recorders) self.new) }
         ensures count { OnOk result (length self.new.sessions ≡ length self.old.sessions) }
     {
         self.each_session(desk)?;
-        self.each_recorder(desk.list.len())
+        self.each_recorder(desk)
     }
 
     // So many rounds.
     pub(crate) fn rounds(&mut self, count: u32, desk: &PlaceDesk<'_>) -> Result<(), OutOfMemory>
-        requires sits { Sits (length desk.now.list.now) (length self.old.recorders) self.old }
-        ensures rounds { OnOk result (Times count (Round (granted_from 0 desk.now.list.now)) self.old self.new) }
-        ensures sits { OnOk result (Sits (length desk.now.list.now) (length self.old.recorders) self.new) }
+        requires sits { Sits desk.now.list.now desk.now.opens.now (length self.old.recorders) self.old }
+        ensures rounds { OnOk result (Times count (Round (granted_from 0 desk.now.list.now desk.now.opens.now)) self.old self.new) }
+        ensures sits { OnOk result (Sits desk.now.list.now desk.now.opens.now (length self.old.recorders) self.new) }
         ensures count { OnOk result (length self.new.sessions ≡ length self.old.sessions) }
     {
         for _ in 0..count {

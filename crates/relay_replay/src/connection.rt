@@ -1,8 +1,9 @@
-ghost use Rattle.std.specs.Prelude.{◌≡◌, ◌≤◌, ℕ, length, IfOk, OnOk, Some, None};
+ghost use Rattle.std.specs.Prelude.{◌≡◌, ◌≤◌, ℕ, IfOk, OnOk, Some, None};
 ghost use Rattle.relay_session.specs.Grants.{granted_from};
 ghost use Rattle.relay_session.specs.Places.{IsAt, IsOffered};
 ghost use Rattle.relay_session.specs.SeatState.{HasFit};
 ghost use Rattle.stream_registry.specs.Books.{FitsSole, SeenState, sole_rules};
+ghost use Rattle.stream_registry.specs.Names.{places};
 ghost use Rattle.relay_replay.specs.Cast.{AfterTurn, AnsweredBy, IsClosed};
 ghost use Rattle.relay_replay.specs.Prints.{Holds};
 ghost use Rattle.relay_replay.specs.Plays.{IsNewSession, told_of};
@@ -98,8 +99,9 @@ impl Connection {
         desk: &PlaceDesk<'_>,
     ) -> Result<Option<Turn>, OutOfMemory>
         requires ready { Ready port.old self.old }
-        requires offered { IsOffered (granted_from 0 desk.now.list.now) (length (sole_rules port.old.rules).names) }
-        ensures turn { IfOk result (λ a. AnsweredBy a self.old.ended (granted_from 0 desk.now.list.now) port.old self.old port.new self.new) }
+        requires offered { IsOffered (granted_from 0 desk.now.list.now desk.now.opens.now) (places (sole_rules port.old.rules)) }
+        ensures turn { IfOk result (λ a. AnsweredBy a self.old.ended (granted_from 0 desk.now.list.now desk.now.opens.now)
+            port.old self.old port.new self.new) }
         ensures ready { OnOk result (Ready port.new self.new) }
         ensures fixed { sole_rules port.new.rules ≡ sole_rules port.old.rules }
         ensures fits { (q : ℕ) (p : SeenState) → FitsSole port.old q p → FitsSole port.new q p }
@@ -121,7 +123,7 @@ fn after(
     port: &mut Sole,
     answer: Turn,
 ) -> Result<(), OutOfMemory>
-    requires at { IsAt (FitsSole port.old) (length (sole_rules port.old.rules).names) session.old.parts session.old.seat }
+    requires at { IsAt (FitsSole port.old) (places (sole_rules port.old.rules)) session.old.parts session.old.seat }
     requires live { ended.old ≡ None }
     ensures leads { OnOk result (AfterTurn answer session.old port.old session.new ended.new port.new) }
     ensures ready { OnOk result (ReadyBy ended.new port.new session.new) }

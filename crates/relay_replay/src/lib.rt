@@ -1,13 +1,15 @@
-//! What the script of a replay does: its streams with their keys, its recorders and its sessions, and what is printed of them at
-//! its end.
+//! What the script of a replay does: its streams and open tables with their keys, its recorders and its sessions, and what is
+//! printed of them at its end.
 //!
-//! A [`Scene`] takes the lines of a script one after another. Links and files are in memory, and the streams are those of one
-//! thread, so what is printed follows from the script alone.
+//! A [`Scene`] takes the lines of a script one after another. Links and files are in memory, and the streams and open tables are
+//! those of one thread, so what is printed follows from the script alone. Read `specs/Stand.antt` first (where a line may stand), then
+//! `specs/Scenes.antt` (what it does) and `specs/Prints.antt` (what is printed). What the lines are is `relay_script`'s.
 #![tactic(auto)]
 
 mod cast;
 mod connection;
 mod file;
+mod places;
 mod recorded;
 mod recording;
 mod report;

@@ -2,7 +2,7 @@ ghost use Rattle.std.specs.Prelude.{◌≡◌, ◌≢◌, ℕ, ◌+◌, ◌<◌,
 ghost use Rattle.media_recorder.specs.Mediums.{most_held as most_recorded};
 ghost use Rattle.media_recorder.specs.Ports.{FitsIf};
 ghost use Rattle.stream_registry.specs.Books.{FitsSole, SeenState, sole_rules};
-ghost use Rattle.relay_replay.specs.Cast.{RecorderTurn, AfterRecTurn, EndsBy, IsText, RecTurnsBy, form_of, recorder_of, text_in};
+ghost use Rattle.relay_replay.specs.Cast.{RecorderTurn, AfterRecTurn, EndsBy, IsText, RecTurnsBy, ServesAt, form_of, recorder_of, text_in};
 ghost use Rattle.relay_replay.specs.Prints.{RecHolds};
 ghost use Rattle.relay_replay.specs.Scenes.{Fits, IsNewRecorder};
 
@@ -77,8 +77,7 @@ impl Writer {
         ensures longest { (recorder_of self.new).tape.longest ≡ (recorder_of self.old).tape.longest }
         ensures place { (recorder_of self.new).seat.place ≡ (recorder_of self.old).seat.place }
         ensures fits { FitsIf (FitsSole port.new (recorder_of self.new).seat.place) (recorder_of self.new).seat.pass }
-        ensures fixed { sole_rules port.new.rules ≡ sole_rules port.old.rules }
-        ensures others { (q : ℕ) (p : SeenState) → FitsSole port.old q p → FitsSole port.new q p }
+        ensures port { ServesAt (recorder_of self.old).seat.place port.old port.new }
     {
         match self {
             Writer::Flv(recorder) => recorder.turn(port, file),

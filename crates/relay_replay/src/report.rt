@@ -1,18 +1,21 @@
-ghost use Rattle.std.specs.Prelude.{◌≡◌, ◌+◌, ◌*◌, ◌++◌, ◌≤◌, ◌<◌, length, IfOk, OnOk, string_bytes};
+ghost use Rattle.std.specs.Prelude.{◌≡◌, ◌+◌, ◌*◌, ◌++◌, ◌≤◌, length, IfOk, OnOk, string_bytes};
 ghost use Rattle.relay_base.specs.declared.limits.Limits.{Limits as AllLimits};
 ghost use Rattle.relay_config.specs.Sum.{total_of};
-ghost use Rattle.relay_replay.specs.Scenes.{IsLimited};
-ghost use Rattle.relay_replay.specs.Prints.{cause_text, end_text, rec_end_text, hex_text, session_lines, recorder_lines, stream_line, held_line};
-ghost use Rattle.relay_replay.specs.Prints.{sessions_text, recorders_text, streams_text, AllHold, Holds, IsReport, IsTotal, RecHolds, streams_hold};
+ghost use Rattle.stream_registry.specs.Names.{slots_sum};
+ghost use Rattle.relay_replay.specs.Scenes.{AreNamed, IsLimited, IsPortOf};
+ghost use Rattle.relay_replay.specs.Prints.{cause_text, end_text, rec_end_text, hex_text, session_lines, recorder_lines, stream_line, open_line, held_line};
+ghost use Rattle.relay_replay.specs.Prints.{sessions_text, recorders_text, streams_text, opens_text, held_at, most_of, streams_hold, opens_hold};
+ghost use Rattle.relay_replay.specs.Prints.{AllHold, Holds, IsReport, IsTotal, RecHolds, StreamsWithin, TablesWithin};
 
 use crate::cast::Cast;
 use crate::connection::Connection;
+use crate::places::counts;
 use crate::recording::Recording;
 use av_unit::{Bytes, OutOfMemory};
 use chunk_reader::ReadCause;
 use media_recorder::RecEnd;
 use relay_base::Limits;
-use relay_config::sum_of;
+use relay_config::{OpenRule, PlaceRule, sum_of};
 use relay_session::End;
 use std::alloc::Global;
 use stream_registry::Sole;
@@ -107,7 +110,13 @@ fn stream_text(alloc: Global, n: u32, held: u64) -> Result<String, OutOfMemory>
     Ok(format!(in alloc; "stream {n} held {held}\n")?)
 }
 
-pub(crate) fn held_text(alloc: Global, total: u64, sum: u64) -> Result<String, OutOfMemory>
+fn open_text(alloc: Global, n: u32, held: u64) -> Result<String, OutOfMemory>
+    ensures { IfOk result (λ text. string_bytes text ≡ open_line n held) }
+{
+    Ok(format!(in alloc; "open {n} held {held}\n")?)
+}
+
+fn held_text(alloc: Global, total: u64, sum: u64) -> Result<String, OutOfMemory>
     ensures { IfOk result (λ text. string_bytes text ≡ held_line total sum) }
 {
     Ok(format!(in alloc; "held {total} sum {sum}\n")?)
@@ -144,12 +153,36 @@ fn all_recorders(alloc: Global, recorders: &[Recording], out: &mut Bytes) -> Res
 }
 
 // Adds the lines of so many streams.
+#[tactic(auto, using(crate::proofs::Totals::each_stream))]
 fn all_streams(alloc: Global, streams: u32, port: &Sole, out: &mut Bytes) -> Result<(), OutOfMemory>
     requires { streams ≤ length port.now.rules.names }
-    ensures { OnOk result (out.new ≡ out.old ++ streams_text port.now streams) }
+    ensures text { OnOk result (out.new ≡ out.old ++ streams_text port.now streams) }
+    ensures within { OnOk result (StreamsWithin port.now streams) }
 {
     for n in 0..streams {
         let text = stream_text(alloc, n, port.held(n))?;
+        out.append(text.as_str().as_bytes())?;
+    }
+    Ok(())
+}
+
+// Adds the lines of the open tables, whose places are behind those of the streams.
+#[tactic(auto, using(crate::proofs::Totals::each_table))]
+fn all_opens(
+    alloc: Global,
+    streams: u32,
+    tables: u32,
+    port: &Sole,
+    out: &mut Bytes,
+) -> Result<(), OutOfMemory>
+    requires streams { length port.now.rules.names ≡ streams }
+    requires tables { tables ≤ length port.now.rules.opens }
+    requires few { streams + tables ≤ 64 }
+    ensures text { OnOk result (out.new ≡ out.old ++ opens_text port.now streams tables) }
+    ensures within { OnOk result (TablesWithin port.now streams tables) }
+{
+    for n in 0..tables {
+        let text = open_text(alloc, n, port.held(streams + n))?;
         out.append(text.as_str().as_bytes())?;
     }
     Ok(())
@@ -188,7 +221,7 @@ fn recorders_hold(recorders: &[Recording]) -> Result<u64, OutOfMemory>
 }
 
 // What so many streams hold.
-#[tactic(auto, using(crate::proofs::Totals::next_within))]
+#[tactic(auto, using(crate::proofs::Totals::streams_more))]
 fn streams_hold(streams: u32, port: &Sole) -> Result<u64, OutOfMemory>
     requires { streams ≤ length port.now.rules.names }
     ensures sum { IfOk result (λ n. n ≡ streams_hold port.now streams) }
@@ -201,44 +234,92 @@ fn streams_hold(streams: u32, port: &Sole) -> Result<u64, OutOfMemory>
     Ok(total)
 }
 
+// What the open tables hold, whose places are behind those of the streams.
+#[tactic(auto, using(crate::proofs::Totals::tables_more))]
+fn opens_hold(streams: u32, tables: u32, port: &Sole) -> Result<u64, OutOfMemory>
+    requires streams { length port.now.rules.names ≡ streams }
+    requires tables { length port.now.rules.opens ≡ tables }
+    requires few { streams + tables ≤ 64 }
+    ensures sum { IfOk result (λ n. n ≡ opens_hold port.now streams tables) }
+    ensures most { IfOk result (λ n. n ≤ slots_sum port.now.rules.opens * (port.now.rules.limits.bytes + 196672)) }
+{
+    let mut total: u64 = 0;
+    for n in 0..tables {
+        total = more(total, port.held(streams + n))?;
+    }
+    Ok(total)
+}
+
 // What all hold together.
-pub(crate) fn total_of(streams: u32, cast: &Cast) -> Result<u64, OutOfMemory>
-    requires { streams ≤ length cast.now.port.rules.names }
-    ensures total { IfOk result (λ n. IsTotal streams cast.now n) }
+fn total_of(streams: u32, tables: u32, cast: &Cast) -> Result<u64, OutOfMemory>
+    requires streams { length cast.now.port.rules.names ≡ streams }
+    requires tables { length cast.now.port.rules.opens ≡ tables }
+    requires few { streams + tables ≤ 64 }
+    ensures total { IfOk result (λ n. IsTotal streams tables cast.now n) }
     ensures within { (l : AllLimits) → IsLimited l cast.now
-        → IfOk result (λ n. n ≤ total_of l streams (length cast.now.sessions) (length cast.now.recorders)) }
+        → IfOk result (λ n. n ≤ total_of l streams (slots_sum cast.now.port.rules.opens) (length cast.now.sessions) (length cast.now.recorders)) }
 {
     let sessions = sessions_hold(cast.sessions())?;
     let recorders = recorders_hold(cast.recorders())?;
-    let streams = streams_hold(streams, cast.port())?;
-    more(more(sessions, recorders)?, streams)
+    let streamed = streams_hold(streams, cast.port())?;
+    let opened = opens_hold(streams, tables, cast.port())?;
+    more(more(sessions, recorders)?, more(streamed, opened)?)
 }
 
-// What is printed of so many streams, of the sessions and of the recorders.
-pub(crate) fn report(
+// Adds the line of what all hold together, and the most that they may. The answer is the total.
+pub(crate) fn all_held(
     alloc: Global,
     limits: &Limits,
-    streams: usize,
+    streams: &[PlaceRule],
+    opens: &[OpenRule],
     cast: &Cast,
-) -> Result<Bytes, OutOfMemory>
+    out: &mut Bytes,
+) -> Result<u64, OutOfMemory>
     requires ring { limits.now.ring_bytes ≤ 268435456 }
     requires message { limits.now.max_message ≤ 4194304 }
-    requires names { length cast.now.port.rules.names ≡ streams }
-    requires few { streams ≤ 64 }
+    requires named { AreNamed streams.now opens.now }
+    requires port { IsPortOf streams.now opens.now cast.now.port }
     requires sessions { length cast.now.sessions ≤ 64 }
     requires limited { IsLimited limits.now cast.now }
-    ensures { IfOk result (λ text. IsReport limits.now streams cast.now text) }
+    ensures total { IfOk result (λ n. IsTotal (length streams.now) (length opens.now) cast.now n) }
+    ensures within { IfOk result (λ n. n ≤ most_of limits.now streams.now opens.now cast.now) }
+    ensures text { IfOk result (λ n. out.new ≡ out.old ++ held_line n (most_of limits.now streams.now opens.now cast.now)) }
 {
     let Ok(recorders) = u32::try_from(cast.recorders().len()) else {
         return Err(OutOfMemory);
     };
-    let streams = streams as u32;
+    let count = counts(streams, opens, cast.port());
+    let sessions = cast.sessions().len() as u32;
+    let sum = sum_of(limits, count.streams, count.names, sessions, recorders);
+    let total = total_of(count.streams, count.tables, cast)?;
+    let text = held_text(alloc, total, sum)?;
+    out.append(text.as_str().as_bytes())?;
+    Ok(total)
+}
+
+// What is printed of these streams and open tables, of the sessions and of the recorders.
+#[tactic(auto, using(crate::proofs::Totals::all_within_limits))]
+pub(crate) fn report(
+    alloc: Global,
+    limits: &Limits,
+    streams: &[PlaceRule],
+    opens: &[OpenRule],
+    cast: &Cast,
+) -> Result<Bytes, OutOfMemory>
+    requires ring { limits.now.ring_bytes ≤ 268435456 }
+    requires message { limits.now.max_message ≤ 4194304 }
+    requires named { AreNamed streams.now opens.now }
+    requires port { IsPortOf streams.now opens.now cast.now.port }
+    requires sessions { length cast.now.sessions ≤ 64 }
+    requires limited { IsLimited limits.now cast.now }
+    ensures { IfOk result (λ text. IsReport limits.now streams.now opens.now cast.now text) }
+{
+    let count = counts(streams, opens, cast.port());
     let mut out = Bytes::new(alloc);
     all_sessions(alloc, cast.sessions(), &mut out)?;
     all_recorders(alloc, cast.recorders(), &mut out)?;
-    all_streams(alloc, streams, cast.port(), &mut out)?;
-    let sum = sum_of(limits, streams, cast.sessions().len() as u32, recorders);
-    let text = held_text(alloc, total_of(streams, cast)?, sum)?;
-    out.append(text.as_str().as_bytes())?;
+    all_streams(alloc, count.streams, cast.port(), &mut out)?;
+    all_opens(alloc, count.streams, count.tables, cast.port(), &mut out)?;
+    all_held(alloc, limits, streams, opens, cast, &mut out)?;
     Ok(out)
 }

@@ -1,32 +1,38 @@
-ghost use Rattle.std.specs.Prelude.{◌≡◌, ◌↔◌, ◌<◌, ◌≤◌, ◌+◌, ◌^◌, ◌++◌, [], length, map, All, IfOk, OnOk, Some, None, Ok, Err, true, false};
-ghost use Rattle.relay_session.specs.Grants.{granted_from};
+ghost use Rattle.std.specs.Prelude.{◌≡◌, ◌↔◌, ◌<◌, ◌≤◌, ◌+◌, ◌^◌, ◌++◌, [], length, All, IfOk, OnOk, Some, None, Ok, Err, true, false};
 ghost use Rattle.std.specs.Prelude.{◌∷◌, option_map, slice_get, slice_index_or};
-ghost use Rattle.std.specs.List.{list_any};
-ghost use Rattle.relay_replay.specs.Stand.{defaults, allows, is_open, is_pair, is_setting, same_mode, takes_at, takes_mode, with_key, keyed, keyed_at};
-ghost use Rattle.relay_replay.specs.Stand.{count, has_recorder, has_session, no_plan, open_place, plan};
-ghost use Rattle.relay_replay.specs.Cast.{Round, SettledBy, Times, TurnOf};
+ghost use Rattle.relay_session.specs.Grants.{granted_from};
+ghost use Rattle.relay_replay.specs.Stand.{defaults, allows, is_setting, names_in, takes_at, takes_stream, takes_table, table_takes, keyed_at, table_keyed_at};
+ghost use Rattle.relay_replay.specs.Stand.{count, has_recorder, has_session, no_plan, open_place, open_table, plan};
 ghost use Rattle.relay_replay.specs.Plays.{Plays, session_in};
-ghost use Rattle.relay_replay.specs.Scenes.{AreNew, Does, IsNewCast, IsNewRecorder, IsOpen, IsSound, IsThere, SettledIn, Sits, is_acting, opened_by, name_of, stand_of, start, stream_limits};
+ghost use Rattle.relay_replay.specs.Scenes.{AreNamed, AreNew, Does, IsNewCast, IsNewRecorder, IsOpen, IsSound, IsThere, SettledIn, Sits, is_acting, opened_by};
+ghost use Rattle.relay_replay.specs.Scenes.{stand_of, start, stream_limits};
 ghost use Rattle.relay_replay.specs.Prints.{Prints};
 ghost use Rattle.relay_replay.specs.Sums.{Sums};
 
 use crate::cast::Cast;
+use crate::places::{
+    add_key, add_table_key, is_listed, is_taken, name_list, names_of, open_place, open_table,
+    table_list, takes_mode,
+};
 use crate::recording::{Plan, Recording};
 use crate::report::report;
 use crate::summary::summary;
-use av_unit::{Bytes, KeyList, OutOfMemory};
-use key_guard::{Grants, Guards, Mode};
+use av_unit::{Bytes, OutOfMemory};
+use key_guard::{Guards, Mode};
 use relay_base::Limits;
-use relay_config::{PlaceList, PlaceRule};
+use relay_config::{OpenRule, OpenRules, PlaceList, PlaceRule};
 use relay_script::{Form, LineFail, ReplayLine, Side};
 use relay_session::PlaceDesk;
 use std::alloc::Global;
 use std::marker::Model;
 use stream_core::StreamLimits;
-use stream_registry::{Name, NameList, Sole};
+use stream_registry::Sole;
 
-/// The most streams of a replay, and the most sessions.
-const MOST: usize = 64;
+/// The most streams and names of open tables of a replay, and the most sessions.
+const MOST: u64 = 64;
+
+/// The most bytes of a stream's name.
+const MOST_OF_NAME: usize = 64;
 
 /// The name of the first recorder; those of sessions are below it.
 const FIRST_RECORDER: u64 = 1 << 60;
@@ -52,6 +58,7 @@ pub struct Scene {
     fresh: bool,
     limits: Limits,
     places: PlaceList,
+    opens: OpenRules,
     recorders: Vec<Plan>,
     // None before the first line that acts.
     cast: Option<Cast>,
@@ -62,101 +69,7 @@ impl Model for Scene {
 
     ghost Value = { SceneState };
 
-    ghost view = { λ s. record { fresh = s.fresh; limits = s.limits; places = s.places; recorders = s.recorders.items; cast = s.cast } };
-}
-
-// ---- streams and their keys
-
-fn is_pair(app: &[u8], name: &[u8], rule: &PlaceRule) -> bool
-    ensures { result ≡ is_pair app.now name.now rule.now }
-{
-    rule.app.as_slice() == app && rule.name.as_slice() == name
-}
-
-fn is_among(app: &[u8], name: &[u8], places: &[PlaceRule]) -> bool
-    ensures { result ≡ list_any (is_pair app.now name.now) places.now }
-{
-    let mut left = places;
-    while let [rule, rest @ ..] = left {
-        if is_pair(app, name, rule) {
-            return true;
-        }
-        left = rest;
-    }
-    false
-}
-
-fn same_mode(a: Mode, b: Mode) -> bool
-    ensures { result ≡ same_mode a b }
-{
-    match a {
-        Mode::Plain => match b {
-            Mode::Plain => true,
-            Mode::Digest => false,
-        },
-        Mode::Digest => match b {
-            Mode::Plain => false,
-            Mode::Digest => true,
-        },
-    }
-}
-
-fn is_open(grants: &Grants) -> bool
-    ensures { result ≡ is_open grants.now }
-{
-    match grants {
-        Grants::Open => true,
-        Grants::Keys(_) => false,
-    }
-}
-
-// All keys of a stream have one mode.
-fn takes_mode(rule: &PlaceRule, mode: Mode) -> bool
-    ensures { result ≡ takes_mode rule.now mode }
-{
-    same_mode(rule.mode, mode) || (is_open(&rule.publish) && is_open(&rule.play))
-}
-
-// The grants with one key more.
-fn with_key(alloc: Global, grants: Grants, key: Bytes) -> Result<Grants, OutOfMemory>
-    ensures { IfOk result (λ g. g ≡ with_key grants key) }
-{
-    match grants {
-        Grants::Open => {
-            let mut keys = Vec::new(alloc);
-            keys.push(key)?;
-            Ok(Grants::Keys(KeyList::from_vec(keys)))
-        }
-        Grants::Keys(keys) => {
-            let mut keys = keys.into_vec();
-            keys.push(key)?;
-            Ok(Grants::Keys(KeyList::from_vec(keys)))
-        }
-    }
-}
-
-// The stream with one key more.
-fn add_key(
-    alloc: Global,
-    rule: &mut PlaceRule,
-    side: Side,
-    mode: Mode,
-    key: Bytes,
-) -> Result<(), OutOfMemory>
-    ensures { OnOk result (rule.new ≡ keyed rule.old side mode key) }
-{
-    match side {
-        Side::Publish => {
-            let grants = std::mem::replace(&mut rule.publish, Grants::Open);
-            rule.publish = with_key(alloc, grants, key)?;
-        }
-        Side::Play => {
-            let grants = std::mem::replace(&mut rule.play, Grants::Open);
-            rule.play = with_key(alloc, grants, key)?;
-        }
-    }
-    rule.mode = mode;
-    Ok(())
+    ghost view = { λ s. record { fresh = s.fresh; limits = s.limits; places = s.places; opens = s.opens; recorders = s.recorders.items; cast = s.cast } };
 }
 
 // ---- what runs at first
@@ -169,34 +82,6 @@ fn stream_limits(limits: Limits) -> StreamLimits
         items: limits.ring_items,
         players: limits.players,
     }
-}
-
-fn copied(alloc: Global, bytes: &[u8]) -> Result<Bytes, OutOfMemory>
-    ensures { IfOk result (λ b. b ≡ bytes.now) }
-{
-    Ok(Bytes::from_vec(Vec::from_slice(alloc, bytes)?))
-}
-
-fn name_of(alloc: Global, rule: &PlaceRule) -> Result<Name, OutOfMemory>
-    ensures { IfOk result (λ n. n ≡ name_of rule.now) }
-{
-    Ok(Name {
-        app: copied(alloc, rule.app.as_slice())?,
-        name: copied(alloc, rule.name.as_slice())?,
-    })
-}
-
-// The names of the streams.
-fn names_of(alloc: Global, places: &[PlaceRule]) -> Result<NameList, OutOfMemory>
-    ensures { IfOk result (λ names. names ≡ map name_of places.now) }
-{
-    let mut names = NameList::new(alloc);
-    let mut left = places;
-    while let [rule, rest @ ..] = left {
-        names.push(name_of(alloc, rule)?)?;
-        left = rest;
-    }
-    Ok(names)
 }
 
 // The recorder with that number, as it is planned. It writes units of at most `longest` bytes.
@@ -226,19 +111,29 @@ fn recordings(alloc: Global, plans: &[Plan], longest: u32) -> Result<Vec<Recordi
 }
 
 // Empty histories, no session, and the recorders.
+#[tactic(auto, using(crate::proofs::New::are_few))]
 fn new_cast(
     alloc: Global,
     limits: Limits,
     places: &[PlaceRule],
+    opens: &[OpenRule],
     plans: &[Plan],
 ) -> Result<Cast, OutOfMemory>
-    requires few { length places.now ≤ 64 }
+    requires named { AreNamed places.now opens.now }
     requires spots { All (λ p. p.stream < length places.now) plans.now }
-    ensures new { IfOk result (λ c. IsNewCast (record { fresh = false; limits = limits; places = places.now; recorders = plans.now; cast = None }) c) }
-    ensures sits { IfOk result (λ c. Sits (length places.now) (length plans.now) c) }
+    ensures new { IfOk result (λ c. IsNewCast (record {
+      fresh = false;
+      limits = limits;
+      places = places.now;
+      opens = opens.now;
+      recorders = plans.now;
+      cast = None;
+    }) c) }
+    ensures sits { IfOk result (λ c. Sits places.now opens.now (length plans.now) c) }
 {
-    let names = names_of(alloc, places)?;
-    let port = Sole::new(alloc, names, stream_limits(limits))?;
+    let names = name_list(alloc, places)?;
+    let tables = table_list(alloc, opens)?;
+    let port = Sole::new(alloc, names, tables, stream_limits(limits))?;
     let recorders = recordings(alloc, plans, limits.max_message)?;
     Ok(Cast::new(alloc, port, recorders))
 }
@@ -260,18 +155,16 @@ fn session_in(line: &ReplayLine) -> Option<u32>
 
 // Does what a line says that acts.
 fn play(
-    guards: &Guards,
+    desk: &PlaceDesk<'_>,
     limits: Limits,
-    places: &PlaceList,
     cast: &mut Cast,
     line: ReplayLine,
 ) -> Result<(), OutOfMemory>
     requires message { limits.max_message ≤ 4194304 }
-    requires few { length places.now ≤ 64 }
-    requires sits { Sits (length places.now) (length cast.old.recorders) cast.old }
+    requires sits { Sits desk.now.list.now desk.now.opens.now (length cast.old.recorders) cast.old }
     requires there { IsThere line cast.old }
-    ensures plays { OnOk result (Plays limits (granted_from 0 places.now) line cast.old cast.new) }
-    ensures sits { OnOk result (Sits (length places.now) (length cast.old.recorders) cast.new) }
+    ensures plays { OnOk result (Plays limits (granted_from 0 desk.now.list.now desk.now.opens.now) line cast.old cast.new) }
+    ensures sits { OnOk result (Sits desk.now.list.now desk.now.opens.now (length cast.old.recorders) cast.new) }
     ensures count { OnOk result (length cast.new.sessions ≡ opened_by line (length cast.old.sessions)) }
 {
     match line {
@@ -280,73 +173,14 @@ fn play(
             cast.fail_put(recorder);
             Ok(())
         }
-        ReplayLine::Turn { session, count } => turns(guards, places, cast, session, count),
-        ReplayLine::Rec { recorder, count } => cast.recs(recorder, count, places.len()),
-        ReplayLine::All(count) => rounds(guards, places, cast, count),
+        ReplayLine::Turn { session, count } => cast.turns(session, count, desk),
+        ReplayLine::Rec { recorder, count } => cast.recs(recorder, count, desk),
+        ReplayLine::All(count) => cast.rounds(count, desk),
         line => match session_in(&line) {
             Some(session) => cast.tell(session, line),
             None => Ok(()),
         },
     }
-}
-
-fn turns(
-    guards: &Guards,
-    places: &PlaceList,
-    cast: &mut Cast,
-    session: u32,
-    count: u32,
-) -> Result<(), OutOfMemory>
-    requires few { length places.now ≤ 64 }
-    requires sits { Sits (length places.now) (length cast.old.recorders) cast.old }
-    requires there { session < length cast.old.sessions }
-    ensures turns { OnOk result (Times count (TurnOf (granted_from 0 places.now) session) cast.old cast.new) }
-    ensures sits { OnOk result (Sits (length places.now) (length cast.old.recorders) cast.new) }
-    ensures count { OnOk result (length cast.new.sessions ≡ length cast.old.sessions) }
-{
-    let desk = PlaceDesk::new(guards, places);
-    let turned = cast.turns(session, count, &desk);
-    let PlaceDesk { guards: _, list: _ } = desk;
-    turned
-}
-
-// Turns of a session until it is idle or has ended, so many at most.
-fn settle(
-    guards: &Guards,
-    places: &PlaceList,
-    cast: &mut Cast,
-    session: u32,
-    most: u32,
-) -> Result<bool, OutOfMemory>
-    requires few { length places.now ≤ 64 }
-    requires sits { Sits (length places.now) (length cast.old.recorders) cast.old }
-    requires there { session < length cast.old.sessions }
-    ensures settled { IfOk result (λ done. SettledBy done most (granted_from 0 places.now) session cast.old cast.new) }
-    ensures sits { OnOk result (Sits (length places.now) (length cast.old.recorders) cast.new) }
-    ensures count { OnOk result (length cast.new.sessions ≡ length cast.old.sessions) }
-{
-    let desk = PlaceDesk::new(guards, places);
-    let settled = cast.settle(session, most, &desk);
-    let PlaceDesk { guards: _, list: _ } = desk;
-    settled
-}
-
-fn rounds(
-    guards: &Guards,
-    places: &PlaceList,
-    cast: &mut Cast,
-    count: u32,
-) -> Result<(), OutOfMemory>
-    requires few { length places.now ≤ 64 }
-    requires sits { Sits (length places.now) (length cast.old.recorders) cast.old }
-    ensures rounds { OnOk result (Times count (Round (granted_from 0 places.now)) cast.old cast.new) }
-    ensures sits { OnOk result (Sits (length places.now) (length cast.old.recorders) cast.new) }
-    ensures count { OnOk result (length cast.new.sessions ≡ length cast.old.sessions) }
-{
-    let desk = PlaceDesk::new(guards, places);
-    let turned = cast.rounds(count, &desk);
-    let PlaceDesk { guards: _, list: _ } = desk;
-    turned
 }
 
 // How many sessions are open.
@@ -370,6 +204,7 @@ impl Scene {
             fresh: true,
             limits: default_limits(),
             places: PlaceList::from_vec(Vec::new(alloc)),
+            opens: OpenRules::from_vec(Vec::new(alloc)),
             recorders: Vec::new(alloc),
             cast: None,
         }
@@ -399,12 +234,48 @@ impl Scene {
     {
         match self.places.as_slice().get(n as usize) {
             None => false,
-            Some(rule) => takes_mode(rule, mode),
+            Some(rule) => takes_mode(rule.mode, &rule.publish, &rule.play, mode),
         }
+    }
+
+    fn table_takes(&self, n: u32, mode: Mode) -> bool
+        ensures { result ≡ table_takes (slice_get self.now.opens n) mode }
+    {
+        match self.opens.as_slice().get(n as usize) {
+            None => false,
+            Some(rule) => takes_mode(rule.mode, &rule.publish, &rule.play, mode),
+        }
+    }
+
+    // The streams, and the names that open tables have at a time.
+    fn names(&self) -> u64
+        requires { names_in (stand_of self.now) ≤ 64 }
+        ensures { result ≡ names_in (stand_of self.now) }
+    {
+        self.places.len() as u64 + u64::from(names_of(self.opens.as_slice()))
+    }
+
+    // Whether a stream may have these names.
+    fn takes_stream(&self, app: &[u8], name: &[u8]) -> bool
+        requires { names_in (stand_of self.now) ≤ 64 }
+        ensures { result ≡ takes_stream app.now name.now (stand_of self.now) }
+    {
+        name.len() <= MOST_OF_NAME
+            && (self.names() < MOST && !is_listed(app, name, self.places.as_slice()))
+    }
+
+    // Whether an open table may have this application, and so many names.
+    fn takes_table(&self, app: &[u8], names: u32) -> bool
+        requires { names_in (stand_of self.now) ≤ 64 }
+        ensures { result ≡ takes_table app.now names (stand_of self.now) }
+    {
+        1 <= names
+            && (self.names() + u64::from(names) <= MOST && !is_taken(app, self.opens.as_slice()))
     }
 
     // Whether the line may stand here.
     fn allows(&self, line: &ReplayLine) -> bool
+        requires { names_in (stand_of self.now) ≤ 64 }
         ensures { result ≡ allows line.now (stand_of self.now) }
     {
         match line {
@@ -417,10 +288,17 @@ impl Scene {
                 window: _,
             } => self.fresh && (*message <= 4_194_304 && *bytes <= 268_435_456),
             ReplayLine::Stream { app, name } => {
-                self.is_setting()
-                    && (self.places.len() < MOST
-                        && !is_among(app.as_slice(), name.as_slice(), self.places.as_slice()))
+                self.is_setting() && self.takes_stream(app.as_slice(), name.as_slice())
             }
+            ReplayLine::OpenApp { app, names } => {
+                self.is_setting() && self.takes_table(app.as_slice(), *names)
+            }
+            ReplayLine::GuardOpen {
+                table,
+                side: _,
+                mode,
+                key: _,
+            } => self.is_setting() && self.table_takes(*table, *mode),
             ReplayLine::Guard {
                 stream,
                 side: _,
@@ -430,7 +308,7 @@ impl Scene {
             ReplayLine::Recorder { stream, form: _ } => {
                 self.is_setting() && (*stream as usize) < self.places.len()
             }
-            ReplayLine::Session => count_in(&self.cast) < MOST,
+            ReplayLine::Session => (count_in(&self.cast) as u64) < MOST,
             ReplayLine::FailPut(recorder) => self.has_recorder(*recorder),
             ReplayLine::Rec { recorder, count: _ } => self.has_recorder(*recorder),
             ReplayLine::All(_) => true,
@@ -457,15 +335,7 @@ impl Scene {
         self.fresh = false;
         let none = PlaceList::from_vec(Vec::new(self.alloc));
         let mut places = std::mem::replace(&mut self.places, none).into_vec();
-        places.push(PlaceRule {
-            app,
-            name,
-            publish: Grants::Open,
-            play: Grants::Open,
-            mode: Mode::Plain,
-            flv: None,
-            ts: None,
-        })?;
+        places.push(open_place(app, name))?;
         self.places = PlaceList::from_vec(places);
         Ok(())
     }
@@ -482,6 +352,32 @@ impl Scene {
         Ok(())
     }
 
+    fn add_table(&mut self, app: Bytes, names: u32) -> Result<(), OutOfMemory>
+        ensures { OnOk result (self.new ≡ record self.old { fresh = false; opens = self.old.opens ++ open_table app names ∷ [] }) }
+    {
+        self.fresh = false;
+        let none = OpenRules::from_vec(Vec::new(self.alloc));
+        let mut opens = std::mem::replace(&mut self.opens, none).into_vec();
+        opens.push(open_table(app, names))?;
+        self.opens = OpenRules::from_vec(opens);
+        Ok(())
+    }
+
+    fn guard_table(&mut self, n: u32, side: Side, mode: Mode, key: Bytes) -> Result<(), OutOfMemory>
+        requires { n < length self.old.opens }
+        ensures { OnOk result (self.new ≡ record self.old {
+          fresh = false;
+          opens = table_keyed_at self.old.opens n (slice_get self.old.opens n) side mode key;
+        }) }
+    {
+        self.fresh = false;
+        let none = OpenRules::from_vec(Vec::new(self.alloc));
+        let mut opens = std::mem::replace(&mut self.opens, none).into_vec();
+        add_table_key(self.alloc, &mut opens[n as usize], side, mode, key)?;
+        self.opens = OpenRules::from_vec(opens);
+        Ok(())
+    }
+
     fn add_recorder(&mut self, stream: u32, form: Form) -> Result<(), OutOfMemory>
         ensures { OnOk result (self.new ≡ record self.old { fresh = false; recorders = self.old.recorders ++ plan stream form ∷ [] }) }
     {
@@ -494,7 +390,7 @@ impl Scene {
     fn opened(&mut self) -> Result<Cast, OutOfMemory>
         requires { IsSound self.old }
         ensures open { IfOk result (λ c. IsOpen self.old.cast self.old c) }
-        ensures sits { IfOk result (λ c. Sits (length self.old.places) (length self.old.recorders) c) }
+        ensures sits { IfOk result (λ c. Sits self.old.places self.old.opens (length self.old.recorders) c) }
         ensures rest { self.new ≡ record self.old { cast = None } }
     {
         match std::mem::replace(&mut self.cast, None) {
@@ -504,6 +400,7 @@ impl Scene {
                     self.alloc,
                     self.limits,
                     self.places.as_slice(),
+                    self.opens.as_slice(),
                     &self.recorders,
                 );
             }
@@ -520,14 +417,21 @@ impl Scene {
         ensures sound { OnOk result (IsSound self.new) }
     {
         let mut cast = self.opened()?;
-        play(guards, self.limits, &self.places, &mut cast, line)?;
+        let desk = PlaceDesk::new(guards, &self.places, &self.opens);
+        let played = play(&desk, self.limits, &mut cast, line);
+        let PlaceDesk {
+            guards: _,
+            list: _,
+            opens: _,
+        } = desk;
+        played?;
         self.fresh = false;
         self.cast = Some(cast);
         Ok(())
     }
 
     // Does what a line says that may stand here.
-    #[tactic(auto, using(crate::proofs::Limiting::limited_if, crate::proofs::Limiting::none_limited))]
+    #[tactic(auto, using(crate::proofs::Limiting::limited_if, crate::proofs::Limiting::none_limited, crate::proofs::Naming::named_so))]
     fn obey(&mut self, guards: &Guards, line: ReplayLine) -> Result<(), OutOfMemory>
         requires sound { IsSound self.old }
         requires allowed { allows line (stand_of self.old) ≡ true }
@@ -559,12 +463,19 @@ impl Scene {
                 mode,
                 key,
             } => self.guard(stream, side, mode, key),
+            ReplayLine::OpenApp { app, names } => self.add_table(app, names),
+            ReplayLine::GuardOpen {
+                table,
+                side,
+                mode,
+                key,
+            } => self.guard_table(table, side, mode, key),
             ReplayLine::Recorder { stream, form } => self.add_recorder(stream, form),
             line => self.play(guards, line),
         }
     }
 
-    /// Does what a line says. The answer is `Outside` exactly where the line may not stand here, or names a stream, a
+    /// Does what a line says. The answer is `Outside` exactly where the line may not stand here, or names a stream, an open table, a
     /// recorder or a session that isn't there; then nothing is done.
     pub fn act(&mut self, guards: &Guards, line: ReplayLine) -> Result<(), LineFail>
         requires sound { IsSound self.old }
@@ -609,7 +520,14 @@ impl Scene {
         ensures sound { OnOk result (IsSound self.new) }
     {
         let mut cast = self.opened()?;
-        let done = settle(guards, &self.places, &mut cast, session, most)?;
+        let desk = PlaceDesk::new(guards, &self.places, &self.opens);
+        let settled = cast.settle(session, most, &desk);
+        let PlaceDesk {
+            guards: _,
+            list: _,
+            opens: _,
+        } = desk;
+        let done = settled?;
         self.fresh = false;
         self.cast = Some(cast);
         Ok(done)
@@ -626,11 +544,17 @@ impl Scene {
         ensures over { self.new ≡ record self.old { cast = None } }
     {
         let cast = self.opened()?;
-        summary(self.alloc, &self.limits, self.places.len(), &cast)
+        summary(
+            self.alloc,
+            &self.limits,
+            self.places.as_slice(),
+            self.opens.as_slice(),
+            &cast,
+        )
     }
 
     /// What is printed at the script's end: of each session what it was sent and how it ended, of each recorder its file
-    /// and how it ended, what each stream holds, and what all hold together, beside the most that they may. Nothing runs then.
+    /// and how it ended, what each stream and each open table holds, and what all hold together, beside the most that they may. Nothing runs then.
     #[tactic(auto, using(crate::proofs::Limiting::opened_limited))]
     pub fn report(&mut self) -> Result<Bytes, OutOfMemory>
         requires { IsSound self.old }
@@ -638,6 +562,12 @@ impl Scene {
         ensures over { self.new ≡ record self.old { cast = None } }
     {
         let cast = self.opened()?;
-        report(self.alloc, &self.limits, self.places.len(), &cast)
+        report(
+            self.alloc,
+            &self.limits,
+            self.places.as_slice(),
+            self.opens.as_slice(),
+            &cast,
+        )
     }
 }

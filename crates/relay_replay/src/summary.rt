@@ -1,14 +1,14 @@
 ghost use Rattle.std.specs.Prelude.{◌≡◌, ◌++◌, ◌≤◌, ◌<◌, drop, length, IfOk, OnOk, string_bytes};
-ghost use Rattle.relay_replay.specs.Scenes.{IsLimited};
+ghost use Rattle.relay_replay.specs.Scenes.{AreNamed, IsLimited, IsPortOf};
 ghost use Rattle.relay_replay.specs.Sums.{IsSummary, is_sent, items_to, player_line, players_text, pushed_line, pushes, skips_to};
 ghost use Rattle.stream_model.specs.Counts.{is_pushed, is_skip};
 
 use crate::cast::Cast;
 use crate::connection::Connection;
-use crate::report::{held_text, total_of};
+use crate::report::all_held;
 use av_unit::{Bytes, OutOfMemory};
 use relay_base::Limits;
-use relay_config::sum_of;
+use relay_config::{OpenRule, PlaceRule};
 use std::alloc::Global;
 use stream_model::{Entry, Reply};
 
@@ -117,33 +117,28 @@ fn all_players(
     Ok(())
 }
 
-// What a run of so many streams comes to.
+// What a run at these streams and open tables comes to.
 pub(crate) fn summary(
     alloc: Global,
     limits: &Limits,
-    streams: usize,
+    streams: &[PlaceRule],
+    opens: &[OpenRule],
     cast: &Cast,
 ) -> Result<Bytes, OutOfMemory>
     requires ring { limits.now.ring_bytes ≤ 268435456 }
     requires message { limits.now.max_message ≤ 4194304 }
-    requires names { length cast.now.port.rules.names ≡ streams }
-    requires some { 0 < streams }
-    requires few { streams ≤ 64 }
+    requires named { AreNamed streams.now opens.now }
+    requires port { IsPortOf streams.now opens.now cast.now.port }
+    requires some { 0 < length streams.now }
     requires sessions { length cast.now.sessions ≤ 64 }
     requires limited { IsLimited limits.now cast.now }
-    ensures { IfOk result (λ text. IsSummary limits.now streams cast.now text) }
+    ensures { IfOk result (λ text. IsSummary limits.now streams.now opens.now cast.now text) }
 {
-    let Ok(recorders) = u32::try_from(cast.recorders().len()) else {
-        return Err(OutOfMemory);
-    };
-    let streams = streams as u32;
     let calls = cast.port().journal(0);
     let mut out = Bytes::new(alloc);
     let pushed = pushed_text(alloc, calls)?;
     out.append(pushed.as_str().as_bytes())?;
     all_players(alloc, calls, after_first(cast.sessions()), &mut out)?;
-    let sum = sum_of(limits, streams, cast.sessions().len() as u32, recorders);
-    let text = held_text(alloc, total_of(streams, cast)?, sum)?;
-    out.append(text.as_str().as_bytes())?;
+    all_held(alloc, limits, streams, opens, cast, &mut out)?;
     Ok(out)
 }

@@ -3,7 +3,7 @@ use Rattle.std.proofs.Common.{◌≡◌, ◌↔◌, ℕ, if◌then◌else◌, Bo
 use Rattle.std.proofs.lemmas.Bool.Decides.{Decides-eqb}
 use Rattle.std.proofs.lemmas.Slice.Eq.{slice_eq-Decides}
 use Rattle.av_unit.specs.declared.unit.Kind.{Kind}
-use Rattle.av_unit.specs.declared.unit.Kind.TheVariants.{Meta, VConfig, AConfig, Key, Inter, Audio, Data}
+use Rattle.av_unit.specs.declared.unit.Kind.TheVariants.{Meta, VConfig, AConfig, Key, Inter, Spare, Audio, Data}
 use Rattle.relay_script.specs.Lines.{is_text, kind_of}
 use Rattle.relay_script.specs.Texts.{kind_text}
 
@@ -28,7 +28,7 @@ nothing word k e = absurd (cc)
 told : (k : Kind) (word : List ℕ) → kind_of word ≡ Some k → word ≡ kind_text k
 told k word e = pick word Meta k _ e (λ e. pick word VConfig k _ e
     (λ e. pick word AConfig k _ e (λ e. pick word Key k _ e (λ e. pick word Inter k _ e
-    (λ e. pick word Audio k _ e (λ e. pick word Data k None e (nothing word k)))))))
+    (λ e. pick word Spare k _ e (λ e. pick word Audio k _ e (λ e. pick word Data k None e (nothing word k))))))))
 
 named : (k : Kind) → kind_of (kind_text k) ≡ Some k
 named Meta = refl
@@ -36,6 +36,7 @@ named VConfig = refl
 named AConfig = refl
 named Key = refl
 named Inter = refl
+named Spare = refl
 named Audio = refl
 named Data = refl
 

@@ -5,12 +5,12 @@ use Rattle.std.proofs.lemmas.Bool.Decides.{nat_tests}
 use Rattle.std.proofs.lemmas.Fmt.{decimal_by_steps}
 use Rattle.std.specs.Fmt.{decimal}
 use Rattle.av_unit.specs.declared.unit.Kind.{Kind}
-use Rattle.av_unit.specs.declared.unit.Kind.TheVariants.{Meta, VConfig, AConfig, Key, Inter, Audio, Data}
+use Rattle.av_unit.specs.declared.unit.Kind.TheVariants.{Meta, VConfig, AConfig, Key, Inter, Spare, Audio, Data}
 use Rattle.av_unit.specs.declared.item.Item.{Item}
 use Rattle.av_unit.specs.declared.item.Item.TheVariants as item
 use Rattle.stream_model.specs.declared.replies.Reply.{Reply}
 use Rattle.stream_model.specs.declared.replies.Reply.TheVariants.{Began, InUse, Pushed, NotPublisher, Ended, Joined, Full, NotPlayer, Sent, Skip, NotYet}
-use Rattle.stream_model.specs.declared.replies.Reply.TheVariants.{Left, Counts}
+use Rattle.stream_model.specs.declared.replies.Reply.TheVariants.{Left, Counts, NoSlot}
 use Rattle.relay_script.specs.Texts.{line_of, held_text, item_text, kind_text, live_text}
 use Rattle.relay_script.specs.OneLine.{IsOneLine, IsU64, IsLive, IsItem, IsReply}
 use Rattle.relay_script.specs.Script.{NoLineFeed}
@@ -67,6 +67,7 @@ kind VConfig = fixed (codes "vconfig") refl
 kind AConfig = fixed (codes "aconfig") refl
 kind Key = fixed (codes "key") refl
 kind Inter = fixed (codes "inter") refl
+kind Spare = fixed (codes "spare") refl
 kind Audio = fixed (codes "audio") refl
 kind Data = fixed (codes "data") refl
 
@@ -91,6 +92,7 @@ one_line (Left player) h = ended (and (fixed (codes "left ") refl) (num player h
 one_line (Counts began pushed ended_ joined skips) h =
     ended (and (and (and (and (and (and (and (and (and (fixed (codes "counts ") refl) (num began h.0)) space) (num pushed h.1)) space) (num ended_ h.2))
     space) (num joined h.3)) space) (num skips h.4))
+one_line (NoSlot slots) h = ended (and (fixed (codes "noslot ") refl) (num slots h))
 
 pub held_line : (bytes : ℕ) → IsU64 bytes → IsOneLine (held_text bytes)
 held_line bytes h = ended (and (fixed (codes "held ") refl) (num bytes h))

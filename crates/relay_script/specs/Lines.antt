@@ -3,17 +3,18 @@ use Rattle.std.specs.Prelude.{ℕ, zero, suc, ◌+◌, ◌-◌, ◌*◌, ◌^◌
 use Rattle.std.specs.Prelude.{List, [], ◌∷◌, length, take, drop, codes, None, Some}
 use Rattle.std.specs.List.{position}
 use Rattle.std.specs.declared.option.Option.{Option}
-use Rattle.std.specs.Option.{option_and_then}
+use Rattle.std.specs.Option.{option_and_then, option_map}
 use Rattle.std.specs.Cmp.Lexicographic.{pointwise}
 use Rattle.std.proofs.Math.ListN.{replicate}
 use Rattle.av_unit.specs.declared.unit.Kind.{Kind}
-use Rattle.av_unit.specs.declared.unit.Kind.TheVariants.{Meta, VConfig, AConfig, Key, Inter, Audio, Data}
+use Rattle.av_unit.specs.declared.unit.Kind.TheVariants.{Meta, VConfig, AConfig, Key, Inter, Spare, Audio, Data}
 use Rattle.av_unit.specs.declared.head.Want.{Want}
 use Rattle.av_unit.specs.Fits.{most_bytes}
 use Rattle.stream_model.specs.declared.calls.Call.{Call}
 use Rattle.stream_model.specs.declared.calls.Call.TheVariants as call
+use Rattle.stream_model.specs.Names.{is_name}
 use Rattle.relay_script.specs.declared.line.DrillLine.{DrillLine}
-use Rattle.relay_script.specs.declared.line.DrillLine.TheVariants.{Nothing, Ring, Step, Held}
+use Rattle.relay_script.specs.declared.line.DrillLine.TheVariants.{Nothing, Ring, Pool, Step, Held}
 
 -- ---- words
 
@@ -84,8 +85,9 @@ kind_of word =
     else (if is_text word (codes "aconfig") then Some AConfig
     else (if is_text word (codes "key") then Some Key
     else (if is_text word (codes "inter") then Some Inter
+    else (if is_text word (codes "spare") then Some Spare
     else (if is_text word (codes "audio") then Some Audio
-    else (if is_text word (codes "data") then Some Data else None))))))
+    else (if is_text word (codes "data") then Some Data else None)))))))
 
 -- WANT: `av` sound and pictures, `a` sound, `v` pictures, `n` neither
 abbrev pub want_of : List ℕ → Option Want
@@ -119,6 +121,14 @@ items_of word = count_of (65536 + 1) word
 abbrev pub players_of : List ℕ → Option ℕ
 players_of word = count_of (256 + 1) word
 
+-- SLOTS
+abbrev pub slots_of : List ℕ → Option ℕ
+slots_of word = count_of (64 + 1) word
+
+-- NAME: 1 to 64 letters, digits, `.`, `_` or `-`
+abbrev pub name_of : List ℕ → Option (List ℕ)
+name_of word = if is_name word then Some word else None
+
 -- ---- lines
 
 abbrev pub ring_of : ℕ → ℕ → ℕ → DrillLine
@@ -132,6 +142,10 @@ ring_line words =
     next rest players_of (λ players rest.
     last rest (ring_of bytes items players))))
 
+-- SLOTS
+abbrev pub pool_line : Option (List ℕ) → Option DrillLine
+pool_line words = next words slots_of (λ slots rest. last rest (Pool slots))
+
 -- a call in a script is made before its caller was fed any byte
 abbrev pub step : ℕ → Call → DrillLine
 step who call = Step (record { who = who; at = 0; call = call })
@@ -139,6 +153,22 @@ step who call = Step (record { who = who; at = 0; call = call })
 -- the body of a pushed unit is LEN zero bytes
 abbrev pub push_step : ℕ → Kind → ℕ → ℕ → DrillLine
 push_step who kind time len = step who (call.Push (record { kind = kind; time = time; body = replicate len 0 }))
+
+-- the call with a name, or without one
+abbrev pub call_named : Call → (List ℕ → Call) → Option (List ℕ) → Call
+call_named call with_name None = call
+call_named call with_name (Some name) = with_name name
+
+-- NAME, or nothing
+abbrev pub maybe_name : Option (List ℕ) → Option (Option (List ℕ))
+maybe_name None = Some None
+maybe_name (Some text) = next (Some text) name_of (λ name rest. last rest (Some name))
+
+-- WHO, or WHO NAME
+abbrev pub named_line : Call → (List ℕ → Call) → Option (List ℕ) → Option DrillLine
+named_line call with_name words =
+    next words who_of (λ who rest.
+    option_map (λ name. step who (call_named call with_name name)) (maybe_name rest))
 
 -- WHO
 abbrev pub who_line : Call → Option (List ℕ) → Option DrillLine
@@ -170,21 +200,23 @@ leave_line words =
     next rest player_of (λ player rest.
     last rest (step who (call.Leave player))))
 
--- a line other than a push, by its first word
+-- a line without bytes of its own, by its first word
 abbrev pub plain_line : List ℕ → Option (List ℕ) → Option DrillLine
 plain_line word rest =
     if is_text word (codes "ring") then ring_line rest
+    else (if is_text word (codes "pool") then pool_line rest
     else (if is_text word (codes "held") then last rest Held
-    else (if is_text word (codes "begin") then who_line call.Begin rest
     else (if is_text word (codes "end") then who_line call.End rest
-    else (if is_text word (codes "join") then who_line call.Join rest
     else (if is_text word (codes "take") then take_line rest
     else (if is_text word (codes "leave") then leave_line rest
-    else (if is_text word (codes "count") then last rest (step 0 call.Count) else None)))))))
+    else (if is_text word (codes "count") then last rest (step 0 call.Count) else None))))))
 
 -- a line by its first word
 abbrev pub worded_line : List ℕ → Option (List ℕ) → Option DrillLine
-worded_line word rest = if is_text word (codes "push") then push_line rest else plain_line word rest
+worded_line word rest =
+    if is_text word (codes "push") then push_line rest
+    else (if is_text word (codes "begin") then named_line call.Begin call.BeginAs rest
+    else (if is_text word (codes "join") then named_line call.Join call.JoinAs rest else plain_line word rest))
 
 -- an empty line, a line that begins with `#`, or one of the lines above
 abbrev pub form : List ℕ → Option DrillLine
@@ -194,3 +226,19 @@ form (c ∷ cs) = if c == 35 then Some Nothing else worded_line (first_word (c �
 -- what a line says, its LF left out: None is outside the grammar
 abbrev pub meaning : List ℕ → Option DrillLine
 meaning line = if nat_le (length line) 65536 then form line else None
+
+-- the lines that take memory: a push, and what has a name
+abbrev pub takes_in : Call → Bool
+takes_in (call.Push unit) = true
+takes_in (call.BeginAs name) = true
+takes_in (call.JoinAs name) = true
+takes_in call.Begin = false
+takes_in call.End = false
+takes_in call.Join = false
+takes_in (call.Take player want) = false
+takes_in (call.Leave player) = false
+takes_in call.Count = false
+
+abbrev pub takes_memory : Option DrillLine → Bool
+takes_memory (Some (Step entry)) = takes_in entry.call
+takes_memory _ = false

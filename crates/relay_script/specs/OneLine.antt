@@ -5,7 +5,7 @@ use Rattle.av_unit.specs.declared.item.Item.{Item}
 use Rattle.av_unit.specs.declared.item.Item.TheVariants as item
 use Rattle.stream_model.specs.declared.replies.Reply.{Reply}
 use Rattle.stream_model.specs.declared.replies.Reply.TheVariants.{Began, InUse, Pushed, NotPublisher, Ended, Joined, Full, NotPlayer, Sent, Skip, NotYet}
-use Rattle.stream_model.specs.declared.replies.Reply.TheVariants.{Left, Counts}
+use Rattle.stream_model.specs.declared.replies.Reply.TheVariants.{Left, Counts, NoSlot}
 use Rattle.relay_script.specs.Script.{NoLineFeed}
 
 -- an LF stands at its end, and nowhere else
@@ -41,3 +41,4 @@ IsReply (Skip from to) = IsU64 from × IsU64 to
 IsReply (NotYet end) = IsU64 end
 IsReply (Left player) = IsU64 player
 IsReply (Counts began pushed ended joined skips) = IsU64 began × IsU64 pushed × IsU64 ended × IsU64 joined × IsU64 skips
+IsReply (NoSlot slots) = IsU64 slots

@@ -1,23 +1,21 @@
 -- The lines of a replay's script, each by itself.
-use Rattle.std.specs.Prelude.{ℕ, ◌+◌, ◌-◌, ◌*◌, ◌^◌, ◌%◌, Bool, ◌&&◌, ◌||◌, if◌then◌else◌, ◌==◌, nat_le, List, [], ◌∷◌, length, codes, None, Some}
+use Rattle.std.specs.Prelude.{ℕ, true, false, ◌+◌, ◌-◌, ◌*◌, ◌^◌, ◌%◌, Bool, ◌&&◌, ◌||◌, if◌then◌else◌, ◌==◌, nat_le, List, [], ◌∷◌, length, codes, None, Some}
 use Rattle.std.specs.List.{list_all}
 use Rattle.std.specs.declared.option.Option.{Option}
 use Rattle.std.specs.Option.{option_map}
-use Rattle.relay_script.specs.Lines.{first_word, next, last, is_text, number, decimal_of, count_of}
+use Rattle.stream_model.specs.Names.{within, is_name}
+use Rattle.relay_script.specs.Lines.{first_word, next, last, is_text, number, decimal_of, count_of, name_of, slots_of}
 use Rattle.relay_script.specs.declared.replay.ReplayLine.{ReplayLine}
 use Rattle.key_guard.specs.declared.check.Mode.{Mode}
-use Rattle.key_guard.specs.declared.check.Mode.TheVariants.{Plain, Digest}
+use Rattle.key_guard.specs.declared.check.Mode.TheVariants.{Plain, Digest, Named}
 use Rattle.relay_script.specs.declared.replay.Form.{Form}
 use Rattle.relay_script.specs.declared.replay.Form.TheVariants.{Flv, Ts}
 use Rattle.relay_script.specs.declared.replay.Side.{Side}
 use Rattle.relay_script.specs.declared.replay.Side.TheVariants.{Publish, Play}
 use Rattle.relay_script.specs.declared.replay.ReplayLine.TheVariants.{Nothing, Limits, Stream, Guard, Recorder, Session, Piece, Eof, Room, FailRecv, FailSend}
-use Rattle.relay_script.specs.declared.replay.ReplayLine.TheVariants.{FailPut, Turn, Rec, All, Quit}
+use Rattle.relay_script.specs.declared.replay.ReplayLine.TheVariants.{FailPut, Turn, Rec, All, Quit, OpenApp, GuardOpen}
 
 -- ---- what a word says
-
-abbrev pub within : ℕ → ℕ → ℕ → Bool
-within least most n = nat_le least n && nat_le n most
 
 -- a number from the least on, at most the other
 abbrev pub in_range : ℕ → ℕ → Option ℕ → Option ℕ
@@ -31,7 +29,7 @@ message_of word = in_range 4096 4194304 (decimal_of word)
 abbrev pub window_of : List ℕ → Option ℕ
 window_of word = in_range 1000 (2 ^ 31 - 1) (decimal_of word)
 
--- the number of a session, a stream or a recorder
+-- the number of a session, a stream, an open table or a recorder
 abbrev pub session_of : List ℕ → Option ℕ
 session_of word = number (2 ^ 32) word
 
@@ -42,17 +40,6 @@ turns_of word = count_of (1000000 + 1) word
 -- how many bytes may still be sent, None where all may
 abbrev pub room_of : List ℕ → Option (Option ℕ)
 room_of word = if is_text word (codes "all") then Some None else option_map Some (number (2 ^ 64) word)
-
--- a letter, a digit, `.`, `_` or `-`
-abbrev pub is_name_byte : ℕ → Bool
-is_name_byte c = (within 65 90 c || within 97 122 c) || (within 48 57 c || (c == 46 || (c == 95 || c == 45)))
-
--- APP and NAME
-abbrev pub is_name : List ℕ → Bool
-is_name word = within 1 64 (length word) && list_all is_name_byte word
-
-abbrev pub name_of : List ℕ → Option (List ℕ)
-name_of word = if is_name word then Some word else None
 
 abbrev pub is_hex_byte : ℕ → Bool
 is_hex_byte c = within 48 57 c || within 97 102 c
@@ -78,8 +65,12 @@ hex_of word = if is_hex word then Some (pairs word) else None
 abbrev pub side_of : List ℕ → Option Side
 side_of word = if is_text word (codes "publish") then Some Publish else (if is_text word (codes "play") then Some Play else None)
 
-abbrev pub mode_of : List ℕ → Option Mode
-mode_of word = if is_text word (codes "plain") then Some Plain else (if is_text word (codes "digest") then Some Digest else None)
+-- only an open table has keys for one name
+abbrev pub mode_of : Bool → List ℕ → Option Mode
+mode_of opens word =
+    if is_text word (codes "plain") then Some Plain
+    else (if is_text word (codes "digest") then Some Digest
+    else (if opens && is_text word (codes "named") then Some Named else None))
 
 abbrev pub form_of : List ℕ → Option Form
 form_of word = if is_text word (codes "flv") then Some Flv else (if is_text word (codes "ts") then Some Ts else None)
@@ -92,10 +83,12 @@ is_digest word = length word == 64 && list_all is_hex_byte word
 abbrev pub is_key : Mode → List ℕ → Bool
 is_key Plain word = is_name word
 is_key Digest word = is_digest word
+is_key Named word = is_digest word
 
 abbrev pub key_bytes : Mode → List ℕ → List ℕ
 key_bytes Plain word = word
 key_bytes Digest word = pairs word
+key_bytes Named word = pairs word
 
 abbrev pub key_of : Mode → List ℕ → Option (List ℕ)
 key_of mode word = if is_key mode word then Some (key_bytes mode word) else None
@@ -119,14 +112,28 @@ stream_line words =
     next rest name_of (λ name rest.
     last rest (Stream app name)))
 
--- S ROLE MODE KEY
-abbrev pub guard_line : Option (List ℕ) → Option ReplayLine
-guard_line words =
-    next words session_of (λ stream rest.
+-- a number, ROLE MODE KEY
+abbrev pub keyed_line : Bool → (ℕ → Side → Mode → List ℕ → ReplayLine) → Option (List ℕ) → Option ReplayLine
+keyed_line opens says words =
+    next words session_of (λ number rest.
     next rest side_of (λ side rest.
-    next rest mode_of (λ mode rest.
+    next rest (mode_of opens) (λ mode rest.
     next rest (key_of mode) (λ key rest.
-    last rest (Guard stream side mode key)))))
+    last rest (says number side mode key)))))
+
+-- S ROLE MODE KEY, and O ROLE MODE KEY
+abbrev pub guard_line : Option (List ℕ) → Option ReplayLine
+guard_line words = keyed_line false Guard words
+
+abbrev pub guardopen_line : Option (List ℕ) → Option ReplayLine
+guardopen_line words = keyed_line true GuardOpen words
+
+-- APP N
+abbrev pub openapp_line : Option (List ℕ) → Option ReplayLine
+openapp_line words =
+    next words name_of (λ app rest.
+    next rest slots_of (λ names rest.
+    last rest (OpenApp app names)))
 
 -- S FORM
 abbrev pub record_line : Option (List ℕ) → Option ReplayLine
@@ -192,7 +199,9 @@ abbrev pub worded_line : List ℕ → Option (List ℕ) → Option ReplayLine
 worded_line word rest =
     if is_text word (codes "stream") then stream_line rest
     else (if is_text word (codes "guard") then guard_line rest
-    else (if is_text word (codes "in") then piece_line rest else plain_line word rest))
+    else (if is_text word (codes "openapp") then openapp_line rest
+    else (if is_text word (codes "guardopen") then guardopen_line rest
+    else (if is_text word (codes "in") then piece_line rest else plain_line word rest))))
 
 -- an empty line, a line that begins with `#`, or one of the lines above
 abbrev pub form : List ℕ → Option ReplayLine
@@ -205,4 +214,6 @@ meaning line = if nat_le (length line) 65536 then form line else None
 
 -- the lines that take memory
 abbrev pub takes_memory : List ℕ → Bool
-takes_memory word = is_text word (codes "stream") || (is_text word (codes "guard") || is_text word (codes "in"))
+takes_memory word =
+    (is_text word (codes "stream") || is_text word (codes "guard"))
+    || ((is_text word (codes "openapp") || is_text word (codes "guardopen")) || is_text word (codes "in"))

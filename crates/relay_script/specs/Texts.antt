@@ -3,12 +3,12 @@ use Rattle.std.specs.Prelude.{ℕ, List, ◌++◌, length, codes, None, Some}
 use Rattle.std.specs.declared.option.Option.{Option}
 use Rattle.std.specs.Fmt.{decimal}
 use Rattle.av_unit.specs.declared.unit.Kind.{Kind}
-use Rattle.av_unit.specs.declared.unit.Kind.TheVariants.{Meta, VConfig, AConfig, Key, Inter, Audio, Data}
+use Rattle.av_unit.specs.declared.unit.Kind.TheVariants.{Meta, VConfig, AConfig, Key, Inter, Spare, Audio, Data}
 use Rattle.av_unit.specs.declared.item.Item.{Item}
 use Rattle.av_unit.specs.declared.item.Item.TheVariants as item
 use Rattle.stream_model.specs.declared.replies.Reply.{Reply}
 use Rattle.stream_model.specs.declared.replies.Reply.TheVariants.{Began, InUse, Pushed, NotPublisher, Ended, Joined, Full, NotPlayer, Sent, Skip, NotYet}
-use Rattle.stream_model.specs.declared.replies.Reply.TheVariants.{Left, Counts}
+use Rattle.stream_model.specs.declared.replies.Reply.TheVariants.{Left, Counts, NoSlot}
 
 -- LIVE: `-` where nobody publishes
 abbrev pub live_text : Option ℕ → List ℕ
@@ -22,6 +22,7 @@ kind_text VConfig = codes "vconfig"
 kind_text AConfig = codes "aconfig"
 kind_text Key = codes "key"
 kind_text Inter = codes "inter"
+kind_text Spare = codes "spare"
 kind_text Audio = codes "audio"
 kind_text Data = codes "data"
 
@@ -56,3 +57,4 @@ line_of (Left player) = codes "left " ++ decimal player ++ codes "\n"
 line_of (Counts began pushed ended joined skips) =
     codes "counts " ++ decimal began ++ codes " " ++ decimal pushed ++ codes " " ++ decimal ended ++ codes " " ++ decimal joined ++ codes " " ++ decimal
     skips ++ codes "\n"
+line_of (NoSlot slots) = codes "noslot " ++ decimal slots ++ codes "\n"

@@ -1,26 +1,29 @@
-ghost use Rattle.std.specs.Prelude.{◌≡◌, ◌↔◌, ◌^◌, ◌<◌, ◌≤◌, Some, None, IfOk, Ok, Err};
-ghost use Rattle.std.specs.Prelude.{position, ◌==◌, codes, true};
+ghost use Rattle.std.specs.Prelude.{◌≡◌, ◌↔◌, ◌^◌, ◌<◌, ◌≤◌, Some, None, IfOk, OnErr, Ok, Err, length};
+ghost use Rattle.std.specs.Prelude.{position, ◌==◌, ℕ, List, true};
 ghost use Rattle.std.specs.Option.{option_copied, option_map, IfSome};
-ghost use Rattle.stream_model.specs.declared.calls.Call.{Call};
+ghost use Rattle.stream_model.specs.declared.calls.Call.{Call as ACall};
 ghost use Rattle.av_unit.specs.Fits.{most_bytes};
-ghost use Rattle.relay_script.specs.declared.line.DrillLine.TheVariants.{Ring, Held};
-ghost use Rattle.relay_script.specs.Lines.{is_text, digits_from, below, number, count_of, first_word, kind_of, want_of, who_of, last, step};
+ghost use Rattle.relay_script.specs.declared.line.DrillLine.TheVariants.{Held};
+ghost use Rattle.relay_script.specs.Lines.{digits_from, below, number, count_of, first_word, kind_of, want_of, who_of, last, step};
+ghost use Rattle.relay_script.specs.Lines.{name_of, maybe_name, call_named, named_line, pool_line, takes_in, takes_memory};
 ghost use Rattle.relay_script.specs.Lines.{ring_line, who_line, push_step, push_line, take_line, leave_line, plain_line, worded_line, meaning};
 
 use av_unit::{Bytes, Kind, OutOfMemory, Unit, UnitArc, Want};
 use std::alloc::Global;
-use stream_model::{Call, Entry, StreamLimits};
+use stream_model::{Call, Entry, ShortName, StreamLimits, is_name};
 
 /// What a line of a drill's script says.
 #[derive(Drop)]
 pub enum DrillLine {
     /// An empty line or a comment.
     Nothing,
-    /// The limits of the stream.
+    /// The limits of the stream, or of each slot of the pool.
     Ring(StreamLimits),
-    /// A call at the stream, made before its caller was fed any byte.
+    /// The script is of a pool with so many slots.
+    Pool(u32),
+    /// A call, made before its caller was fed any byte.
     Step(Entry),
-    /// What the stream holds.
+    /// What the stream or the pool holds.
     Held,
 }
 
@@ -128,6 +131,8 @@ fn kind_of(word: &[u8]) -> Option<Kind>
         Some(Kind::Key)
     } else if word == b"inter".as_slice() {
         Some(Kind::Inter)
+    } else if word == b"spare".as_slice() {
+        Some(Kind::Spare)
     } else if word == b"audio".as_slice() {
         Some(Kind::Audio)
     } else if word == b"data".as_slice() {
@@ -152,6 +157,26 @@ fn want_of(word: &[u8]) -> Option<Want>
         return None;
     };
     Some(Want { audio, video })
+}
+
+/// The word, where it is a name: 1 to 64 letters, digits, `.`, `_` or `-`.
+pub(crate) fn name_of(word: &[u8]) -> Option<&[u8]>
+    ensures value { option_copied result ≡ name_of word.now }
+    ensures few { IfSome result (λ name. length name.now ≤ 64) }
+{
+    if is_name(word) { Some(word) } else { None }
+}
+
+// SLOTS
+fn pool_line(words: Option<&[u8]>) -> Option<DrillLine>
+    ensures { result ≡ pool_line (option_copied words.entry) }
+{
+    let (slots, rest) = first_word(words?);
+    let slots = count_of(slots, 65)?;
+    match rest {
+        Some(_) => None,
+        None => Some(DrillLine::Pool(slots)),
+    }
 }
 
 // BYTES ITEMS PLAYERS
@@ -235,6 +260,7 @@ fn step(who: u32, call: Call) -> DrillLine
 fn push_line(alloc: Global, words: Option<&[u8]>) -> Result<DrillLine, LineFail>
     ensures says { IfOk result (λ l. push_line (option_copied words.entry) ≡ Some l) }
     ensures outside { (result ≡ Err LineFail.Outside) ↔ (push_line (option_copied words.entry) ≡ None) }
+    ensures memory { result ≡ Err LineFail.OutOfMemory → takes_memory (push_line (option_copied words.entry)) ≡ true }
 {
     let Some(pushed) = read_push(words) else {
         return Err(LineFail::Outside);
@@ -254,6 +280,100 @@ fn who_line(call: Call, words: Option<&[u8]>) -> Option<DrillLine>
     match rest {
         Some(_) => None,
         None => Some(step(who, call)),
+    }
+}
+
+// NAME, or nothing
+fn maybe_name(words: Option<&[u8]>) -> Option<Option<&[u8]>>
+    ensures value { option_map option_copied result ≡ maybe_name (option_copied words.entry) }
+    ensures few { IfSome result (λ o. IfSome o (λ name. length name.now ≤ 64)) }
+{
+    match words {
+        Some(words) => {
+            let (name, rest) = first_word(words);
+            let name = name_of(name)?;
+            match rest {
+                Some(_) => None,
+                None => Some(Some(name)),
+            }
+        }
+        None => Some(None),
+    }
+}
+
+// A caller, with the name that it gives, before that is copied.
+#[derive(Clone, Copy)]
+struct Caller<'a> {
+    who: u32,
+    name: Option<&'a [u8]>,
+}
+
+// WHO, or WHO NAME
+fn read_caller(words: Option<&[u8]>) -> Option<Caller<'_>>
+    ensures meaning { (call : ACall) (with_name : List ℕ → ACall) → named_line call with_name (option_copied words.entry)
+        ≡ option_map (λ c. step c.who (call_named call with_name (option_copied c.name))) result }
+    ensures few { IfSome result (λ c. IfSome c.name (λ name. length name.now ≤ 64)) }
+{
+    let (who, rest) = first_word(words?);
+    let who = who_of(who)?;
+    let name = maybe_name(rest)?;
+    Some(Caller { who, name })
+}
+
+fn short_name(alloc: Global, name: &[u8]) -> Result<ShortName, OutOfMemory>
+    requires { length name.now ≤ 64 }
+    ensures { IfOk result (λ short. short ≡ name.now) }
+{
+    Ok(ShortName::new(Bytes::from_vec(Vec::from_slice(alloc, name)?)))
+}
+
+fn begin_step(alloc: Global, who: u32, name: Option<&[u8]>) -> Result<DrillLine, OutOfMemory>
+    requires { IfSome name (λ n. length n.now ≤ 64) }
+    ensures line { IfOk result (λ line. line ≡ step who (call_named Call.Begin Call.BeginAs (option_copied name.entry))) }
+    ensures memory { OnErr result (takes_in (call_named Call.Begin Call.BeginAs (option_copied name.entry)) ≡ true) }
+{
+    match name {
+        Some(name) => Ok(step(who, Call::BeginAs(short_name(alloc, name)?))),
+        None => Ok(step(who, Call::Begin)),
+    }
+}
+
+fn join_step(alloc: Global, who: u32, name: Option<&[u8]>) -> Result<DrillLine, OutOfMemory>
+    requires { IfSome name (λ n. length n.now ≤ 64) }
+    ensures line { IfOk result (λ line. line ≡ step who (call_named Call.Join Call.JoinAs (option_copied name.entry))) }
+    ensures memory { OnErr result (takes_in (call_named Call.Join Call.JoinAs (option_copied name.entry)) ≡ true) }
+{
+    match name {
+        Some(name) => Ok(step(who, Call::JoinAs(short_name(alloc, name)?))),
+        None => Ok(step(who, Call::Join)),
+    }
+}
+
+fn begin_line(alloc: Global, words: Option<&[u8]>) -> Result<DrillLine, LineFail>
+    ensures says { IfOk result (λ l. named_line Call.Begin Call.BeginAs (option_copied words.entry) ≡ Some l) }
+    ensures outside { (result ≡ Err LineFail.Outside) ↔ (named_line Call.Begin Call.BeginAs (option_copied words.entry) ≡ None) }
+    ensures memory { result ≡ Err LineFail.OutOfMemory → takes_memory (named_line Call.Begin Call.BeginAs (option_copied words.entry)) ≡ true }
+{
+    let Some(caller) = read_caller(words) else {
+        return Err(LineFail::Outside);
+    };
+    match begin_step(alloc, caller.who, caller.name) {
+        Ok(line) => Ok(line),
+        Err(_) => Err(LineFail::OutOfMemory),
+    }
+}
+
+fn join_line(alloc: Global, words: Option<&[u8]>) -> Result<DrillLine, LineFail>
+    ensures says { IfOk result (λ l. named_line Call.Join Call.JoinAs (option_copied words.entry) ≡ Some l) }
+    ensures outside { (result ≡ Err LineFail.Outside) ↔ (named_line Call.Join Call.JoinAs (option_copied words.entry) ≡ None) }
+    ensures memory { result ≡ Err LineFail.OutOfMemory → takes_memory (named_line Call.Join Call.JoinAs (option_copied words.entry)) ≡ true }
+{
+    let Some(caller) = read_caller(words) else {
+        return Err(LineFail::Outside);
+    };
+    match join_step(alloc, caller.who, caller.name) {
+        Ok(line) => Ok(line),
+        Err(_) => Err(LineFail::OutOfMemory),
     }
 }
 
@@ -305,20 +425,18 @@ fn held_line(words: Option<&[u8]>) -> Option<DrillLine>
     }
 }
 
-// A line other than a push.
+// A line that takes no memory.
 fn plain_line(word: &[u8], rest: Option<&[u8]>) -> Option<DrillLine>
     ensures { result ≡ plain_line word.now (option_copied rest.entry) }
 {
     if word == b"ring".as_slice() {
         ring_line(rest)
+    } else if word == b"pool".as_slice() {
+        pool_line(rest)
     } else if word == b"held".as_slice() {
         held_line(rest)
-    } else if word == b"begin".as_slice() {
-        who_line(Call::Begin, rest)
     } else if word == b"end".as_slice() {
         who_line(Call::End, rest)
-    } else if word == b"join".as_slice() {
-        who_line(Call::Join, rest)
     } else if word == b"take".as_slice() {
         take_line(rest)
     } else if word == b"leave".as_slice() {
@@ -334,10 +452,16 @@ fn plain_line(word: &[u8], rest: Option<&[u8]>) -> Option<DrillLine>
 fn worded_line(alloc: Global, word: &[u8], rest: Option<&[u8]>) -> Result<DrillLine, LineFail>
     ensures says { IfOk result (λ l. worded_line word.now (option_copied rest.entry) ≡ Some l) }
     ensures outside { (result ≡ Err LineFail.Outside) ↔ (worded_line word.now (option_copied rest.entry) ≡ None) }
-    ensures memory { result ≡ Err LineFail.OutOfMemory → is_text word.now (codes "push") ≡ true }
+    ensures memory { result ≡ Err LineFail.OutOfMemory → takes_memory (worded_line word.now (option_copied rest.entry)) ≡ true }
 {
     if word == b"push".as_slice() {
         return push_line(alloc, rest);
+    }
+    if word == b"begin".as_slice() {
+        return begin_line(alloc, rest);
+    }
+    if word == b"join".as_slice() {
+        return join_line(alloc, rest);
     }
     plain_line(word, rest).ok_or(LineFail::Outside)
 }
@@ -345,18 +469,19 @@ fn worded_line(alloc: Global, word: &[u8], rest: Option<&[u8]>) -> Result<DrillL
 /// What a line of a drill's script says, its LF left out.
 ///
 /// The answer is `Outside` exactly where the line has none of the forms of a line, or has more than
-/// 65,536 bytes. A line that begins with `#` is a comment. The other forms are `ring BYTES ITEMS PLAYERS`,
-/// `begin WHO`, `push WHO KIND TIME LEN`, `end WHO`, `join WHO`, `take WHO PLAYER WANT`,
+/// 65,536 bytes. A line that begins with `#` is a comment. The other forms are `ring BYTES ITEMS PLAYERS`, `pool SLOTS`,
+/// `begin WHO`, `begin WHO NAME`, `push WHO KIND TIME LEN`, `end WHO`, `join WHO`, `join WHO NAME`, `take WHO PLAYER WANT`,
 /// `leave WHO PLAYER`, `count` and `held`, with one space between two words. BYTES is at most 268,435,456, ITEMS
-/// 1 to 65,536, and PLAYERS 1 to 256. WHO and TIME are below 2^32, PLAYER is below 256, and LEN is at most
-/// what a unit of that KIND has; TIME is in milliseconds, and LEN in bytes, which are all 0. Numbers are
-/// decimal, without a sign or a leading zero. Where in a script a line may stand is no matter here.
+/// 1 to 65,536, PLAYERS 1 to 256, and SLOTS 1 to 64. WHO and TIME are below 2^32, PLAYER is below 256, and LEN is at most
+/// what a unit of that KIND has; TIME is in milliseconds, and LEN in bytes, which are all 0. NAME is 1 to 64 letters, digits,
+/// `.`, `_` or `-`. Numbers are decimal, without a sign or a leading zero. Where in a script a line may stand is no matter
+/// here.
 ///
-/// `OutOfMemory` comes only at a push.
+/// `OutOfMemory` comes only at a push, and where a name is given.
 pub fn drill_line(alloc: Global, line: &[u8]) -> Result<DrillLine, LineFail>
     ensures says { IfOk result (λ l. meaning line.now ≡ Some l) }
     ensures outside { (result ≡ Err LineFail.Outside) ↔ (meaning line.now ≡ None) }
-    ensures memory { result ≡ Err LineFail.OutOfMemory → is_text (first_word line.now).word (codes "push") ≡ true }
+    ensures memory { result ≡ Err LineFail.OutOfMemory → takes_memory (meaning line.now) ≡ true }
 {
     if line.len() > 65536 {
         return Err(LineFail::Outside);

@@ -1,20 +1,24 @@
-ghost use Rattle.std.specs.Prelude.{◌≡◌, ◌↔◌, ◌≤◌, ℕ, true, Some, None, IfOk, Ok, Err, option_map};
+ghost use Rattle.std.specs.Prelude.{◌≡◌, ◌↔◌, ◌≤◌, ℕ, List, true, Some, None, IfOk, Ok, Err, option_map};
 ghost use Rattle.std.specs.List.{list_all};
 ghost use Rattle.std.specs.Option.{option_copied};
 ghost use Rattle.relay_script.specs.Lines.{digits_from, below, first_word, last};
 ghost use Rattle.relay_script.specs.Lines.{number as number_in};
 ghost use Rattle.relay_script.specs.declared.replay.ReplayLine.{ReplayLine as Line};
-ghost use Rattle.relay_script.specs.declared.replay.ReplayLine.TheVariants.{Stream, Guard, Piece, Session};
-ghost use Rattle.relay_script.specs.ReplayLines.{within, message_of, window_of, session_of, turns_of, room_of, is_name_byte, name_of, is_hex_byte};
+ghost use Rattle.relay_script.specs.declared.replay.ReplayLine.TheVariants.{Stream, OpenApp, Piece, Session};
+ghost use Rattle.relay_script.specs.ReplayLines.{message_of, window_of, session_of, turns_of, room_of, is_hex_byte};
 ghost use Rattle.relay_script.specs.ReplayLines.{is_hex, digit, pairs, limits_line, stream_line, piece_line, room_line, turn_line, all_line};
 ghost use Rattle.relay_script.specs.ReplayLines.{session_line, plain_line, worded_line, meaning, takes_memory};
-ghost use Rattle.relay_script.specs.ReplayLines.{side_of, mode_of, form_of, is_digest, is_key, key_bytes, guard_line, record_line, rec_line};
+ghost use Rattle.relay_script.specs.ReplayLines.{side_of, mode_of, form_of, is_digest, is_key, key_bytes, keyed_line, guard_line, guardopen_line};
+ghost use Rattle.relay_script.specs.ReplayLines.{openapp_line, record_line, rec_line};
+ghost use Rattle.relay_script.specs.declared.replay.Side.{Side as ASide};
+ghost use Rattle.key_guard.specs.declared.check.Mode.{Mode as AMode};
 
 use crate::LineFail;
-use crate::line::{count_of, first_word, number, who_of};
+use crate::line::{count_of, first_word, name_of, number, who_of};
 use av_unit::{Bytes, OutOfMemory};
 use key_guard::Mode;
 use std::alloc::Global;
+use stream_model::is_name;
 
 /// Whom a key lets in.
 #[derive(Clone, Copy, Debug, PartialEq, Eq)]
@@ -34,7 +38,7 @@ pub enum Form {
     Ts,
 }
 
-/// What a line of a replay's script says. Sessions, recorders and streams are numbered from 0.
+/// What a line of a replay's script says. Sessions, recorders, streams and open tables are numbered from 0.
 #[derive(Drop)]
 pub enum ReplayLine {
     /// An empty line or a comment.
@@ -60,6 +64,18 @@ pub enum ReplayLine {
     /// A further key of a stream for that side. In mode `Digest` it is the 32 bytes that its digits name.
     Guard {
         stream: u32,
+        side: Side,
+        mode: Mode,
+        key: Bytes,
+    },
+    /// An open table, with so many names at a time.
+    OpenApp {
+        app: Bytes,
+        names: u32,
+    },
+    /// A further key of an open table for that side. In modes `Digest` and `Named` it is the 32 bytes that its digits name.
+    GuardOpen {
+        table: u32,
         side: Side,
         mode: Mode,
         key: Bytes,
@@ -138,12 +154,6 @@ fn wide_number(word: &[u8]) -> Option<u64>
     }
 }
 
-fn is_within(least: u32, most: u32, n: u32) -> bool
-    ensures { result ≡ within least most n }
-{
-    least <= n && n <= most
-}
-
 fn session_of(word: &[u8]) -> Option<u32>
     ensures { result ≡ session_of word.now }
 {
@@ -165,34 +175,6 @@ fn room_of(word: &[u8]) -> Option<Option<u64>>
     }
     let left = wide_number(word)?;
     Some(Some(left))
-}
-
-fn is_name_byte(b: u8) -> bool
-    ensures { result ≡ is_name_byte b }
-{
-    matches!(b, b'A'..=b'Z' | b'a'..=b'z' | b'0'..=b'9' | b'.' | b'_' | b'-')
-}
-
-fn are_name_bytes(word: &[u8]) -> bool
-    ensures { result ≡ list_all is_name_byte word.now }
-{
-    word.iter().all(|b| is_name_byte(*b))
-}
-
-fn is_name_length(length: usize) -> bool
-    ensures { result ≡ within 1 64 length }
-{
-    1 <= length && length <= 64
-}
-
-fn name_of(word: &[u8]) -> Option<&[u8]>
-    ensures { option_copied result ≡ name_of word.now }
-{
-    if is_name_length(word.len()) && are_name_bytes(word) {
-        Some(word)
-    } else {
-        None
-    }
 }
 
 fn is_hex_byte(b: u8) -> bool
@@ -242,13 +224,16 @@ fn side_of(word: &[u8]) -> Option<Side>
     }
 }
 
-fn mode_of(word: &[u8]) -> Option<Mode>
-    ensures { result ≡ mode_of word.now }
+// Only an open table has keys for one name.
+fn mode_of(opens: bool, word: &[u8]) -> Option<Mode>
+    ensures { result ≡ mode_of opens word.now }
 {
     if word == b"plain".as_slice() {
         Some(Mode::Plain)
     } else if word == b"digest".as_slice() {
         Some(Mode::Digest)
+    } else if opens && word == b"named".as_slice() {
+        Some(Mode::Named)
     } else {
         None
     }
@@ -271,8 +256,8 @@ fn is_key(mode: Mode, word: &[u8]) -> bool
     ensures { result ≡ is_key mode word.now }
 {
     match mode {
-        Mode::Plain => is_name_length(word.len()) && are_name_bytes(word),
-        Mode::Digest => is_digest(word),
+        Mode::Plain => is_name(word),
+        Mode::Digest | Mode::Named => is_digest(word),
     }
 }
 
@@ -282,7 +267,7 @@ fn key_bytes(alloc: Global, mode: Mode, word: &[u8]) -> Result<Vec<u8>, OutOfMem
 {
     match mode {
         Mode::Plain => Ok(Vec::from_slice(alloc, word)?),
-        Mode::Digest => pairs(alloc, word),
+        Mode::Digest | Mode::Named => pairs(alloc, word),
     }
 }
 
@@ -384,38 +369,26 @@ fn stream(alloc: Global, app: &[u8], name: &[u8]) -> Result<ReplayLine, OutOfMem
     })
 }
 
-// S ROLE MODE KEY
-fn guard_line(alloc: Global, words: Option<&[u8]>) -> Result<ReplayLine, LineFail>
-    ensures says { IfOk result (λ l. guard_line (option_copied words.entry) ≡ Some l) }
-    ensures outside { (result ≡ Err LineFail.Outside) ↔ (guard_line (option_copied words.entry) ≡ None) }
-{
-    let Some(keyed) = read_guard(words) else {
-        return Err(LineFail::Outside);
-    };
-    match guard(alloc, keyed.stream, keyed.side, keyed.mode, keyed.word) {
-        Ok(line) => Ok(line),
-        Err(_) => Err(LineFail::OutOfMemory),
-    }
-}
-
-// A key of a stream, before it is copied.
+// A key of a stream or an open table, before it is copied.
 #[derive(Clone, Copy)]
 struct Keyed<'a> {
-    stream: u32,
+    number: u32,
     side: Side,
     mode: Mode,
     word: &'a [u8],
 }
 
-fn read_guard(words: Option<&[u8]>) -> Option<Keyed<'_>>
-    ensures { guard_line (option_copied words.entry) ≡ option_map (λ k. Guard k.stream k.side k.mode (key_bytes k.mode k.word.now)) result }
+// A number, ROLE MODE KEY
+fn read_keyed(opens: bool, words: Option<&[u8]>) -> Option<Keyed<'_>>
+    ensures { (says : ℕ → ASide → AMode → List ℕ → Line) → keyed_line opens says (option_copied words.entry)
+        ≡ option_map (λ k. says k.number k.side k.mode (key_bytes k.mode k.word.now)) result }
 {
-    let (stream, rest) = first_word(words?);
-    let stream = session_of(stream)?;
+    let (number, rest) = first_word(words?);
+    let number = session_of(number)?;
     let (side, rest) = first_word(rest?);
     let side = side_of(side)?;
     let (mode, rest) = first_word(rest?);
-    let mode = mode_of(mode)?;
+    let mode = mode_of(opens, mode)?;
     let (word, rest) = first_word(rest?);
     if !is_key(mode, word) {
         return None;
@@ -423,7 +396,7 @@ fn read_guard(words: Option<&[u8]>) -> Option<Keyed<'_>>
     match rest {
         Some(_) => None,
         None => Some(Keyed {
-            stream,
+            number,
             side,
             mode,
             word,
@@ -431,21 +404,92 @@ fn read_guard(words: Option<&[u8]>) -> Option<Keyed<'_>>
     }
 }
 
-fn guard(
-    alloc: Global,
-    stream: u32,
-    side: Side,
-    mode: Mode,
-    word: &[u8],
-) -> Result<ReplayLine, OutOfMemory>
-    ensures { IfOk result (λ line. line ≡ Guard stream side mode (key_bytes mode word.now)) }
+// S ROLE MODE KEY
+fn guard_line(alloc: Global, words: Option<&[u8]>) -> Result<ReplayLine, LineFail>
+    ensures says { IfOk result (λ l. guard_line (option_copied words.entry) ≡ Some l) }
+    ensures outside { (result ≡ Err LineFail.Outside) ↔ (guard_line (option_copied words.entry) ≡ None) }
 {
-    Ok(ReplayLine::Guard {
-        stream,
+    let Some(keyed) = read_keyed(false, words) else {
+        return Err(LineFail::Outside);
+    };
+    let Keyed {
+        number,
         side,
         mode,
-        key: Bytes::from_vec(key_bytes(alloc, mode, word)?),
-    })
+        word,
+    } = keyed;
+    match key_bytes(alloc, mode, word) {
+        Ok(key) => Ok(ReplayLine::Guard {
+            stream: number,
+            side,
+            mode,
+            key: Bytes::from_vec(key),
+        }),
+        Err(_) => Err(LineFail::OutOfMemory),
+    }
+}
+
+// O ROLE MODE KEY
+fn guardopen_line(alloc: Global, words: Option<&[u8]>) -> Result<ReplayLine, LineFail>
+    ensures says { IfOk result (λ l. guardopen_line (option_copied words.entry) ≡ Some l) }
+    ensures outside { (result ≡ Err LineFail.Outside) ↔ (guardopen_line (option_copied words.entry) ≡ None) }
+{
+    let Some(keyed) = read_keyed(true, words) else {
+        return Err(LineFail::Outside);
+    };
+    let Keyed {
+        number,
+        side,
+        mode,
+        word,
+    } = keyed;
+    match key_bytes(alloc, mode, word) {
+        Ok(key) => Ok(ReplayLine::GuardOpen {
+            table: number,
+            side,
+            mode,
+            key: Bytes::from_vec(key),
+        }),
+        Err(_) => Err(LineFail::OutOfMemory),
+    }
+}
+
+// An open table, before its app is copied.
+#[derive(Clone, Copy)]
+struct Opened<'a> {
+    app: &'a [u8],
+    names: u32,
+}
+
+fn read_openapp(words: Option<&[u8]>) -> Option<Opened<'_>>
+    ensures { openapp_line (option_copied words.entry) ≡ option_map (λ o. OpenApp o.app.now o.names) result }
+{
+    let (app, rest) = first_word(words?);
+    let app = name_of(app)?;
+    let (names, rest) = first_word(rest?);
+    let names = count_of(names, 65)?;
+    match rest {
+        Some(_) => None,
+        None => Some(Opened { app, names }),
+    }
+}
+
+// APP N
+fn openapp_line(alloc: Global, words: Option<&[u8]>) -> Result<ReplayLine, LineFail>
+    ensures says { IfOk result (λ l. openapp_line (option_copied words.entry) ≡ Some l) }
+    ensures outside { (result ≡ Err LineFail.Outside) ↔ (openapp_line (option_copied words.entry) ≡ None) }
+{
+    let Some(opened) = read_openapp(words) else {
+        return Err(LineFail::Outside);
+    };
+    let Opened { app, names } = opened;
+    match Vec::from_slice(alloc, app) {
+        Ok(app) => Ok(ReplayLine::OpenApp {
+            app: Bytes::from_vec(app),
+            names,
+        }),
+        Err(_) => Err(LineFail::OutOfMemory),
+    }
 }
 
 // S FORM
@@ -627,6 +671,12 @@ fn worded_line(alloc: Global, word: &[u8], rest: Option<&[u8]>) -> Result<Replay
     if word == b"guard".as_slice() {
         return guard_line(alloc, rest);
     }
+    if word == b"openapp".as_slice() {
+        return openapp_line(alloc, rest);
+    }
+    if word == b"guardopen".as_slice() {
+        return guardopen_line(alloc, rest);
+    }
     if word == b"in".as_slice() {
         return piece_line(alloc, rest);
     }
@@ -637,17 +687,18 @@ fn worded_line(alloc: Global, word: &[u8], rest: Option<&[u8]>) -> Result<Replay
 ///
 /// The answer is `Outside` exactly where the line has none of the forms of a line, or has more than
 /// 65,536 bytes. A line that begins with `#` is a comment. The other forms, with one space between two words, are
-/// `limits M R N P W`, `stream APP NAME`, `guard S ROLE MODE KEY`, `record S FORM`, `open`, `in S HEX`, `eof S`,
-/// `room S N`, `room S all`, `failrecv S`, `failsend S`, `failput R`, `turn S K`, `rec R K`, `all K` and `quit S`.
+/// `limits M R N P W`, `stream APP NAME`, `guard S ROLE MODE KEY`, `openapp APP N`, `guardopen O ROLE MODE KEY`,
+/// `record S FORM`, `open`, `in S HEX`, `eof S`, `room S N`, `room S all`, `failrecv S`, `failsend S`, `failput R`, `turn S K`,
+/// `rec R K`, `all K` and `quit S`.
 ///
 /// M is 4,096 to 4,194,304, R in `limits` at most 268,435,456, N there 1 to 65,536, P 1 to 256, and W 1,000 to 2^31 - 1.
-/// APP and NAME are 1 to 64 letters, digits, `.`, `_` or `-`. ROLE is `publish` or `play`. MODE is `plain`, and KEY has the
-/// form of NAME, or `digest`, and KEY is 64 lower-case hexadecimal digits. FORM is `flv` or `ts`. S and the R of a recorder are
-/// below 2^32, N in `room` below 2^64, and K is 1 to 1,000,000. HEX is an even number of lower-case hexadecimal digits, at least two. Numbers
+/// APP and NAME are 1 to 64 letters, digits, `.`, `_` or `-`. N in `openapp` is 1 to 64. ROLE is `publish` or `play`. MODE is
+/// `plain`, and KEY has the form of NAME, or `digest`, and KEY is 64 lower-case hexadecimal digits; in `guardopen` it may be
+/// `named` too, with a KEY of such digits. FORM is `flv` or `ts`. S, O and the R of a recorder are below 2^32, N in `room` below 2^64, and K is 1 to 1,000,000. HEX is an even number of lower-case hexadecimal digits, at least two. Numbers
 /// are decimal, without a sign or a leading zero. Where in a script a line may stand, and whether what it names is there, is
 /// no matter here.
 ///
-/// `OutOfMemory` comes only at `stream`, `guard` and `in`.
+/// `OutOfMemory` comes only at `stream`, `guard`, `openapp`, `guardopen` and `in`.
 pub fn replay_line(alloc: Global, line: &[u8]) -> Result<ReplayLine, LineFail>
     ensures says { IfOk result (λ l. meaning line.now ≡ Some l) }
     ensures outside { (result ≡ Err LineFail.Outside) ↔ (meaning line.now ≡ None) }

@@ -17,6 +17,7 @@ fn kind_text(kind: Kind) -> &'static str
         Kind::AConfig => "aconfig",
         Kind::Key => "key",
         Kind::Inter => "inter",
+        Kind::Spare => "spare",
         Kind::Audio => "audio",
         Kind::Data => "data",
     }
@@ -110,6 +111,7 @@ fn line_of(alloc: Global, reply: &Reply) -> Result<String, OutOfMemory>
             joined,
             skips,
         } => counts_line(alloc, *began, *pushed, *ended, *joined, *skips),
+        Reply::NoSlot { slots } => Ok(format!(in alloc; "noslot {slots}\n")?),
     }
 }
 
@@ -122,7 +124,7 @@ pub fn reply_text(alloc: Global, reply: &Reply, out: &mut Bytes) -> Result<(), O
     out.append(text.as_str().as_bytes())
 }
 
-/// Adds the line of what a stream holds, with its LF. A refusal changes nothing.
+/// Adds the line of what a stream or a pool holds, with its LF. A refusal changes nothing.
 pub fn held_text(alloc: Global, bytes: u64, out: &mut Bytes) -> Result<(), OutOfMemory>
     ensures ok { OnOk result (out.new ≡ out.old ++ held_text bytes) }
     ensures err { OnErr result (out.new ≡ out.old) }

@@ -3,7 +3,7 @@ use Rattle.std.proofs.Common.{◌≡◌, ◌≢◌, ◌⊎◌, ◌<◌, ℕ, zer
 use Rattle.std.proofs.lemmas.List.{append-nil}
 use Rattle.std.proofs.lemmas.Option.{slice_get_within}
 use Rattle.turn_gate.specs.Histories.{Begins, longer}
-use Rattle.stream_model.specs.declared.calls.StreamLimits.{StreamLimits}
+use Rattle.stream_model.specs.declared.calls.Shape.{Shape}
 use Rattle.stream_registry.specs.declared.desk.Site.{Site}
 use Rattle.stream_registry.specs.Gates.{told, told_at}
 use Rattle.stream_registry.specs.Pasts.{Attempt}
@@ -16,7 +16,7 @@ use Rattle.relay_serve.specs.declared.counting.Counts.{Counts}
 use Rattle.relay_serve.specs.Lasts.{AllEnd, EndsIf, EndsWith, IsWorn, counting, told_by}
 
 -- what a pass has seen last is the longer, where the root knows nothing more
-pub counted : (limits : StreamLimits) (root seen : List Step) (mine : List ℕ) (c : Counts) (seen' : List Step) (mine' : List ℕ) (root' : List Step)
+pub counted : (limits : Shape) (root seen : List Step) (mine : List ℕ) (c : Counts) (seen' : List Step) (mine' : List ℕ) (root' : List Step)
     → Placed limits root seen mine (counting, told_by c) seen' mine' → Keeps limits seen' → root' ≡ longer root seen' → EndsWith limits c root'
 counted limits root seen mine c seen' mine' root' p k e =
     let r = p.root_first in
@@ -25,7 +25,7 @@ counted limits root seen mine c seen' mine' root' p k e =
     record { before = p.before; last = same ∙ p.seen_is; keeps = subst (Keeps limits) (sym same) k }
 
 -- a pass that has seen a full history leaves it with the root that it began with
-pub full_there : (limits : StreamLimits) (root seen root' : List Attempt) → Begins root seen → IsFull limits seen → root' ≡ longer root seen
+pub full_there : (limits : Shape) (root seen root' : List Attempt) → Begins root seen → IsFull limits seen → root' ≡ longer root seen
     → IsFull limits root'
 full_there limits root seen root' b f e = subst (IsFull limits) (sym (e ∙ longer_of root seen b)) f
 
@@ -74,7 +74,7 @@ pushed_get [] x y (suc n) e = absurd (cc)
 pushed_get (z ∷ xs) x y zero e = inl e
 pushed_get (z ∷ xs) x y (suc n) e = shift xs z x y n (pushed_get xs x y n e)
 
-module _ (limits : ℕ → StreamLimits) (xs : List (Option Counts)) (x : Option Counts) (hs ks : ℕ → List Attempt) where
+module _ (limits : ℕ → Shape) (xs : List (Option Counts)) (x : Option Counts) (hs ks : ℕ → List Attempt) where
   all_by : (place : ℕ) (y : Option Counts) → AllEnd limits xs hs → EndsIf (limits (length xs)) x (ks (length xs)) → ((q : ℕ) → q ≢ length xs → ks q ≡ hs q)
       → (slice_get xs place ≡ Some y) ⊎ ((place ≡ length xs) × (x ≡ y)) → EndsIf (limits place) y (ks place)
   all_by place y old new o (inl e) =

@@ -1,6 +1,6 @@
 -- There are as many recordings as a configuration names
-use Rattle.std.proofs.Common.{◌≡◌, ◌≢◌, ◌+◌, ◌<◌, ◌%◌, ℕ, zero, suc, List, [], ◌∷◌, ◌++◌, length, length-append, Bool, true, false, Option, None, Some, is_some, cond, refl, ap, ◌∙◌, arith, inl, inr}
-use Rattle.std.specs.Prelude.{count_by, if◌then◌else◌, ◌==◌, ◌≤◌, ◌⊎◌}
+use Rattle.std.proofs.Common.{◌≡◌, ◌≢◌, ◌+◌, ◌<◌, ◌%◌, ℕ, zero, suc, List, [], ◌∷◌, ◌++◌, length, length-append, Bool, true, false, Option, None, Some, is_some, cond, refl, arith, inl, inr}
+use Rattle.std.specs.Prelude.{if◌then◌else◌, ◌==◌, ◌≤◌, ◌⊎◌}
 use Rattle.std.specs.List.{flat_map, range_with_len}
 use Rattle.std.proofs.lemmas.Bool.{cases_lt}
 use Rattle.std.proofs.lemmas.Bool.Decides.{nat_tests}

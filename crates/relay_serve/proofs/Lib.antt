@@ -3,7 +3,7 @@ pub mod Ruled
 pub mod Lines
 pub mod Ends
 pub mod Offering
-pub mod Crossing
+pub mod Opened
 pub mod Counted
 pub mod Limited
 pub mod Few

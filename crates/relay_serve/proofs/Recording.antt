@@ -12,7 +12,7 @@ use Rattle.turn_gate.specs.Histories.{Begins}
 use Rattle.stream_model.specs.declared.calls.Call.{Call}
 use Rattle.stream_model.specs.declared.calls.Call.TheVariants as call
 use Rattle.stream_model.specs.declared.calls.Entry.{Entry}
-use Rattle.stream_model.specs.declared.calls.StreamLimits.{StreamLimits}
+use Rattle.stream_model.specs.declared.calls.Shape.{Shape}
 use Rattle.stream_model.specs.declared.replies.Reply.{Reply}
 use Rattle.stream_model.specs.declared.replies.Reply.TheVariants as reply
 use Rattle.stream_registry.specs.declared.port.PortFail.{PortFail}
@@ -63,17 +63,17 @@ taken_on calls leaves a =
 -- ---- its Leave
 
 module _ {P Q : Type 0} (rules : P → PortRules) (root : P → Histories) (busies : P → ℕ) (seen : Q → List Step) (mine : Q → List ℕ) (count : Q → ℕ) where
-  made_mine : (limits : StreamLimits) (h : List Step) (b b' : ℕ) (entry : Entry) (before : Option Q) (x : Reply) (after : Option Q)
+  made_mine : (limits : Shape) (h : List Step) (b b' : ℕ) (entry : Entry) (before : Option Q) (x : Reply) (after : Option Q)
       → AskedIf seen mine count limits h b b' entry before (Ok x) after → (n : ℕ) × (mine_of mine after ≡ mine_of mine before ++ n ∷ [])
   made_mine limits h b b' entry before x None a = absurd a
   made_mine limits h b b' entry before x (Some p) a = (length a.made.before, a.made.mine_is)
 
-  unmade_mine : (limits : StreamLimits) (h : List Step) (b b' : ℕ) (entry : Entry) (before : Option Q) (f : PortFail) (after : Option Q)
+  unmade_mine : (limits : Shape) (h : List Step) (b b' : ℕ) (entry : Entry) (before : Option Q) (f : PortFail) (after : Option Q)
       → AskedIf seen mine count limits h b b' entry before (Err f) after → mine_of mine after ≡ mine_of mine before
   unmade_mine limits h b b' entry before f None a = absurd a
   unmade_mine limits h b b' entry before f (Some p) a = a.unmade
 
-  stand_as : (limits : ℕ → StreamLimits) (h : Histories) (s s' : SeatState Q) (numbers : List ℕ) (calls : List Step) → s'.who ≡ s.who → s'.place ≡ s.place
+  stand_as : (limits : ℕ → Shape) (h : Histories) (s s' : SeatState Q) (numbers : List ℕ) (calls : List Step) → s'.who ≡ s.who → s'.place ≡ s.place
       → mine_of mine s'.pass ≡ numbers → s'.calls ≡ calls → Stand (limits s'.place) s'.who (h s'.place) (mine_of mine s'.pass) s'.calls
       → Stand (limits s.place) s.who (h s.place) numbers calls
   stand_as limits h s s' numbers calls who place ns cs stand =
@@ -159,7 +159,7 @@ as_many : (numbers : List ℕ) (calls : List Step) (history : List Step) → map
 as_many numbers calls history e =
     sym (length-map numbers (slice_get history)) ∙ (ap length e ∙ length-map calls Some)
 
-module _ {Q : Type 0} (mine : Q → List ℕ) (streams : ℕ → StreamLimits) (joined histories : Histories) (worn : ℕ → Type 0) (form : Form) (r : RecorderState Q)
+module _ {Q : Type 0} (mine : Q → List ℕ) (streams : ℕ → Shape) (joined histories : Histories) (worn : ℕ → Type 0) (form : Form) (r : RecorderState Q)
     (bytes : List ℕ) (left : HasLeft mine (streams r.seat.place) (histories r.seat.place) r) (sent : bytes ≡ r.tape.sent) where
   abbrev Label_is : Label
   Label_is = record { who = r.seat.who; place = r.seat.place; form = form; longest = r.tape.longest }
@@ -229,7 +229,7 @@ module _ {Q : Type 0} (mine : Q → List ℕ) (streams : ℕ → StreamLimits) (
   }
 
 -- WHAT ITS FILE HOLDS once it has left
-pub records_from : {Q : Type 0} (mine : Q → List ℕ) (count : Q → ℕ) (streams : ℕ → StreamLimits) (joined histories : Histories) (worn : ℕ → Type 0) (form : Form)
+pub records_from : {Q : Type 0} (mine : Q → List ℕ) (count : Q → ℕ) (streams : ℕ → Shape) (joined histories : Histories) (worn : ℕ → Type 0) (form : Form)
     (r : RecorderState Q) (end : Option RecEnd) (held : Option (List ℕ)) (faults : ℕ) (bytes : List ℕ) → IsSettled mine (joined r.seat.place) end r → starved end ≡ false
     → (worn_out end ≡ true → worn r.seat.place) → (end ≡ None → joined_from r.seat.calls ≡ Some 0) → Tallied count held faults r → held ≡ Some bytes → (r.end ≢ Some rec.OutOfMemory → r.tape.sent ++ r.tape.pending ≡ text_in form (taken r.seat.calls))
     → Begins (r.tape.sent ++ r.tape.pending) (text_in form (taken r.seat.calls)) → HasLeft mine (streams r.seat.place) (histories r.seat.place) r
@@ -239,7 +239,7 @@ records_from mine count streams joined histories worn form r end held faults byt
 
 -- ---- in histories that went on
 
-module _ (streams : ℕ → StreamLimits) (joined joined' histories histories' : Histories) (a : Later joined joined') (b : Later histories histories') (worn worn' : ℕ → Type 0) where
+module _ (streams : ℕ → Shape) (joined joined' histories histories' : Histories) (a : Later joined joined') (b : Later histories histories') (worn worn' : ℕ → Type 0) where
   whole_later : (r : Label) (bytes : List ℕ) (numbers : List ℕ) (calls : List Step) → IsWhole r bytes (joined' r.place) numbers calls
       → IsWhole r bytes (joined r.place) numbers calls
   whole_later r bytes numbers calls w = record {
@@ -293,7 +293,7 @@ module _ {Q : Type 0} (mine : Q → List ℕ) (root history : List Step) (busies
 
 -- ---- all of it, of a recorder with its file
 
-pub records_of : {P K Q : Type 0} (holds : K → Option (List ℕ)) (faults : K → ℕ) (mine : Q → List ℕ) (count : Q → ℕ) (streams : ℕ → StreamLimits) (joined histories : Histories)
+pub records_of : {P K Q : Type 0} (holds : K → Option (List ℕ)) (faults : K → ℕ) (mine : Q → List ℕ) (count : Q → ℕ) (streams : ℕ → Shape) (joined histories : Histories)
     (worn : ℕ → Type 0) (old r : Recorder P K Q) (end : Option RecEnd) (file : K) → label_of r ≡ label_of old
     → IsSettled mine (joined (state_of old).seat.place) end (state_of r) → starved end ≡ false → (worn_out end ≡ true → worn (state_of r).seat.place)
     → (end ≡ None → joined_from (state_of r).seat.calls ≡ Some 0) → Tallies count holds faults r → file ≡ sink_of r
@@ -308,7 +308,7 @@ records_of holds faults mine count streams joined histories worn old r end file 
     (subst (λ (l : Label). IsSettled mine (joined l.place) end (state_of r)) (sym same) settled) spared out from tally (ap holds (sym is) ∙ told) text prefix left))
 
 -- the file that is kept of it
-pub recorded_by : (streams : ℕ → StreamLimits) (joined histories : Histories) (worn worn' : ℕ → Type 0) (places : List PlaceRule) (r : Label) (name : List ℕ)
+pub recorded_by : (streams : ℕ → Shape) (joined histories : Histories) (worn worn' : ℕ → Type 0) (places : List PlaceRule) (r : Label) (name : List ℕ)
     (held : Option (List ℕ)) (faults : ℕ) → file_name places r.place r.form ≡ Some name → (worn r.place → worn' r.place)
     → ((bytes : List ℕ) → held ≡ Some bytes → Records streams joined histories worn r bytes faults)
     → (file : Kept) → kept_file name held faults ≡ Some file → IsRecorded streams joined histories worn' places r file
@@ -325,7 +325,7 @@ place_within places place form name None e n = absurd (let f : None ≡ Some nam
 place_within places place form name (Some rule) e n = slice_get_within places place rule e
 
 -- in histories that went on, and by full histories at the places that there are
-pub recorded_later : (streams : ℕ → StreamLimits) (joined joined' histories histories' : Histories) → Later joined joined' → Later histories histories'
+pub recorded_later : (streams : ℕ → Shape) (joined joined' histories histories' : Histories) → Later joined joined' → Later histories histories'
     → (worn worn' : ℕ → Type 0) (places : List PlaceRule) → ((q : ℕ) → q < length places → worn q → worn' q) → (r : Label) (file : Kept)
     → IsRecorded streams joined' histories worn places r file → IsRecorded streams joined histories' worn' places r file
 recorded_later streams joined joined' histories histories' a b worn worn' places on r file f = record {

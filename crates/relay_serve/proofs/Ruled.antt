@@ -1,9 +1,6 @@
 -- Recorders and passes by the rules of a port
-use Rattle.std.proofs.Common.{◌≡◌, ℕ, ◌<◌, ◌+◌, [], ◌∷◌, ◌++◌, length, length-append, take, sym, ap, ◌∙◌, subst, arith, Some, slice_get}
+use Rattle.std.proofs.Common.{◌≡◌, ℕ, ◌<◌, ◌+◌, [], ◌∷◌, ◌++◌, length, length-append, take, ap, ◌∙◌, subst, arith, Some, slice_get}
 use Rattle.std.proofs.lemmas.List.{take_all, take-append-le}
-use Rattle.turn_gate.specs.Known.{GateId}
-use Rattle.stream_registry.specs.declared.names.Name.{Name}
-use Rattle.stream_registry.specs.SharedState.{IsNewPort, limits_of}
 use Rattle.turn_gate.specs.Known.{PassKnown}
 use Rattle.media_recorder.specs.Ports.{FitsIf}
 use Rattle.stream_registry.specs.Names.{PortRules}
@@ -25,12 +22,6 @@ popped xs ys x e = ap length e ∙ length-append ys (x ∷ [])
 
 pub kept_all : {X : Type 0} (n : ℕ) (xs ys : List X) → length xs ≡ n → take n (xs ++ ys) ≡ xs
 kept_all {X} n xs ys l = take-append-le n xs ys (omega (arith, l)) ∙ take_all n xs (omega (arith, l))
-
--- two new ports have the same rules
-pub same_rules : (names : List Name) (ids : List (GateId Site)) (p q : Streams) → IsNewPort names ids p → IsNewPort names ids q → shared_rules p ≡ shared_rules q
-same_rules names ids p q a b =
-    ap (λ (n : List Name). record { names = n; limits = λ place. limits_of (slice_get (gates p.roots) place); gates = gates p.roots }) (a.names_are ∙ sym b.names_are)
-    ∙ ap (λ (h : List (GateId Site)). record { names = q.names; limits = λ place. limits_of (slice_get h place); gates = h }) (a.gates_are ∙ sym b.gates_are)
 
 abbrev label : ℕ → ℕ → Form → ℕ → Label
 label who place form longest = record { who = who; place = place; form = form; longest = longest }

@@ -14,7 +14,7 @@ use Rattle.relay_worker.specs.Books.{Settled}
 use Rattle.relay_worker.specs.Running.{Label}
 use Rattle.relay_worker.specs.declared.bench.Terms.{Terms}
 use Rattle.relay_worker.specs.declared.recorder.Recorder.{Recorder}
-use Rattle.stream_model.specs.declared.calls.StreamLimits.{StreamLimits}
+use Rattle.stream_model.specs.declared.calls.Shape.{Shape}
 use Rattle.stream_registry.specs.Names.{PortRules}
 use Rattle.stream_registry.specs.Pasts.{Attempt}
 use Rattle.stream_registry.specs.Roots.{Later}
@@ -28,7 +28,7 @@ use Rattle.relay_serve.specs.Settling.{AsksFor, IsBalanced, IsLeft, IsShut, aske
 goes_on : (h k : Histories) → Later h k → GoOn h k
 goes_on h k l = record { at_each = l.at }
 
-module _ (config : Config) (streams : ℕ → StreamLimits) (h k : Histories) where
+module _ (config : Config) (streams : ℕ → Shape) (h k : Histories) where
   -- in histories that went on
   pub balanced_later : Later h k → (worn : Bool) (worker : ℕ) (door : DoorTold) → IsBalanced config streams h worn worker door → IsBalanced config streams k worn worker door
   balanced_later l worn worker door b = record {
@@ -36,26 +36,26 @@ module _ (config : Config) (streams : ℕ → StreamLimits) (h k : Histories) wh
     number = b.number;
     limited = b.limited;
     links_are = b.links_are;
-    settled = settled_later (granted_from 0 config.places) b.terms streams h k door false worn (goes_on h k l) b.settled;
+    settled = settled_later (granted_from 0 config.places config.opens) b.terms streams h k door false worn (goes_on h k l) b.settled;
   }
 
   -- from what a worker tells at its end
-  pub balanced_from : (streams' : ℕ → StreamLimits) (t : Terms) (worker : ℕ) (door : DoorTold) (refused worn : Bool)
-      → Settled (granted_from 0 config.places) t streams' h door refused worn → refused ≡ false → streams' ≡ streams → Later h k → t.number ≡ worker
+  pub balanced_from : (streams' : ℕ → Shape) (t : Terms) (worker : ℕ) (door : DoorTold) (refused worn : Bool)
+      → Settled (granted_from 0 config.places config.opens) t streams' h door refused worn → refused ≡ false → streams' ≡ streams → Later h k → t.number ≡ worker
       → t.limits ≡ config.limits → t.links ≡ config.links → IsBalanced config streams k worn worker door
   balanced_from streams' t worker door refused worn s r same l n m links =
-      let desk = granted_from 0 config.places in
+      let desk = granted_from 0 config.places config.opens in
       record {
         terms = t;
         number = n;
         limited = m;
         links_are = links;
         settled = settled_later desk t streams h k door false worn (goes_on h k l)
-            (subst (λ (f : ℕ → StreamLimits). Settled desk t f h door false worn) same (subst (λ (b : Bool). Settled desk t streams' h door b worn) r s));
+            (subst (λ (f : ℕ → Shape). Settled desk t f h door false worn) same (subst (λ (b : Bool). Settled desk t streams' h door b worn) r s));
       }
 
 -- where more is said of full histories
-pub balanced_worn : (config : Config) (streams : ℕ → StreamLimits) (h : Histories) (worn more : Bool) → (more ≡ false → worn ≡ false) → (worker : ℕ) (door : DoorTold) → IsBalanced config streams h worn worker door → IsBalanced config streams h more worker door
+pub balanced_worn : (config : Config) (streams : ℕ → Shape) (h : Histories) (worn more : Bool) → (more ≡ false → worn ≡ false) → (worker : ℕ) (door : DoorTold) → IsBalanced config streams h worn worker door → IsBalanced config streams h more worker door
 balanced_worn config streams h worn more less worker door b =
     let s = b.settled in
     record {
@@ -82,7 +82,7 @@ balanced_as config q q' h worn n m door e f b =
     subst (λ (r : PortRules). IsBalanced config r.limits h worn n door) e (subst (λ (i : ℕ). IsBalanced config q.limits h worn i door) f b)
 
 -- what a house tells of such a door
-pub shut_is : (config : Config) (streams : ℕ → StreamLimits) (h : Histories) (worn : Bool) (worker number : ℕ) (door : DoorTold) → number ≡ worker
+pub shut_is : (config : Config) (streams : ℕ → Shape) (h : Histories) (worn : Bool) (worker number : ℕ) (door : DoorTold) → number ≡ worker
     → IsBalanced config streams h worn number door → (s : Shut) → shut_door number door ≡ Some s → IsShut config streams h worn worker s
 shut_is config streams h worn worker number door e b s t = record {
   door = door;

@@ -1,5 +1,5 @@
 -- How `serve` ends
-use Rattle.std.specs.Prelude.{◌≡◌, ◌≢◌, ◌<◌, ◌⊎◌, ℕ, Bool, true, false, List, Option, Some, length, map}
+use Rattle.std.specs.Prelude.{◌≡◌, ◌≢◌, ◌⊎◌, ℕ, Bool, true, false, List, Option, Some, length}
 use Rattle.std.specs.Io.KnownBytes.{append_known}
 use Rattle.std.specs.List.{range_with_len}
 use Rattle.relay_base.specs.declared.limits.Status.{Status}
@@ -19,14 +19,14 @@ use Rattle.relay_serve.specs.declared.starting.OpenFail.TheVariants as opened
 use Rattle.relay_serve.specs.declared.serving.Ending.{Ending}
 use Rattle.relay_serve.specs.declared.serving.Ending.TheVariants as end
 use Rattle.relay_serve.specs.Taking.{TakesText}
-use Rattle.relay_serve.specs.Texts.{WritesPart, lines_from}
-use Rattle.relay_serve.specs.Counts.{counted_if}
+use Rattle.relay_serve.specs.Texts.{WritesPart}
+use Rattle.relay_serve.specs.Counts.{report_lines}
 use Rattle.relay_serve.specs.Lasts.{AllEnd, IsWorn}
 use Rattle.relay_serve.specs.Recorded.{IsRecorded}
 use Rattle.relay_serve.specs.Recordings.{names_upto, recordings_upto, with_names}
 use Rattle.relay_serve.specs.Settling.{AsksFor, IsShut, TellsMore}
-use Rattle.stream_model.specs.declared.calls.StreamLimits.{StreamLimits}
-use Rattle.relay_serve.specs.Places.{limits_in}
+use Rattle.stream_model.specs.declared.calls.Shape.{Shape}
+use Rattle.relay_serve.specs.Places.{AreShaped, places_in}
 use Rattle.relay_serve.specs.declared.counting.Counts.{Counts}
 use Rattle.stream_registry.specs.Gates.{tells}
 use Rattle.stream_registry.specs.Pasts.{Attempt}
@@ -79,17 +79,18 @@ abbrev pub WritesOrFails : List ℕ → Option (List ℕ) → ℕ → Option (Li
 WritesOrFails text held faults held' faults' = ((held' ≡ append_known held text) × (faults' ≡ faults))
     ⊎ (WritesPart text held held' × Rose faults faults')
 
--- WHAT IS SEEN WHERE ALL WERE SERVED, by what each stream was asked to the end, with what memory refused: the report, the doors that were shut
+-- WHAT IS SEEN WHERE ALL WERE SERVED, by what each stream and each open table was asked to the end, with what memory refused: the report, the doors that were shut
 -- and the files that were kept
 pub record Reports (config : Config) (attempts : ℕ → List Attempt) (old new : Seen) : Type 0 where
   pub counts : List (Option Counts)
-  pub each : length counts ≡ length config.places
-  pub written : new.held ≡ append_known old.held (lines_from 0 (map counted_if counts))
-  pub streams : ℕ → StreamLimits
-  pub limited : (place : ℕ) → place < length config.places → streams place ≡ limits_in config
-  -- the line of a stream tells what the last call of its history was answered: the server's own Count. Each reply of that
+  pub each : length counts ≡ places_in config
+  pub written : new.held ≡ append_known old.held (report_lines (length config.places) counts)
+  -- what stands at each place: a stream, or the pool of an open table
+  pub streams : ℕ → Shape
+  pub shaped : AreShaped config streams
+  -- the line of a place tells what the last call of its history was answered: the server's own Count. Each reply of that
   -- history is the one that the rules give after the calls before it. Or the line tells that the history is full, and it is: the
-  -- stream was asked as often as it can count
+  -- place was asked as often as it can count
   pub last : AllEnd streams counts attempts
   -- the histories once no session lived any more
   pub joined : Histories
@@ -98,7 +99,7 @@ pub record Reports (config : Config) (attempts : ℕ → List Attempt) (old new 
   pub asked : TellsMore (AsksFor config) (range_with_len 0 config.workers) old.asked new.asked
   -- the file of each recording was made under the configured name, and no other file was
   pub named : new.named ≡ with_names old.named (names_upto config config.workers)
-  -- a session ended as the history of its stream was full: only where the line of a stream tells that its history is
+  -- a session ended as the history of its stream was full: only where the line of its place tells that its history is
   pub worn : Bool
   pub full : worn ≡ true → (place : ℕ) × IsWorn counts place
   -- each worker's door was shut, and what its links were sent is what they were owed

@@ -2,7 +2,7 @@
 use Rattle.std.specs.Prelude.{◌≡◌, ◌≤◌, ◌⊎◌, ℕ, List, [], ◌∷◌, ◌++◌, length, All, Bool, true, false, Option, Some, None}
 use Rattle.turn_gate.specs.Histories.{Begins}
 use Rattle.stream_model.specs.declared.calls.Call.TheVariants as call
-use Rattle.stream_model.specs.declared.calls.StreamLimits.{StreamLimits}
+use Rattle.stream_model.specs.declared.calls.Shape.{Shape}
 use Rattle.stream_model.specs.declared.replies.Reply.TheVariants as reply
 use Rattle.stream_registry.specs.Told.{Step, Histories}
 use Rattle.relay_config.specs.declared.config.PlaceRule.{PlaceRule}
@@ -44,7 +44,7 @@ pub record IsWhole (r : Label) (bytes : List ℕ) (joined : List Step) (numbers 
   pub same_place : length before ≡ length earlier
   pub after_joined : length joined ≤ number
 
-module _ (streams : ℕ → StreamLimits) (joined histories : Histories) (worn : ℕ → Type 0) where
+module _ (streams : ℕ → Shape) (joined histories : Histories) (worn : ℕ → Type 0) where
   -- WHAT A FILE HOLDS of a recording: a beginning of the text of the items that its recorder's Takes were sent. Where the file
   -- has no faults that is the whole, unless the recorder was turned away, or the history of its stream was full
   pub record Records (r : Label) (bytes : List ℕ) (faults : ℕ) : Type 0 where
@@ -84,7 +84,7 @@ worn_out (Some rec.Worn) = true
 worn_out (Some rec.OutOfMemory) = false
 
 -- it has left: its calls, and where it had joined at most its Leave after them, stand in its stream's history
-pub record HasLeft {Q : Type 0} (mine : Q → List ℕ) (limits : StreamLimits) (history : List Step) (r : RecorderState Q) : Type 0 where
+pub record HasLeft {Q : Type 0} (mine : Q → List ℕ) (limits : Shape) (history : List Step) (r : RecorderState Q) : Type 0 where
   pub leaves : List Step
   pub numbers : List ℕ
   pub only_leaves : All IsLeave leaves

@@ -11,7 +11,7 @@ use Rattle.relay_worker.specs.Books.{HasBooks, Settled}
 use Rattle.relay_worker.specs.Running.{Label, label_of}
 use Rattle.relay_worker.specs.declared.bench.Terms.{Terms}
 use Rattle.relay_worker.specs.declared.recorder.Recorder.{Recorder}
-use Rattle.stream_model.specs.declared.calls.StreamLimits.{StreamLimits}
+use Rattle.stream_model.specs.declared.calls.Shape.{Shape}
 use Rattle.stream_registry.specs.Gates.{told, told_at}
 use Rattle.stream_registry.specs.Names.{PortRules}
 use Rattle.stream_registry.specs.Pasts.{Attempt}
@@ -39,7 +39,7 @@ pub record IsServing (config : Config) {D K L : Type 0} (links : L → Option Li
   pub number_is : w.terms.number ≡ number
   pub limited : w.terms.limits ≡ config.limits
   pub links_are : w.terms.links ≡ config.links
-  pub books : HasBooks shared_rules (λ s. told_at s.roots) (λ p. told p.seen) links counts doors (granted_from 0 config.places) w
+  pub books : HasBooks shared_rules (λ s. told_at s.roots) (λ p. told p.seen) links counts doors (granted_from 0 config.places config.opens) w
   pub labels : map label_of w.recorders ≡ recordings_of config number
   pub tallies : All (HasTally holds faults) w.recorders
 
@@ -60,7 +60,7 @@ asked_of config worker = record { worker = worker; listen = config.listen; accep
 abbrev pub AsksFor : Config → ℕ → Asked → Type 0
 AsksFor config worker asked = asked ≡ asked_of config worker
 
-module _ (config : Config) (streams : ℕ → StreamLimits) (histories : Histories) (worn : Bool) where
+module _ (config : Config) (streams : ℕ → Shape) (histories : Histories) (worn : Bool) where
   -- THE DOOR OF A WORKER at its end, where nothing was refused for want of memory, and no session found the history of its stream
   -- full unless `worn` says so: as many links are back as it gave, no more were out at a time than are configured, and each was sent
   -- a beginning of what its session owes, whose calls stand in these histories
@@ -69,7 +69,7 @@ module _ (config : Config) (streams : ℕ → StreamLimits) (histories : Histori
     pub number : terms.number ≡ worker
     pub limited : terms.limits ≡ config.limits
     pub links_are : terms.links ≡ config.links
-    pub settled : Settled (granted_from 0 config.places) terms streams histories door false worn
+    pub settled : Settled (granted_from 0 config.places config.opens) terms streams histories door false worn
 
   -- what a house tells of such a door
   pub record IsShut (worker : ℕ) (shut : Shut) : Type 0 where

@@ -2,7 +2,6 @@
 use Rattle.std.specs.Prelude.{◌≡◌, ℕ, ◌<◌, All, List, Option, length, slice_get, Some, true}
 use Rattle.turn_gate.specs.Known.{PassKnown}
 use Rattle.media_recorder.specs.Ports.{FitsIf}
-use Rattle.stream_model.specs.declared.calls.StreamLimits.{StreamLimits}
 use Rattle.stream_registry.specs.Names.{PortRules}
 use Rattle.stream_registry.specs.Pasts.{Attempt}
 use Rattle.stream_registry.specs.SharedState.{Streams, shared_rules}
@@ -14,10 +13,6 @@ use Rattle.relay_worker.specs.Filed.{Tallies, is_ready, state_of}
 -- a port with these rules
 abbrev pub HasRules : PortRules → Streams → Type 0
 HasRules rules port = shared_rules port ≡ rules
-
--- the streams at so many places have these limits
-abbrev pub HasLimits : StreamLimits → ℕ → Streams → Type 0
-HasLimits limits count port = (place : ℕ) → place < count → (shared_rules port).limits place ≡ limits
 
 -- a recorder at a place of the ports with these rules, with a pass of theirs, if it has one
 pub record IsFiledBy {K : Type 0} (rules : PortRules) (r : Recorder Streams K (PassKnown Site Attempt)) : Type 0 where

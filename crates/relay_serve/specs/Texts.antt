@@ -30,11 +30,11 @@ abbrev pub told_line : Option Counted → List ℕ
 told_line None = codes " worn\n"
 told_line (Some c) = counts_line c.began c.pushed c.ended c.joined c.skips
 
--- THE LINE of a stream at a place
-abbrev pub stream_line : ℕ → Option Counted → List ℕ
-stream_line place c = codes "stream " ++ decimal place ++ told_line c
+-- THE LINE of a stream or of an open table: its word and its number, and what is told of it
+abbrev pub place_line : List ℕ → ℕ → Option Counted → List ℕ
+place_line word n c = word ++ decimal n ++ told_line c
 
--- THE REPORT of the streams from a place on
-abbrev pub lines_from : ℕ → List (Option Counted) → List ℕ
-lines_from place [] = []
-lines_from place (c ∷ cs) = stream_line place c ++ lines_from (place + 1) cs
+-- those that are numbered from n on
+abbrev pub lines_from : List ℕ → ℕ → List (Option Counted) → List ℕ
+lines_from word n [] = []
+lines_from word n (c ∷ cs) = place_line word n c ++ lines_from word (n + 1) cs

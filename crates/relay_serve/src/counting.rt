@@ -2,11 +2,12 @@
 ghost use Rattle.std.specs.Prelude.{◌≡◌, ◌≢◌, ◌<◌, ◌≤◌, ◌+◌, ◌++◌, ℕ, true, None, Contains, length, string_bytes, vec_len, map, IfOk, OnOk};
 ghost use Rattle.std.specs.Fmt.{decimal};
 ghost use Rattle.turn_gate.specs.Histories.{Begins};
+ghost use Rattle.stream_registry.specs.Names.{places};
 ghost use Rattle.stream_registry.specs.Gates.{told_at};
 ghost use Rattle.stream_registry.specs.Roots.{Later, seen_at};
 ghost use Rattle.stream_registry.specs.SharedState.{shared_rules};
-ghost use Rattle.relay_serve.specs.Texts.{counts_line, told_line, stream_line, lines_from};
-ghost use Rattle.relay_serve.specs.Counts.{counted_if};
+ghost use Rattle.relay_serve.specs.Texts.{counts_line, told_line, place_line, lines_from};
+ghost use Rattle.relay_serve.specs.Counts.{counted_if, report_lines};
 ghost use Rattle.relay_serve.specs.Lasts.{AllEnd, EndsIf, IsWorn};
 
 use av_unit::OutOfMemory;
@@ -18,7 +19,7 @@ use stream_registry::{Desk, PortFail, Shared, StreamPort};
 /// The name with which the server counts.
 const COUNTER: u64 = 1 << 62;
 
-/// How many calls of a stream were answered so.
+/// How many calls of a stream or an open table were answered so.
 #[derive(Clone, Copy, Debug, PartialEq, Eq)]
 pub(crate) struct Counts {
     pub began: u64,
@@ -28,13 +29,13 @@ pub(crate) struct Counts {
     pub skips: u64,
 }
 
-// The Count of the stream at a place. None comes where it was answered that the history is full.
+// The Count of a place. None comes where it was answered that the history is full.
 fn count_one<W: Wait>(
     rt: &W,
     port: &mut Shared<Desk>,
     place: u32,
 ) -> Result<Option<Counts>, OutOfMemory>
-    requires { place < length (shared_rules port.old).names }
+    requires { place < places (shared_rules port.old) }
     ensures rules { shared_rules port.new ≡ shared_rules port.old }
     ensures last { IfOk result (λ counts. EndsIf ((shared_rules port.old).limits place) counts (seen_at port.new.roots place)) }
     ensures grown { Begins (told_at port.old.roots place) (told_at port.new.roots place) }
@@ -85,7 +86,7 @@ fn count_as_found<W: Wait>(
     place: u32,
     full: &[u32],
 ) -> Result<Option<Counts>, OutOfMemory>
-    requires { place < length (shared_rules port.old).names }
+    requires { place < places (shared_rules port.old) }
     ensures rules { shared_rules port.new ≡ shared_rules port.old }
     ensures last { IfOk result (λ counts. EndsIf ((shared_rules port.old).limits place) counts (seen_at port.new.roots place)) }
     ensures worn { Contains full.now place → IfOk result (λ counts. counts ≡ None) }
@@ -98,23 +99,23 @@ fn count_as_found<W: Wait>(
     }
 }
 
-/// The Count of each stream, its last call. A stream whose history is full has none, and those at the places in `full` are such.
+/// The Count of each of the first places, its last call. One whose history is full has none, and those in `full` are such.
 pub(crate) fn count_all<W: Wait>(
     rt: &W,
     alloc: Global,
     port: &mut Shared<Desk>,
-    places: u32,
+    count: u32,
     full: &[u32],
 ) -> Result<Vec<Option<Counts>>, OutOfMemory>
-    requires { places ≤ length (shared_rules port.old).names }
+    requires { count ≤ places (shared_rules port.old) }
     ensures rules { shared_rules port.new ≡ shared_rules port.old }
-    ensures each { IfOk result (λ list. vec_len list ≡ places) }
+    ensures each { IfOk result (λ list. vec_len list ≡ count) }
     ensures last { IfOk result (λ list. AllEnd (shared_rules port.old).limits list.items (seen_at port.new.roots)) }
-    ensures worn { IfOk result (λ list. (place : ℕ) → place < places → Contains full.now place → IsWorn list.items place) }
+    ensures worn { IfOk result (λ list. (place : ℕ) → place < count → Contains full.now place → IsWorn list.items place) }
     ensures grown { Later (told_at port.old.roots) (told_at port.new.roots) }
 {
     let mut list = Vec::new(alloc);
-    for place in 0..places {
+    for place in 0..count {
         let counts = count_as_found(rt, port, place, full)?;
         if list.push(counts).is_err() {
             return Err(OutOfMemory);
@@ -123,7 +124,7 @@ pub(crate) fn count_all<W: Wait>(
     Ok(list)
 }
 
-/// Whether the history of a stream is full.
+/// Whether the history of a place is full.
 pub(crate) fn has_worn(list: &[Option<Counts>]) -> bool
     ensures { result ≡ true → (place : ℕ) × IsWorn list.now place }
 {
@@ -150,7 +151,7 @@ fn number(alloc: Global, n: u64) -> Result<String, OutOfMemory>
     Ok(format!(in alloc; "{n}")?)
 }
 
-// Adds what was counted of a stream.
+// Adds what was counted of a place.
 fn append_counts(alloc: Global, text: &mut Vec<u8>, c: Counts) -> Result<(), OutOfMemory>
     ensures { OnOk result (text.new.items ≡ text.old.items ++ counts_line c.began c.pushed c.ended c.joined c.skips) }
 {
@@ -163,7 +164,7 @@ fn append_counts(alloc: Global, text: &mut Vec<u8>, c: Counts) -> Result<(), Out
     Ok(())
 }
 
-// Adds what is told of a stream.
+// Adds what is told of a place.
 fn append_told(alloc: Global, text: &mut Vec<u8>, counts: Option<Counts>) -> Result<(), OutOfMemory>
     ensures { OnOk result (text.new.items ≡ text.old.items ++ told_line (counted_if counts)) }
 {
@@ -173,26 +174,46 @@ fn append_told(alloc: Global, text: &mut Vec<u8>, counts: Option<Counts>) -> Res
     }
 }
 
-// Adds the line of the stream at a place.
+// Adds the line of a stream or of an open table.
 fn append_line(
     alloc: Global,
     text: &mut Vec<u8>,
-    place: u64,
+    word: &[u8],
+    n: u64,
     counts: Option<Counts>,
 ) -> Result<(), OutOfMemory>
-    ensures { OnOk result (text.new.items ≡ text.old.items ++ stream_line place (counted_if counts)) }
+    ensures { OnOk result (text.new.items ≡ text.old.items ++ place_line word.now n (counted_if counts)) }
 {
-    append_number(alloc, text, b"stream ", place)?;
+    append_number(alloc, text, word, n)?;
     append_told(alloc, text, counts)
 }
 
-/// The report: a line for each stream, by their places.
-pub(crate) fn report_of(alloc: Global, list: &[Option<Counts>]) -> Result<Vec<u8>, OutOfMemory>
-    ensures { IfOk result (λ text. text.items ≡ lines_from 0 (map counted_if list.now)) }
+// Adds a line for each of these, numbered from 0.
+fn append_lines(
+    alloc: Global,
+    text: &mut Vec<u8>,
+    word: &[u8],
+    list: &[Option<Counts>],
+) -> Result<(), OutOfMemory>
+    ensures { OnOk result (text.new.items ≡ text.old.items ++ lines_from word.now 0 (map counted_if list.now)) }
+{
+    for n in 0..list.len() {
+        append_line(alloc, text, word, n as u64, list[n])?;
+    }
+    Ok(())
+}
+
+/// The report: a line for each of so many streams, and then one for each open table, by their places.
+pub(crate) fn report_of(
+    alloc: Global,
+    list: &[Option<Counts>],
+    streams: usize,
+) -> Result<Vec<u8>, OutOfMemory>
+    requires { streams ≤ length list.now }
+    ensures { IfOk result (λ text. text.items ≡ report_lines streams list.now) }
 {
     let mut text = Vec::new(alloc);
-    for place in 0..list.len() {
-        append_line(alloc, &mut text, place as u64, list[place])?;
-    }
+    append_lines(alloc, &mut text, b"stream ", &list[..streams])?;
+    append_lines(alloc, &mut text, b"open ", &list[streams..])?;
     Ok(text)
 }

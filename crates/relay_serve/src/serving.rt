@@ -2,12 +2,12 @@
 ghost use Rattle.std.specs.Prelude.{◌≡◌, ◌≤◌, ℕ, length, map, vec_len, All, IfOk, MatchResult, List, Option};
 ghost use Rattle.relay_config.specs.Accepts.{Lawful};
 ghost use Rattle.relay_serve.specs.Ends.{EndsAs, HouseCause, RefusesAs, RunsAs, Serves, code_of, outer, seen, unopened_as};
-ghost use Rattle.relay_serve.specs.Places.{limits_in};
+ghost use Rattle.relay_serve.specs.Places.{AreShaped, HasPlaces, limits_in, places_in};
 ghost use Rattle.relay_serve.specs.Recordings.{names_upto, with_names};
 ghost use Rattle.std.specs.List.{range_with_len};
 ghost use Rattle.relay_outside.specs.Houses.{Asked};
 ghost use Rattle.relay_serve.specs.Settling.{AsksFor, IsServing, TellsMore};
-ghost use Rattle.relay_serve.specs.Starts.{AreReady, HasLimits, HasRules};
+ghost use Rattle.relay_serve.specs.Starts.{AreReady, HasRules};
 ghost use Rattle.relay_serve.specs.Words.{is_serve};
 ghost use Rattle.relay_worker.specs.Running.{EachAt, HasRun};
 ghost use Rattle.stream_registry.specs.Pasts.{Attempt};
@@ -18,7 +18,7 @@ use crate::counting::{count_all, has_worn, report_of};
 use crate::ending::{end_all, take_all_apart};
 use crate::put::{PutFail, put_all};
 use crate::reading::{ReadFail, read_text};
-use crate::starting::{OpenFail, ServeWorker, names_of, open_workers};
+use crate::starting::{OpenFail, ServeWorker, names_of, open_workers, opens_of};
 use key_guard::Guards;
 use relay_base::Status;
 use relay_config::{Config, ConfigFail, read_config, report};
@@ -29,7 +29,7 @@ use std::alloc::Global;
 use std::sync::Wait;
 use std::thread::Threads;
 use stream_core::StreamLimits;
-use stream_registry::{Desk, Shared, shared_ports};
+use stream_registry::{Desk, Shared, places_law, shared_ports};
 
 /// How `serve` ends.
 #[derive(Clone, Copy, Debug, PartialEq, Eq)]
@@ -74,7 +74,7 @@ fn is_serve(words: &[Vec<u8>]) -> bool
     }
 }
 
-// The limits of each stream.
+// The limits of each stream and of each slot.
 fn stream_limits(config: &Config) -> StreamLimits
     ensures { result ≡ limits_in config.now }
 {
@@ -113,19 +113,22 @@ fn make_ready<H: House>(
     ensures asked { IfOk result (λ ready. TellsMore (AsksFor config.now) (range_with_len 0 (vec_len ready.workers)) (H.asked house.old) (H.asked house.new)) }
     ensures named { IfOk result (λ ready. H.named house.new ≡ with_names (H.named house.old) (names_upto config.now (vec_len ready.workers))) }
     ensures few { IfOk result (λ ready. vec_len ready.workers ≤ 16) }
-    ensures places { IfOk result (λ ready. length config.now.places ≡ length (shared_rules ready.port).names) }
-    ensures limits { IfOk result (λ ready. HasLimits (limits_in config.now) (length config.now.places) ready.port) }
+    ensures places { IfOk result (λ ready. HasPlaces config.now (shared_rules ready.port)) }
+    ensures shaped { IfOk result (λ ready. AreShaped config.now (shared_rules ready.port).limits) }
     ensures rules { IfOk result (λ ready. All (λ x. HasRules (shared_rules ready.port) x.bench.port) ready.workers.items) }
     ensures each { IfOk result (λ ready. vec_len ready.workers ≡ config.now.workers) }
     ensures serving { IfOk result (λ ready.
         EachAt (IsServing config.now H.Door.Link.told H.Door.Link.counts H.Door.told H.File.holds H.File.faults) ready.workers.items) }
 {
-    let places = config.places.as_slice();
-    let Ok(names) = names_of(alloc, places) else {
+    places_law();
+    let Ok(names) = names_of(alloc, config.places.as_slice()) else {
+        return Err(OpenFail::OutOfMemory);
+    };
+    let Ok(opens) = opens_of(alloc, config.opens.as_slice()) else {
         return Err(OpenFail::OutOfMemory);
     };
     let count = config.workers as usize + 1;
-    let Ok(mut ports) = shared_ports(alloc, names, stream_limits(config), count) else {
+    let Ok(mut ports) = shared_ports(alloc, names, opens, stream_limits(config), count) else {
         return Err(OpenFail::OutOfMemory);
     };
     let Some(port) = ports.pop() else {
@@ -145,9 +148,9 @@ fn conclude<W: Wait, H: House, K: Sink>(
     port: &mut Shared<Desk>,
     workers: Vec<ServeWorker<H::Door, H::Rest, H::File>>,
 ) -> Ending
-    requires lawful { Lawful config.now }
-    requires places { length config.now.places ≡ length (shared_rules port.old).names }
-    requires limits { HasLimits (limits_in config.now) (length config.now.places) port.old }
+    requires total { places_in config.now ≤ 64 }
+    requires places { HasPlaces config.now (shared_rules port.old) }
+    requires shaped { AreShaped config.now (shared_rules port.old).limits }
     requires few { vec_len workers ≤ 16 }
     requires run { All (λ x. HasRun H.Door.told x) workers.items }
     requires rules { All (λ x. HasRules (shared_rules port.old) x.bench.port) workers.items }
@@ -163,10 +166,12 @@ fn conclude<W: Wait, H: House, K: Sink>(
     };
     let mut full = Vec::new(alloc);
     let whole = end_all(rt, port, house, &mut full, config, left.list);
-    let Ok(counts) = count_all(rt, alloc, port, config.places.len() as u32, full.as_slice()) else {
+    let streams = config.places.len();
+    let count = (streams + config.opens.len()) as u32;
+    let Ok(counts) = count_all(rt, alloc, port, count, full.as_slice()) else {
         return Ending::OutOfMemory;
     };
-    let Ok(text) = report_of(alloc, counts.as_slice()) else {
+    let Ok(text) = report_of(alloc, counts.as_slice(), streams) else {
         return Ending::OutOfMemory;
     };
     let agreed = has_worn(counts.as_slice()) | !left.worn;
@@ -216,7 +221,7 @@ fn ready_workers<W: Wait, D: Door, R: Rest, K: Sink>(
     workers
 }
 
-// All workers run, each in a thread of its own, with the desk of the configuration's places.
+// All workers run, each in a thread of its own, with the desk of the configuration's streams and open tables.
 fn run_workers<T: Threads + Wait + Sync, D: Door + Send, R: Rest + Send, K: Sink + Send>(
     rt: &T,
     mut workers: Vec<ServeWorker<D, R, K>>,
@@ -226,8 +231,8 @@ fn run_workers<T: Threads + Wait + Sync, D: Door + Send, R: Rest + Send, K: Sink
 ) -> Vec<ServeWorker<D, R, K>>
 where
     D::Link: Send,
-    requires few { length config.now.places ≤ 64 }
-    requires places { length config.now.places ≡ length (shared_rules port.now).names }
+    requires total { places_in config.now ≤ 64 }
+    requires places { HasPlaces config.now (shared_rules port.now) }
     requires rules { All (λ x. HasRules (shared_rules port.now) x.bench.port) workers.items }
     requires serving { EachAt (IsServing config.now D.Link.told D.Link.counts D.told K.holds K.faults) workers.items }
     requires ready { All AreReady workers.items }
@@ -237,9 +242,13 @@ where
     ensures serving { EachAt (IsServing config.now D.Link.told D.Link.counts D.told K.holds K.faults) result.items }
 {
     let _ = port;
-    let desk = PlaceDesk::new(guards, &config.places);
+    let desk = PlaceDesk::new(guards, &config.places, &config.opens);
     run_all(rt, workers.as_mut_slice(), &desk);
-    let PlaceDesk { guards: _, list: _ } = desk;
+    let PlaceDesk {
+        guards: _,
+        list: _,
+        opens: _,
+    } = desk;
     workers
 }
 
@@ -318,8 +327,8 @@ fn end<T: Threads + Wait + Sync, H: House, S: Source, K: Sink>(
 /// session lives. It may wait.
 ///
 /// The words are `serve` and the name of the file that `config` reads. The guards judge the keys of all sessions. Each worker
-/// has a thread, a port to the shared streams, and a door and a rest of the house. The report then has a line for each stream:
-/// how many of its calls were answered so, or that its history is full.
+/// has a thread, a port to the shared streams, and a door and a rest of the house. The report then has a line for each stream,
+/// and then one for each open table: how many of its calls were answered so, or that its history is full.
 ///
 /// The code is
 ///

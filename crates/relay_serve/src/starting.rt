@@ -5,7 +5,7 @@ ghost use Rattle.relay_outside.specs.Doors.{with_one};
 ghost use Rattle.relay_outside.specs.Houses.{IsNewFile, asked_door};
 ghost use Rattle.std.specs.List.{range_with_len};
 ghost use Rattle.relay_serve.specs.Ends.{HouseCause};
-ghost use Rattle.relay_serve.specs.Places.{name_of};
+ghost use Rattle.relay_serve.specs.Places.{name_of, open_of};
 ghost use Rattle.relay_serve.specs.Recordings.{names_at, names_if, names_of, names_upto, with_names};
 ghost use Rattle.relay_serve.specs.Recordings.{recorder_name, recording, recording_if, recordings_at, recordings_of};
 ghost use Rattle.relay_serve.specs.Settling.{AsksFor, Enlists, IsServing, TellsMore};
@@ -16,11 +16,12 @@ ghost use Rattle.stream_registry.specs.SharedState.{shared_rules};
 
 use av_unit::{Bytes, OutOfMemory};
 use media_recorder::{FlvRecorder, TsRecorder};
-use relay_config::{Config, PlaceRule};
+use relay_config::{Config, OpenRule, PlaceRule};
 use relay_outside::{Door, House, Rest, Sink};
 use relay_worker::{Form, Recorder, Worker};
 use std::alloc::Global;
-use stream_registry::{Desk, Name, NameList, Shared};
+use stream_core::ShortName;
+use stream_registry::{Desk, Name, NameList, OpenList, OpenName, Shared};
 
 /// A worker of the server.
 pub(crate) type ServeWorker<D, R, K> = Worker<Shared<Desk>, D, R, K>;
@@ -38,18 +39,36 @@ pub(crate) enum OpenFail {
     OutOfMemory,
 }
 
+fn copy_of(alloc: Global, bytes: &Bytes) -> Result<Bytes, OutOfMemory>
+    ensures { IfOk result (λ copy. copy ≡ bytes.now) }
+{
+    Ok(Bytes::from_vec(bytes.as_slice().to_vec(alloc)?))
+}
+
 // The name of the stream at a place.
 fn name_of(alloc: Global, place: &PlaceRule) -> Result<Name, OutOfMemory>
+    requires { length place.now.name ≤ 64 }
     ensures { IfOk result (λ n. n ≡ name_of place.now) }
 {
     Ok(Name {
-        app: Bytes::from_vec(place.app.as_slice().to_vec(alloc)?),
-        name: Bytes::from_vec(place.name.as_slice().to_vec(alloc)?),
+        app: copy_of(alloc, &place.app)?,
+        name: ShortName::new(copy_of(alloc, &place.name)?),
+    })
+}
+
+// An open table.
+fn open_of(alloc: Global, rule: &OpenRule) -> Result<OpenName, OutOfMemory>
+    ensures { IfOk result (λ o. o ≡ open_of rule.now) }
+{
+    Ok(OpenName {
+        app: copy_of(alloc, &rule.app)?,
+        slots: rule.names,
     })
 }
 
 /// The names of the streams, by their places.
 pub(crate) fn names_of(alloc: Global, places: &[PlaceRule]) -> Result<NameList, OutOfMemory>
+    requires { All (λ p. length p.name ≤ 64) places.now }
     ensures { IfOk result (λ names. names ≡ map name_of places.now) }
 {
     let mut names = NameList::new(alloc);
@@ -57,6 +76,17 @@ pub(crate) fn names_of(alloc: Global, places: &[PlaceRule]) -> Result<NameList, 
         names.push(name_of(alloc, place)?)?;
     }
     Ok(names)
+}
+
+/// The open tables, by their places.
+pub(crate) fn opens_of(alloc: Global, rules: &[OpenRule]) -> Result<OpenList, OutOfMemory>
+    ensures { IfOk result (λ opens. opens ≡ map open_of rules.now) }
+{
+    let mut opens = OpenList::new(alloc);
+    for rule in rules {
+        opens.push(open_of(alloc, rule)?)?;
+    }
+    Ok(opens)
 }
 
 // The name of the recorder of the stream at a place.

@@ -81,6 +81,7 @@ publish_cost id (reply.NotPublisher live) = refusal_cost role.Publish id _
 publish_cost id (reply.Ended n) = refusal_cost role.Publish id _
 publish_cost id (reply.Joined player from) = refusal_cost role.Publish id _
 publish_cost id reply.Full = refusal_cost role.Publish id _
+publish_cost id (reply.NoSlot slots) = refusal_cost role.Publish id _
 publish_cost id reply.NotPlayer = refusal_cost role.Publish id _
 publish_cost id (reply.Sent from n item) = refusal_cost role.Publish id _
 publish_cost id (reply.Skip from to) = refusal_cost role.Publish id _
@@ -96,6 +97,7 @@ play_cost id (reply.NotPublisher live) = omega (arith, refusal_cost role.Play id
 play_cost id (reply.Ended n) = omega (arith, refusal_cost role.Play id why.Full)
 play_cost id (reply.Joined player from) = omega (arith, event_cost 0 id, answer_cost id answer.PlayStart)
 play_cost id reply.Full = omega (arith, refusal_cost role.Play id why.Full)
+play_cost id (reply.NoSlot slots) = omega (arith, refusal_cost role.Play id why.Full)
 play_cost id reply.NotPlayer = omega (arith, refusal_cost role.Play id why.Full)
 play_cost id (reply.Sent from n item) = omega (arith, refusal_cost role.Play id why.Full)
 play_cost id (reply.Skip from to) = omega (arith, refusal_cost role.Play id why.Full)
@@ -107,7 +109,7 @@ told_by : (p : Phase) (r : Reply) → costs_of (told_in p r) ≤ 7036
 told_by (phase.Asked role.Publish id) r = omega (arith, publish_cost id r)
 told_by (phase.Asked role.Play id) r = play_cost id r
 told_by phase.Idle r = omega arith
-told_by (phase.Publishes id) r = omega arith
+told_by (phase.Publishes id size) r = omega arith
 told_by (phase.Plays p) r = omega arith
 
 told_cost : (s : State) (r : Reply) → costs_of (dialog.told s r).says ≤ 7036

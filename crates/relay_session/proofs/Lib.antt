@@ -21,6 +21,8 @@ pub mod Lasting
 pub mod Onwards
 pub mod SeatStanding
 pub mod SeatOwn
+pub mod PoolOwn
+pub mod OwnCalls
 pub mod Granting
 mod Deciding
 mod Coming

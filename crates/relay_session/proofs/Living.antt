@@ -1,5 +1,5 @@
 -- A session stands on after each of its steps
-use Rattle.std.proofs.Common.{◌≡◌, ◌≤◌, ◌<◌, ◌+◌, ◌-◌, ◌^◌, ℕ, zero, suc, true, Bool, nat_le, List, [], ◌∷◌, ◌++◌, length, take, drop, min, refl, sym, ap, ◌∙◌, subst, arith, append-nil, append_assoc, length-append, false, option_map, Option, Some, None, Result, Ok, Err, OnErr}
+use Rattle.std.proofs.Common.{◌≡◌, ◌≤◌, ◌<◌, ◌+◌, ◌-◌, ◌^◌, ℕ, zero, suc, true, false, if◌then◌else◌, Bool, nat_le, List, [], ◌∷◌, ◌++◌, length, take, drop, min, refl, sym, ap, ◌∙◌, subst, arith, append-nil, append_assoc, length-append, false, option_map, Option, Some, None, Result, Ok, Err, OnErr}
 use Rattle.std.proofs.lemmas.List.{take-append-drop, take_all, take_min, drop_all, take-append-le, drop-append-le, length-drop, length-take-le}
 use Rattle.std.proofs.lemmas.Bool.Decides.{nat_tests}
 use Rattle.std.specs.Option.{is_some, option_map_or}
@@ -32,6 +32,7 @@ use Rattle.ack_window.specs.Controls.{control_in}
 use Rattle.ack_window.specs.declared.control.Control.{Control}
 use Rattle.ack_window.specs.declared.control.BadControl.{BadControl}
 use Rattle.stream_model.specs.declared.calls.Call.{Call}
+use Rattle.stream_model.specs.declared.calls.Call.TheVariants as call
 use Rattle.stream_model.specs.declared.calls.Entry.{Entry}
 use Rattle.stream_model.specs.declared.replies.Reply.{Reply}
 use Rattle.stream_model.specs.declared.replies.Reply.TheVariants as reply
@@ -49,10 +50,14 @@ use Rattle.relay_session.specs.Session.{does, does_by, entry_by, item_in, sessio
 use Rattle.relay_session.specs.declared.core_fields.Core.{Core}
 use Rattle.relay_session.specs.declared.end.End.TheVariants as end
 
+either_takes : (b : Bool) (x y : Call) → is_take x ≡ false → is_take y ≡ false → is_take (if b then x else y) ≡ false
+either_takes true x y e f = e
+either_takes false x y e f = f
+
 -- a message asks for no item
 act_takes : (a : Act) → is_take (call_of a) ≡ false
-act_takes (act.Begin place) = refl
-act_takes (act.Join place) = refl
+act_takes (act.Begin place name) = either_takes (nat_le (length name) 64) (call.BeginAs name) call.Begin refl refl
+act_takes (act.Join place name) = either_takes (nat_le (length name) 64) (call.JoinAs name) call.Join refl refl
 act_takes (act.Push unit) = refl
 act_takes act.End = refl
 act_takes (act.Leave player) = refl
@@ -347,7 +352,7 @@ plays_phase : (p : Phase) (q : Playing) → playing_in p ≡ Some q → p ≡ ph
 plays_phase (phase.Plays r) q e = let h : Some r ≡ Some q = e in ap phase.Plays (cc)
 plays_phase phase.Idle q e = absurd (let h : None ≡ Some q = e in cc)
 plays_phase (phase.Asked r id) q e = absurd (let h : None ≡ Some q = e in cc)
-plays_phase (phase.Publishes id) q e = absurd (let h : None ≡ Some q = e in cc)
+plays_phase (phase.Publishes id size) q e = absurd (let h : None ≡ Some q = e in cc)
 
 -- what it owes is what is shown of the item that the reply brings
 reply_shown : (s : State) (q : Playing) (r : Reply) (who window : ℕ) (desk : Ask → Grant) → s.phase ≡ phase.Plays q → shown (session who window desk) s r ≡ option_map_or (dialog.shown q.id) (item_in r) []
@@ -360,6 +365,7 @@ reply_shown s q (reply.NotPublisher live) who window desk p = refl
 reply_shown s q (reply.Ended n) who window desk p = refl
 reply_shown s q (reply.Joined player from) who window desk p = refl
 reply_shown s q reply.Full who window desk p = refl
+reply_shown s q (reply.NoSlot slots) who window desk p = refl
 reply_shown s q reply.NotPlayer who window desk p = refl
 reply_shown s q (reply.Skip from to) who window desk p = refl
 reply_shown s q (reply.NotYet end) who window desk p = refl

@@ -9,7 +9,7 @@ use Rattle.chunk_writer.proofs.Chunked.{all_left}
 use Rattle.av_unit.specs.Media.{Media}
 use Rattle.av_unit.specs.Classes.{message_type}
 use Rattle.av_unit.specs.declared.unit.Kind.{Kind}
-use Rattle.av_unit.specs.declared.unit.Kind.TheVariants.{Meta, VConfig, AConfig, Key, Inter, Audio, Data}
+use Rattle.av_unit.specs.declared.unit.Kind.TheVariants.{Meta, VConfig, AConfig, Key, Inter, Spare, Audio, Data}
 use Rattle.command_dialog.specs.Dialog.{unit_message}
 use Rattle.session_owed.specs.Chunks.{Hand, hand_of}
 use Rattle.relay_session.specs.Owing.{AreWritable, Goes, IsOwing, IsSayable, IsSized, Owing, Says, Shows, cost_of, costs_of, left, others_by, owing, pending, shown_by}
@@ -136,6 +136,7 @@ not_size VConfig = refl
 not_size AConfig = refl
 not_size Key = refl
 not_size Inter = refl
+not_size Spare = refl
 not_size Audio = refl
 not_size Data = refl
 

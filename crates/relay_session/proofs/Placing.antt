@@ -24,13 +24,12 @@ use Rattle.command_dialog.specs.declared.types.Role.TheVariants as role
 use Rattle.command_dialog.specs.declared.types.Phase.{Phase}
 use Rattle.command_dialog.specs.declared.types.Phase.TheVariants as phase
 use Rattle.command_dialog.specs.declared.types.DialogFail.{DialogFail}
-use Rattle.command_dialog.specs.Dialog.{after, asked, calls_by, does_by, ends, granted, makes, phase_without}
+use Rattle.command_dialog.specs.Dialog.{after, asked, calls_by, does_by, ends, granted, makes, phase_without, published_in}
 use Rattle.command_dialog.specs.Dialog as dialog
 use Rattle.command_dialog.specs.Meaning.{after_connect, asks, asks_by, closed_in, closes, closes_some, commands_by, connects, creates, is_media, is_open, least_free, meaning, turns}
 use Rattle.command_dialog.specs.Words.{is_text}
 use Rattle.command_dialog.specs.State.{State}
 use Rattle.av_unit.specs.Media.{Media}
-use Rattle.av_unit.specs.Classes.{unit_from}
 use Rattle.relay_session.specs.Keeping.{IsIdle}
 use Rattle.relay_session.specs.Places.{IsGrantThere, IsOffered, IsThere}
 use Rattle.relay_session.specs.Session.{does, does_by as does_with, entry_by, place_by, place_in, place_of}
@@ -136,8 +135,8 @@ some_none x e = cc
 
 place_none : (place : Option ℕ) (a : Option Act) → place_of place a ≡ None → place ≡ None
 place_none place None e = e
-place_none place (Some (act.Begin p)) e = absurd (some_none p e)
-place_none place (Some (act.Join p)) e = absurd (some_none p e)
+place_none place (Some (act.Begin p name)) e = absurd (some_none p e)
+place_none place (Some (act.Join p name)) e = absurd (some_none p e)
 place_none place (Some (act.Push unit)) e = e
 place_none place (Some act.End) e = e
 place_none place (Some (act.Leave player)) e = e
@@ -146,15 +145,15 @@ pub record IsStill (a : Option Act) (s : State) : Type 0 where
   pub makes : a ≡ None
   pub phase : s.phase ≡ phase.Idle
 
-asked_still : (place : Option ℕ) (r : Role) (id : ℕ) (g : Option Grant) → place_of place (calls_by r g) ≡ None → (calls_by r g ≡ None) × (asked r id g ≡ phase.Idle)
-asked_still place role.Publish id (Some (grant.Place p)) e = absurd (some_none p e)
-asked_still place role.Play id (Some (grant.Place p)) e = absurd (some_none p e)
-asked_still place role.Publish id (Some grant.NoName) e = (refl, refl)
-asked_still place role.Publish id (Some grant.Refused) e = (refl, refl)
-asked_still place role.Publish id None e = (refl, refl)
-asked_still place role.Play id (Some grant.NoName) e = (refl, refl)
-asked_still place role.Play id (Some grant.Refused) e = (refl, refl)
-asked_still place role.Play id None e = (refl, refl)
+asked_still : (place : Option ℕ) (r : Role) (id : ℕ) (name : List ℕ) (g : Option Grant) → place_of place (calls_by r name g) ≡ None → (calls_by r name g ≡ None) × (asked r id g ≡ phase.Idle)
+asked_still place role.Publish id name (Some (grant.Place p)) e = absurd (some_none p e)
+asked_still place role.Play id name (Some (grant.Place p)) e = absurd (some_none p e)
+asked_still place role.Publish id name (Some grant.NoName) e = (refl, refl)
+asked_still place role.Publish id name (Some grant.Refused) e = (refl, refl)
+asked_still place role.Publish id name None e = (refl, refl)
+asked_still place role.Play id name (Some grant.NoName) e = (refl, refl)
+asked_still place role.Play id name (Some grant.Refused) e = (refl, refl)
+asked_still place role.Play id name None e = (refl, refl)
 
 still_by : (desk : Ask → Grant) (s : State) (m : Message) (place : Option ℕ) (w : Result Meant DialogFail) → (place ≡ None → s.phase ≡ phase.Idle) → (s.phase ≡ phase.Idle → Calm w)
     → place_of place (does_by desk s m w).makes ≡ None → IsStill (does_by desk s m w).makes (does_by desk s m w).state
@@ -164,7 +163,7 @@ still_by desk s m place (Ok meant.Passed) f c p = record { makes = refl; phase =
 still_by desk s m place (Ok (meant.Connects transaction app)) f c p = record { makes = refl; phase = f p }
 still_by desk s m place (Ok (meant.Creates transaction id)) f c p = record { makes = refl; phase = f p }
 still_by desk s m place (Ok (meant.Busy r id)) f c p = record { makes = refl; phase = f p }
-still_by desk s m place (Ok (meant.Asks a id)) f c p = let q = asked_still place a.role id (Some (desk a)) p in record { makes = q.0; phase = q.1 }
+still_by desk s m place (Ok (meant.Asks a id)) f c p = let q = asked_still place a.role id a.name (Some (desk a)) p in record { makes = q.0; phase = q.1 }
 still_by desk s m place (Ok (meant.Closes id)) f c p =
     let i = f (place_none place (ends id s.phase) p) in
     record { makes = ap (ends id) i; phase = ap (phase_without id) i }
@@ -187,20 +186,20 @@ idle_after desk s m place who n f p = idle_in desk s m place who n (control_in m
 
 -- ---- the place is one that the desk grants, or the one before
 
-asked_there : (place : Option ℕ) (count : ℕ) (r : Role) (g : Grant) → IsGrantThere count g → IsThere count place → IsThere count (place_of place (calls_by r (Some g)))
-asked_there place count role.Publish (grant.Place p) i t = i
-asked_there place count role.Play (grant.Place p) i t = i
-asked_there place count role.Publish grant.NoName i t = t
-asked_there place count role.Publish grant.Refused i t = t
-asked_there place count role.Play grant.NoName i t = t
-asked_there place count role.Play grant.Refused i t = t
+asked_there : (place : Option ℕ) (count : ℕ) (r : Role) (name : List ℕ) (g : Grant) → IsGrantThere count g → IsThere count place → IsThere count (place_of place (calls_by r name (Some g)))
+asked_there place count role.Publish name (grant.Place p) i t = i
+asked_there place count role.Play name (grant.Place p) i t = i
+asked_there place count role.Publish name grant.NoName i t = t
+asked_there place count role.Publish name grant.Refused i t = t
+asked_there place count role.Play name grant.NoName i t = t
+asked_there place count role.Play name grant.Refused i t = t
 
 if_place : (place : Option ℕ) (b : Bool) (a : Act) → place_of place (Some a) ≡ place → place_of place (if b then Some a else None) ≡ place
 if_place place true a e = e
 if_place place false a e = refl
 
 ends_place : (place : Option ℕ) (id : ℕ) (p : Phase) → place_of place (ends id p) ≡ place
-ends_place place id (phase.Publishes n) = if_place place (n == id) act.End refl
+ends_place place id (phase.Publishes n size) = if_place place (n == id) act.End refl
 ends_place place id (phase.Plays p) = if_place place (p.id == id) (act.Leave p.player) refl
 ends_place place id phase.Idle = refl
 ends_place place id (phase.Asked r n) = refl
@@ -216,10 +215,10 @@ there_by desk s m place count (Ok meant.Passed) o t = t
 there_by desk s m place count (Ok (meant.Connects transaction app)) o t = t
 there_by desk s m place count (Ok (meant.Creates transaction id)) o t = t
 there_by desk s m place count (Ok (meant.Busy r id)) o t = t
-there_by desk s m place count (Ok (meant.Asks a id)) o t = asked_there place count a.role (desk a) (o a) t
+there_by desk s m place count (Ok (meant.Asks a id)) o t = asked_there place count a.role a.name (desk a) (o a) t
 there_by desk s m place count (Ok (meant.Closes id)) o t = subst (IsThere count) (sym (ends_place place id s.phase)) t
 there_by desk s m place count (Ok (meant.Turns p)) o t = t
-there_by desk s m place count (Ok meant.Media) o t = subst (IsThere count) (sym (push_place place (unit_from m.kind m.time m.body))) t
+there_by desk s m place count (Ok meant.Media) o t = subst (IsThere count) (sym (push_place place (published_in s.phase m))) t
 
 there_command : (desk : Ask → Grant) (s : State) (m : Message) (place : Option ℕ) (count : ℕ) → IsOffered desk count → IsThere count place → IsThere count (place_of place (dialog.does desk s m).makes)
 unfolding dialog.does

@@ -68,6 +68,11 @@ pub first_pending : (o : Owing) (piece : List ℕ) → piece ≡ take 16384 o.re
 first_pending o piece e (inl le) = e ∙ sym (take-append-le 16384 o.ready o.rest le)
 first_pending o piece e (inr none) = e ∙ ap (take 16384) (sym (append-nil o.ready) ∙ ap (λ (l : List ℕ). o.ready ++ l) (sym none))
 
+-- what is sent is something, where something is encoded
+pub sent_something : (l piece : List ℕ) → piece ≡ take 16384 l → is_nil l ≡ false → 0 < length piece
+sent_something [] piece e f = absurd (cc)
+sent_something (b ∷ l) piece e f = omega (arith, ap length e, length-take 16384 (b ∷ l))
+
 pub sent_within : (l piece : List ℕ) (most n : ℕ) → piece ≡ take most l → n ≤ length piece → n ≤ length l
 sent_within l piece most n e le = omega (arith, le, ap length e, length-take most l)
 

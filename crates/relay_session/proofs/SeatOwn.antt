@@ -1,10 +1,8 @@
 -- What the calls of one name at a stream are answered
-use Rattle.std.proofs.Common.{◌≡◌, ◌==◌, nat_eq, ℕ, zero, suc, Bool, true, false, if◌then◌else◌, List, [], ◌∷◌, ◌++◌, length, map, reverse, All, Option, Some, None, refl, sym, ap, ◌∙◌, subst, inl, inr}
+use Rattle.std.proofs.Common.{◌≡◌, ◌==◌, ℕ, zero, suc, Bool, true, false, if◌then◌else◌, List, [], ◌∷◌, ◌++◌, length, Option, Some, None, refl, sym, ap, ◌∙◌, subst, inl, inr}
 use Rattle.std.specs.Option.{is_some}
 use Rattle.std.proofs.lemmas.Bool.{false≢true}
 use Rattle.std.proofs.lemmas.Bool.Decides.{eqb_tells}
-use Rattle.std.proofs.lemmas.List.{reverse-append}
-use Rattle.std.proofs.lemmas.List.Elements.{All-cons, All-head, All-nil, All-push, All-tail}
 use Rattle.std.proofs.lemmas.List.Sums.{fold-append}
 use Rattle.session_owed.specs.Talk.{is_take}
 use Rattle.av_unit.specs.declared.head.Want.{Want}
@@ -26,16 +24,14 @@ use Rattle.stream_model.specs.Counts.{is_began, is_pushed, is_ended, is_joined}
 use Rattle.stream_model.specs.Answer.{reply_to, begin_reply, join_reply, first_or, free_place, is_who}
 use Rattle.stream_model.specs.History.{History, items_of, after_push, last_began, publisher, holder, holder_after}
 use Rattle.stream_model.specs.Known.{IsLawful}
-use Rattle.stream_registry.specs.Told.{Histories, Step}
+use Rattle.stream_registry.specs.Told.{Step}
 use Rattle.relay_session.specs.SeatState.{publishes, plays}
-use Rattle.relay_session.specs.SeatOwn.{own, is_not_player, BringsSo, FaresSo, Fares}
-use Rattle.relay_session.specs.SeatVisits.{AllStand, StandIn, Visit, calls_at, calls_of}
+use Rattle.relay_session.specs.SeatOwn.{own, is_not_player, FaresSo}
 use Rattle.relay_session.specs.Session.{item_in}
-use Rattle.relay_session.proofs.SeatStanding.{calls_here}
 
 -- ---- the publisher after a call
 
-publisher_after : Reply → ℕ → Option ℕ → Option ℕ
+unfoldable pub publisher_after : Reply → ℕ → Option ℕ → Option ℕ
 publisher_after (reply.Began n) who p = Some who
 publisher_after (reply.Ended n) who p = None
 publisher_after _ who p = p
@@ -47,13 +43,15 @@ live_more items x = fold-append live_after false items (x ∷ [])
 live_push : (c : Call) (items : List Item) → is_live (after_push c items) ≡ is_live items
 live_push (call.Push u) items = live_more items (item.Unit u)
 live_push call.Begin items = refl
+live_push (call.BeginAs name) items = refl
 live_push call.End items = refl
 live_push call.Join items = refl
+live_push (call.JoinAs name) items = refl
 live_push (call.Take player want) items = refl
 live_push (call.Leave player) items = refl
 live_push call.Count items = refl
 
-publisher_step : (past : History) (e : Entry) (r : Reply) → publisher ((e, r) ∷ past) ≡ publisher_after r e.who (publisher past)
+pub publisher_step : (past : History) (e : Entry) (r : Reply) → publisher ((e, r) ∷ past) ≡ publisher_after r e.who (publisher past)
 unfolding publisher_after
 publisher_step past e (reply.Began n) = ap (λ (b : Bool). if b then Some e.who else None) (live_more (items_of past) item.Begin)
 publisher_step past e (reply.Ended n) = ap (λ (b : Bool). if b then last_began past else None) (live_more (items_of past) item.End)
@@ -62,6 +60,7 @@ publisher_step past e (reply.InUse by) = refl
 publisher_step past e (reply.NotPublisher live) = refl
 publisher_step past e (reply.Joined player from) = refl
 publisher_step past e reply.Full = refl
+publisher_step past e (reply.NoSlot slots) = refl
 publisher_step past e reply.NotPlayer = refl
 publisher_step past e (reply.Sent from n item) = refl
 publisher_step past e (reply.Skip from to) = refl
@@ -71,7 +70,7 @@ publisher_step past e (reply.Counts began pushed ended joined skips) = refl
 
 -- ---- what a lawful reply says of the history before it
 
-is_left : Reply → Bool
+unfoldable pub is_left : Reply → Bool
 is_left (reply.Left player) = true
 is_left _ = false
 
@@ -91,20 +90,20 @@ begins f end None h k = h
 begins f end (Some by) h k = k by
 
 -- an answer to the holder of a place isn't any of these
-record IsAnswer (t : Taken) : Type 0 where
+pub record IsAnswer (t : Taken) : Type 0 where
   pub not_began : is_began (reply_of t) ≡ false
   pub not_ended : is_ended (reply_of t) ≡ false
   pub not_joined : is_joined (reply_of t) ≡ false
   pub not_left : is_left (reply_of t) ≡ false
   pub not_refused : is_not_player (reply_of t) ≡ false
 
-is_answer : (t : Taken) → IsAnswer t
+pub is_answer : (t : Taken) → IsAnswer t
 unfolding is_left
 is_answer (taken.Sent from n item) = record { not_began = refl; not_ended = refl; not_joined = refl; not_left = refl; not_refused = refl }
 is_answer (taken.Skip from to) = record { not_began = refl; not_ended = refl; not_joined = refl; not_left = refl; not_refused = refl }
 is_answer (taken.NotYet end) = record { not_began = refl; not_ended = refl; not_joined = refl; not_left = refl; not_refused = refl }
 
-abbrev the_answer : StreamLimits → History → ℕ → Want → Taken
+abbrev pub the_answer : StreamLimits → History → ℕ → Want → Taken
 the_answer limits past player want = take.taken limits (items_of past) (cursor (spell past player)) (sent (spell past player)) want
 
 begun_none : (n end : ℕ) (o : Option ℕ) → reply.Began n ≡ begin_reply end o → o ≡ None
@@ -146,50 +145,58 @@ joined_some q from at None e = absurd (not_so is_joined (reply.Joined q from) re
 joined_some q from at (Some p) e = let same : q ≡ p = cc in ap (λ (x : ℕ). Some x) (sym same)
 
 module _ (limits : StreamLimits) (past : History) (who : ℕ) where
-  began_none : (n : ℕ) (c : Call) → reply.Began n ≡ reply_to limits past who c → publisher past ≡ None
+  pub began_none : (n : ℕ) (c : Call) → reply.Began n ≡ reply_to limits past who c → publisher past ≡ None
   began_none n call.Begin e = begun_none n (length (items_of past)) (publisher past) e
+  began_none n (call.BeginAs name) e = begun_none n (length (items_of past)) (publisher past) e
   began_none n (call.Push u) e = absurd (not_so is_began (reply.Began n) (reply_to limits past who (call.Push u)) e refl (either is_began (is_who (publisher past) who) (reply.Pushed (length (items_of past))) (reply.NotPublisher (publisher past)) refl refl))
   began_none n call.End e = absurd (not_so is_began (reply.Began n) (reply_to limits past who call.End) e refl (either is_began (is_who (publisher past) who) (reply.Ended (length (items_of past))) (reply.NotPublisher (publisher past)) refl refl))
   began_none n call.Join e = absurd (not_so is_began (reply.Began n) (reply_to limits past who call.Join) e refl (joins is_began (join limits (items_of past)) (free_place (holder past) limits.players) (λ p. refl) refl))
+  began_none n (call.JoinAs name) e = absurd (not_so is_began (reply.Began n) (reply_to limits past who (call.JoinAs name)) e refl (joins is_began (join limits (items_of past)) (free_place (holder past) limits.players) (λ p. refl) refl))
   began_none n (call.Take player want) e = absurd (not_so is_began (reply.Began n) (reply_to limits past who (call.Take player want)) e refl (either is_began (is_who (holder past player) who) (reply_of (the_answer limits past player want)) reply.NotPlayer (is_answer (the_answer limits past player want)).not_began refl))
   began_none n (call.Leave player) e = absurd (not_so is_began (reply.Began n) (reply_to limits past who (call.Leave player)) e refl (either is_began (is_who (holder past player) who) (reply.Left player) reply.NotPlayer refl refl))
   began_none n call.Count e = absurd (not_so is_began (reply.Began n) (reply_to limits past who call.Count) e refl refl)
 
-  ended_who : (n : ℕ) (c : Call) → reply.Ended n ≡ reply_to limits past who c → publisher past ≡ Some who
+  pub ended_who : (n : ℕ) (c : Call) → reply.Ended n ≡ reply_to limits past who c → publisher past ≡ Some who
   ended_who n call.Begin e = absurd (not_so is_ended (reply.Ended n) (reply_to limits past who call.Begin) e refl (begins is_ended (length (items_of past)) (publisher past) refl (λ by. refl)))
+  ended_who n (call.BeginAs name) e = absurd (not_so is_ended (reply.Ended n) (reply_to limits past who (call.BeginAs name)) e refl (begins is_ended (length (items_of past)) (publisher past) refl (λ by. refl)))
   ended_who n (call.Push u) e = absurd (not_so is_ended (reply.Ended n) (reply_to limits past who (call.Push u)) e refl (either is_ended (is_who (publisher past) who) (reply.Pushed (length (items_of past))) (reply.NotPublisher (publisher past)) refl refl))
   ended_who n call.End e = ended_some n (length (items_of past)) who (publisher past) (publisher past) e
   ended_who n call.Join e = absurd (not_so is_ended (reply.Ended n) (reply_to limits past who call.Join) e refl (joins is_ended (join limits (items_of past)) (free_place (holder past) limits.players) (λ p. refl) refl))
+  ended_who n (call.JoinAs name) e = absurd (not_so is_ended (reply.Ended n) (reply_to limits past who (call.JoinAs name)) e refl (joins is_ended (join limits (items_of past)) (free_place (holder past) limits.players) (λ p. refl) refl))
   ended_who n (call.Take player want) e = absurd (not_so is_ended (reply.Ended n) (reply_to limits past who (call.Take player want)) e refl (either is_ended (is_who (holder past player) who) (reply_of (the_answer limits past player want)) reply.NotPlayer (is_answer (the_answer limits past player want)).not_ended refl))
   ended_who n (call.Leave player) e = absurd (not_so is_ended (reply.Ended n) (reply_to limits past who (call.Leave player)) e refl (either is_ended (is_who (holder past player) who) (reply.Left player) reply.NotPlayer refl refl))
   ended_who n call.Count e = absurd (not_so is_ended (reply.Ended n) (reply_to limits past who call.Count) e refl refl)
 
-  joined_free : (q from : ℕ) (c : Call) → reply.Joined q from ≡ reply_to limits past who c → holder past q ≡ None
+  pub joined_free : (q from : ℕ) (c : Call) → reply.Joined q from ≡ reply_to limits past who c → holder past q ≡ None
   joined_free q from call.Begin e = absurd (not_so is_joined (reply.Joined q from) (reply_to limits past who call.Begin) e refl (begins is_joined (length (items_of past)) (publisher past) refl (λ by. refl)))
+  joined_free q from (call.BeginAs name) e = absurd (not_so is_joined (reply.Joined q from) (reply_to limits past who (call.BeginAs name)) e refl (begins is_joined (length (items_of past)) (publisher past) refl (λ by. refl)))
   joined_free q from (call.Push u) e = absurd (not_so is_joined (reply.Joined q from) (reply_to limits past who (call.Push u)) e refl (either is_joined (is_who (publisher past) who) (reply.Pushed (length (items_of past))) (reply.NotPublisher (publisher past)) refl refl))
   joined_free q from call.End e = absurd (not_so is_joined (reply.Joined q from) (reply_to limits past who call.End) e refl (either is_joined (is_who (publisher past) who) (reply.Ended (length (items_of past))) (reply.NotPublisher (publisher past)) refl refl))
   joined_free q from call.Join e = free_none (holder past) limits.players q (joined_some q from (join limits (items_of past)) (free_place (holder past) limits.players) e)
+  joined_free q from (call.JoinAs name) e = free_none (holder past) limits.players q (joined_some q from (join limits (items_of past)) (free_place (holder past) limits.players) e)
   joined_free q from (call.Take player want) e = absurd (not_so is_joined (reply.Joined q from) (reply_to limits past who (call.Take player want)) e refl (either is_joined (is_who (holder past player) who) (reply_of (the_answer limits past player want)) reply.NotPlayer (is_answer (the_answer limits past player want)).not_joined refl))
   joined_free q from (call.Leave player) e = absurd (not_so is_joined (reply.Joined q from) (reply_to limits past who (call.Leave player)) e refl (either is_joined (is_who (holder past player) who) (reply.Left player) reply.NotPlayer refl refl))
   joined_free q from call.Count e = absurd (not_so is_joined (reply.Joined q from) (reply_to limits past who call.Count) e refl refl)
 
-  left_held : (q : ℕ) (c : Call) → reply.Left q ≡ reply_to limits past who c → holder past q ≡ Some who
+  pub left_held : (q : ℕ) (c : Call) → reply.Left q ≡ reply_to limits past who c → holder past q ≡ Some who
   unfolding is_left
   left_held q call.Begin e = absurd (not_so is_left (reply.Left q) (reply_to limits past who call.Begin) e refl (begins is_left (length (items_of past)) (publisher past) refl (λ by. refl)))
+  left_held q (call.BeginAs name) e = absurd (not_so is_left (reply.Left q) (reply_to limits past who (call.BeginAs name)) e refl (begins is_left (length (items_of past)) (publisher past) refl (λ by. refl)))
   left_held q (call.Push u) e = absurd (not_so is_left (reply.Left q) (reply_to limits past who (call.Push u)) e refl (either is_left (is_who (publisher past) who) (reply.Pushed (length (items_of past))) (reply.NotPublisher (publisher past)) refl refl))
   left_held q call.End e = absurd (not_so is_left (reply.Left q) (reply_to limits past who call.End) e refl (either is_left (is_who (publisher past) who) (reply.Ended (length (items_of past))) (reply.NotPublisher (publisher past)) refl refl))
   left_held q call.Join e = absurd (not_so is_left (reply.Left q) (reply_to limits past who call.Join) e refl (joins is_left (join limits (items_of past)) (free_place (holder past) limits.players) (λ p. refl) refl))
+  left_held q (call.JoinAs name) e = absurd (not_so is_left (reply.Left q) (reply_to limits past who (call.JoinAs name)) e refl (joins is_left (join limits (items_of past)) (free_place (holder past) limits.players) (λ p. refl) refl))
   left_held q (call.Take player want) e = absurd (not_so is_left (reply.Left q) (reply_to limits past who (call.Take player want)) e refl (either is_left (is_who (holder past player) who) (reply_of (the_answer limits past player want)) reply.NotPlayer (is_answer (the_answer limits past player want)).not_left refl))
   left_held q (call.Leave player) e = let l = left_some q player who (holder past player) e in subst (λ (p : ℕ). holder past p ≡ Some who) (sym l.0) l.1
   left_held q call.Count e = absurd (not_so is_left (reply.Left q) (reply_to limits past who call.Count) e refl refl)
 
 -- ---- one call more
 
-alike_publishes : (b : Bool) (s : Step) (calls : List Step) → publishes (s ∷ calls) ≡ publishes calls → publishes (if b then s ∷ calls else calls) ≡ publishes calls
+pub alike_publishes : (b : Bool) (s : Step) (calls : List Step) → publishes (s ∷ calls) ≡ publishes calls → publishes (if b then s ∷ calls else calls) ≡ publishes calls
 alike_publishes true s calls e = e
 alike_publishes false s calls e = refl
 
-alike_plays : (player : ℕ) (b : Bool) (s : Step) (calls : List Step) → plays player (s ∷ calls) ≡ plays player calls → plays player (if b then s ∷ calls else calls) ≡ plays player calls
+pub alike_plays : (player : ℕ) (b : Bool) (s : Step) (calls : List Step) → plays player (s ∷ calls) ≡ plays player calls → plays player (if b then s ∷ calls else calls) ≡ plays player calls
 alike_plays player true s calls e = e
 alike_plays player false s calls e = refl
 
@@ -199,7 +206,7 @@ some_not_none who o e f = cc
 some_same : (who by : ℕ) (o : Option ℕ) → o ≡ Some who → o ≡ Some by → by ≡ who
 some_same who by o e f = cc
 
-publisher_more : (who : ℕ) (s : Step) (calls : List Step) (o : Option ℕ) → ((n : ℕ) → s.1 ≡ reply.Began n → o ≡ None) → ((n : ℕ) → s.1 ≡ reply.Ended n → o ≡ Some s.0.who)
+pub publisher_more : (who : ℕ) (s : Step) (calls : List Step) (o : Option ℕ) → ((n : ℕ) → s.1 ≡ reply.Began n → o ≡ None) → ((n : ℕ) → s.1 ≡ reply.Ended n → o ≡ Some s.0.who)
     → (publishes calls ≡ true → o ≡ Some who) → publishes (if s.0.who == who then s ∷ calls else calls) ≡ true → publisher_after s.1 s.0.who o ≡ Some who
 unfolding publisher_after
 publisher_more who (e, reply.Began n) calls o free held before p = elim (eqb_tells e.who who) [
@@ -214,6 +221,7 @@ publisher_more who (e, reply.InUse by) calls o free held before p = before (sym 
 publisher_more who (e, reply.Pushed n) calls o free held before p = before (sym (alike_publishes (e.who == who) (e, reply.Pushed n) calls refl) ∙ p)
 publisher_more who (e, reply.NotPublisher live) calls o free held before p = before (sym (alike_publishes (e.who == who) (e, reply.NotPublisher live) calls refl) ∙ p)
 publisher_more who (e, reply.Full) calls o free held before p = before (sym (alike_publishes (e.who == who) (e, reply.Full) calls refl) ∙ p)
+publisher_more who (e, reply.NoSlot slots) calls o free held before p = before (sym (alike_publishes (e.who == who) (e, reply.NoSlot slots) calls refl) ∙ p)
 publisher_more who (e, reply.NotPlayer) calls o free held before p = before (sym (alike_publishes (e.who == who) (e, reply.NotPlayer) calls refl) ∙ p)
 publisher_more who (e, reply.Sent from n item) calls o free held before p = before (sym (alike_publishes (e.who == who) (e, reply.Sent from n item) calls refl) ∙ p)
 publisher_more who (e, reply.Skip from to) calls o free held before p = before (sym (alike_publishes (e.who == who) (e, reply.Skip from to) calls refl) ∙ p)
@@ -222,7 +230,7 @@ publisher_more who (e, reply.Counts began pushed ended joined skips) calls o fre
 publisher_more who (e, reply.Joined player from) calls o free held before p = before (sym (alike_publishes (e.who == who) (e, reply.Joined player from) calls refl) ∙ p)
 publisher_more who (e, reply.Left player) calls o free held before p = before (sym (alike_publishes (e.who == who) (e, reply.Left player) calls refl) ∙ p)
 
-holder_more : (who player : ℕ) (s : Step) (calls : List Step) (h : ℕ → Option ℕ) → ((q from : ℕ) → s.1 ≡ reply.Joined q from → h q ≡ None) → ((q : ℕ) → s.1 ≡ reply.Left q → h q ≡ Some s.0.who)
+pub holder_more : (who player : ℕ) (s : Step) (calls : List Step) (h : ℕ → Option ℕ) → ((q from : ℕ) → s.1 ≡ reply.Joined q from → h q ≡ None) → ((q : ℕ) → s.1 ≡ reply.Left q → h q ≡ Some s.0.who)
     → (plays player calls ≡ true → h player ≡ Some who) → plays player (if s.0.who == who then s ∷ calls else calls) ≡ true → holder_after s.0.who s.1 player (h player) ≡ Some who
 holder_more who player (e, reply.Joined q from) calls h free held before p = elim (eqb_tells q player) [
   | inl k ↦ elim (eqb_tells e.who who) [
@@ -250,6 +258,7 @@ holder_more who player (e, reply.InUse by) calls h free held before p = before (
 holder_more who player (e, reply.Pushed n) calls h free held before p = before (sym (alike_plays player (e.who == who) (e, reply.Pushed n) calls refl) ∙ p)
 holder_more who player (e, reply.NotPublisher live) calls h free held before p = before (sym (alike_plays player (e.who == who) (e, reply.NotPublisher live) calls refl) ∙ p)
 holder_more who player (e, reply.Full) calls h free held before p = before (sym (alike_plays player (e.who == who) (e, reply.Full) calls refl) ∙ p)
+holder_more who player (e, reply.NoSlot slots) calls h free held before p = before (sym (alike_plays player (e.who == who) (e, reply.NoSlot slots) calls refl) ∙ p)
 holder_more who player (e, reply.NotPlayer) calls h free held before p = before (sym (alike_plays player (e.who == who) (e, reply.NotPlayer) calls refl) ∙ p)
 holder_more who player (e, reply.Sent from n item) calls h free held before p = before (sym (alike_plays player (e.who == who) (e, reply.Sent from n item) calls refl) ∙ p)
 holder_more who player (e, reply.Skip from to) calls h free held before p = before (sym (alike_plays player (e.who == who) (e, reply.Skip from to) calls refl) ∙ p)
@@ -272,71 +281,39 @@ plays_so limits (s ∷ past) who player l p =
     holder_more who player s (own who past) (holder past)
     (λ q from e. joined_free limits past s.0.who q from s.0.call (sym e ∙ l.0)) (λ q e. left_held limits past s.0.who q s.0.call (sym e ∙ l.0)) (plays_so limits past who player l.1) p
 
-it_is : (who : ℕ) (o : Option ℕ) → o ≡ Some who → is_who o who ≡ true
+pub it_is : (who : ℕ) (o : Option ℕ) → o ≡ Some who → is_who o who ≡ true
 it_is who o e = elim (eqb_tells who who) [
   | inl h ↦ subst (λ (x : Option ℕ). is_who x who ≡ true) (sym e) h.0
   | inr h ↦ absurd (h.1 refl)
 ]
 
 module _ (limits : StreamLimits) (past : History) (who : ℕ) (l : IsLawful limits past) where
-  fares_so : (c : Call) → FaresSo (own who past) c (reply_to limits past who c)
+  pub fares_so : (c : Call) → FaresSo (own who past) c (reply_to limits past who c)
   fares_so (call.Push u) = λ p. ap (λ (b : Bool). is_pushed (if b then reply.Pushed (length (items_of past)) else reply.NotPublisher (publisher past))) (it_is who (publisher past) (publishes_so limits past who l p))
   fares_so call.End = λ p. ap (λ (b : Bool). is_ended (if b then reply.Ended (length (items_of past)) else reply.NotPublisher (publisher past))) (it_is who (publisher past) (publishes_so limits past who l p))
   fares_so (call.Take player want) = λ p. ap (λ (b : Bool). is_not_player (if b then reply_of (the_answer limits past player want) else reply.NotPlayer)) (it_is who (holder past player) (plays_so limits past who player l p))
       ∙ (is_answer (the_answer limits past player want)).not_refused
   fares_so (call.Leave player) = λ p. ap (λ (b : Bool). is_not_player (if b then reply.Left player else reply.NotPlayer)) (it_is who (holder past player) (plays_so limits past who player l p))
   fares_so call.Begin = tt
+  fares_so (call.BeginAs name) = tt
   fares_so call.Join = tt
+  fares_so (call.JoinAs name) = tt
   fares_so call.Count = tt
-
-one_fares : (limits : StreamLimits) (past : History) (who by : ℕ) (c : Call) (r : Reply) → IsLawful limits past → by ≡ who → r ≡ reply_to limits past by c → FaresSo (own who past) c r
-one_fares limits past who by c r l e is =
-    subst (λ (x : Reply). FaresSo (own who past) c x) (sym (subst (λ (x : ℕ). r ≡ reply_to limits past x c) e is)) (fares_so limits past who l c)
-
-pub fares : (limits : StreamLimits) (past : History) (who : ℕ) → IsLawful limits past → Fares (own who past)
-fares limits [] who l = tt
-fares limits (s ∷ past) who l = elim (eqb_tells s.0.who who) [
-  | inl h ↦ subst (λ (b : Bool). Fares (if b then s ∷ own who past else own who past)) (sym h.0) (one_fares limits past who s.0.who s.0.call s.1 l.1 h.1 l.0, fares limits past who l.1)
-  | inr h ↦ subst (λ (b : Bool). Fares (if b then s ∷ own who past else own who past)) (sym h.0) (fares limits past who l.1)
-]
 
 -- ---- an item
 
-brings : Reply → Bool
+unfoldable pub brings : Reply → Bool
 brings r = is_some (item_in r)
 
 -- the rules answer a Take alone with one
-no_item : (limits : StreamLimits) (past : History) (who : ℕ) (c : Call) → is_take c ≡ false → brings (reply_to limits past who c) ≡ false
+pub no_item : (limits : StreamLimits) (past : History) (who : ℕ) (c : Call) → is_take c ≡ false → brings (reply_to limits past who c) ≡ false
 unfolding brings
 no_item limits past who call.Begin t = begins brings (length (items_of past)) (publisher past) refl (λ by. refl)
+no_item limits past who (call.BeginAs name) t = begins brings (length (items_of past)) (publisher past) refl (λ by. refl)
 no_item limits past who (call.Push u) t = either brings (is_who (publisher past) who) (reply.Pushed (length (items_of past))) (reply.NotPublisher (publisher past)) refl refl
 no_item limits past who call.End t = either brings (is_who (publisher past) who) (reply.Ended (length (items_of past))) (reply.NotPublisher (publisher past)) refl refl
 no_item limits past who call.Join t = joins brings (join limits (items_of past)) (free_place (holder past) limits.players) (λ p. refl) refl
+no_item limits past who (call.JoinAs name) t = joins brings (join limits (items_of past)) (free_place (holder past) limits.players) (λ p. refl) refl
 no_item limits past who (call.Take player want) t = absurd (false≢true (sym t))
 no_item limits past who (call.Leave player) t = either brings (is_who (holder past player) who) (reply.Left player) reply.NotPlayer refl refl
 no_item limits past who call.Count t = refl
-
-brings_one : (limits : StreamLimits) (past : History) (s : Step) → s.1 ≡ reply_to limits past s.0.who s.0.call → BringsSo s
-unfolding brings
-brings_one limits past s e = λ t. ap brings e ∙ no_item limits past s.0.who s.0.call t
-
-brings_in : (limits : StreamLimits) (calls : List Step) (past : History) → StandIn limits calls past → All BringsSo calls
-brings_in limits [] past s = All-nil BringsSo
-brings_in limits (m ∷ ms) [] s = absurd s
-brings_in limits (m ∷ ms) (p ∷ past) (inl s) = All-cons BringsSo m ms (brings_one limits past m s.1) (brings_in limits ms past s.2)
-brings_in limits (m ∷ ms) (p ∷ past) (inr s) = brings_in limits (m ∷ ms) past s
-
-brings_rest : (b : Bool) (s : Step) (calls : List Step) → All BringsSo (if b then s ∷ calls else calls) → All BringsSo calls
-brings_rest true s calls a = All-tail BringsSo s calls a
-brings_rest false s calls a = a
-
-brings_all : (visits : List Visit) → ((q : ℕ) → All BringsSo (calls_at q visits)) → All BringsSo (calls_of visits)
-brings_all [] h = All-nil BringsSo
-brings_all ((place, step) ∷ visits) h =
-    let here = subst (λ (l : List Step). All BringsSo l) (calls_here place step visits) (h place) in
-    let rest : (q : ℕ) → All BringsSo (calls_at q visits) = λ q. brings_rest (nat_eq place q) step (calls_at q visits) (h q) in
-    subst (λ (l : List Step). All BringsSo l) (sym (reverse-append (step ∷ []) (map (λ (v : Visit). v.1) visits)))
-    (All-push BringsSo (calls_of visits) step (brings_all visits rest) (All-head BringsSo step (calls_at place visits) here))
-
-pub brings_so : (limits : ℕ → StreamLimits) (histories : Histories) (visits : List Visit) → AllStand limits histories visits → All BringsSo (calls_of visits)
-brings_so limits histories visits s = brings_all visits (λ q. brings_in (limits q) (calls_at q visits) (reverse (histories q)) (s.at_each q))

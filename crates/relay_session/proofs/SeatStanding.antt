@@ -4,7 +4,7 @@ use Rattle.std.specs.Prelude.{reverse}
 use Rattle.std.proofs.lemmas.List.{reverse-append}
 use Rattle.std.proofs.lemmas.Bool.{cases_eq}
 use Rattle.std.proofs.lemmas.Bool.Decides.{nat_tests}
-use Rattle.stream_model.specs.declared.calls.StreamLimits.{StreamLimits}
+use Rattle.stream_model.specs.declared.calls.Shape.{Shape}
 use Rattle.stream_model.specs.declared.calls.Entry.{Entry}
 use Rattle.stream_model.specs.declared.replies.Reply.{Reply}
 use Rattle.stream_model.specs.declared.replies.Reply.TheVariants as reply
@@ -76,16 +76,16 @@ called seen root root' place pass pass' b same =
 
 -- ---- calls in a history
 
-stand_on : (limits : StreamLimits) (calls : List Step) (past more : History) → StandIn limits calls past → StandIn limits calls (more ++ past)
+stand_on : (limits : Shape) (calls : List Step) (past more : History) → StandIn limits calls past → StandIn limits calls (more ++ past)
 stand_on limits [] past more s = tt
 stand_on limits (m ∷ ms) past [] s = s
 stand_on limits (m ∷ ms) past (x ∷ more) s = inr (stand_on limits (m ∷ ms) past more s)
 
-stand_later : (limits : StreamLimits) (calls seen seen' : List Step) → Begins seen seen' → Stand limits calls seen → Stand limits calls seen'
+stand_later : (limits : Shape) (calls seen seen' : List Step) → Begins seen seen' → Stand limits calls seen → Stand limits calls seen'
 stand_later limits calls seen seen' b s =
     subst (λ (h : List Step). StandIn limits calls (reverse h)) b.1 (subst (λ (p : History). StandIn limits calls p) (sym (reverse-append seen b.0)) (stand_on limits calls (reverse seen) (reverse b.0) s))
 
-stand_more : (limits : StreamLimits) (root known known' : List Step) (step : Step) (calls : List Step) → Noted limits root known step known' → Stand limits calls known → Stand limits (step ∷ calls) known'
+stand_more : (limits : Shape) (root known known' : List Step) (step : Step) (calls : List Step) → Noted limits root known step known' → Stand limits calls known → Stand limits (step ∷ calls) known'
 stand_more limits root known known' step calls n s =
     let is : reverse (n.before ++ step ∷ []) ≡ step ∷ reverse n.before = reverse-append n.before (step ∷ []) in
     let here : Stand limits (step ∷ calls) (n.before ++ step ∷ []) =
@@ -99,11 +99,11 @@ calls_else : (place q : ℕ) (step : Step) (vs : List Visit) → q ≢ place →
 calls_else place q step vs d = let t : nat_eq place q ≡ false = grind (arith, nat_tests) in rw t refl
 
 -- the same calls, in histories that went on
-pub all_later : (limits : ℕ → StreamLimits) (h h' : Histories) (visits : List Visit) → GoOn h h' → AllStand limits h visits → AllStand limits h' visits
+pub all_later : (limits : ℕ → Shape) (h h' : Histories) (visits : List Visit) → GoOn h h' → AllStand limits h visits → AllStand limits h' visits
 all_later limits h h' visits g s = record { at_each = λ q. stand_later (limits q) (calls_at q visits) (h q) (h' q) (g.at_each q) (s.at_each q) }
 
 -- one call more
-pub all_more : (limits : ℕ → StreamLimits) (h h' : Histories) (place : ℕ) (root : List Step) (step : Step) (visits : List Visit) → GoOn h h' → Noted (limits place) root (h place) step (h' place) → AllStand limits h visits
+pub all_more : (limits : ℕ → Shape) (h h' : Histories) (place : ℕ) (root : List Step) (step : Step) (visits : List Visit) → GoOn h h' → Noted (limits place) root (h place) step (h' place) → AllStand limits h visits
     → AllStand limits h' ((place, step) ∷ visits)
 all_more limits h h' place root step visits g n s = record {
   at_each = λ q. elim (cases_eq q place) [
@@ -114,7 +114,7 @@ all_more limits h h' place root step visits g n s = record {
 }
 
 -- what the port says of a call
-pub noted : (limits limits' : StreamLimits) (root seen : List Step) (mine : List ℕ) (step : Step) (seen' : List Step) (mine' : List ℕ) → limits' ≡ limits → Placed limits root seen mine step seen' mine' → Keeps limits' seen'
+pub noted : (limits limits' : Shape) (root seen : List Step) (mine : List ℕ) (step : Step) (seen' : List Step) (mine' : List ℕ) → limits' ≡ limits → Placed limits root seen mine step seen' mine' → Keeps limits' seen'
     → Noted limits root seen step seen'
 noted limits limits' root seen mine step seen' mine' same p k =
     record {
@@ -123,11 +123,11 @@ noted limits limits' root seen mine step seen' mine' same p k =
       known_first = p.pass_first;
       reply_is = p.reply_is;
       within = begins_same (p.before ++ step ∷ []) seen' p.seen_is;
-      lawful = subst (λ (l : StreamLimits). Keeps l (p.before ++ step ∷ [])) same (subst (λ (h : List Step). Keeps limits' h) p.seen_is k);
+      lawful = subst (λ (l : Shape). Keeps l (p.before ++ step ∷ [])) same (subst (λ (h : List Step). Keeps limits' h) p.seen_is k);
     }
 
 -- the same, where more is known
-pub noted_later : (limits : StreamLimits) (root known : List Step) (step : Step) (known' known'' : List Step) → Begins known' known'' → Noted limits root known step known' → Noted limits root known step known''
+pub noted_later : (limits : Shape) (root known : List Step) (step : Step) (known' known'' : List Step) → Begins known' known'' → Noted limits root known step known' → Noted limits root known step known''
 noted_later limits root known step known' known'' b n =
     record { before = n.before; root_first = n.root_first; known_first = n.known_first; reply_is = n.reply_is; within = begins_trans (n.before ++ step ∷ []) known' known'' n.within b; lawful = n.lawful }
 
@@ -146,6 +146,7 @@ granted_more (reply.Began n) e a calls g = refl
 granted_more (reply.Joined player from) e a calls g = given player from e calls
 granted_more (reply.InUse by) e a calls g = tt
 granted_more reply.Full e a calls g = tt
+granted_more (reply.NoSlot slots) e a calls g = tt
 granted_more (reply.Ended n) e a calls g = tt
 granted_more (reply.Left player) e a calls g = tt
 granted_more (reply.Pushed n) e a calls g = alike a calls ((e, reply.Pushed n) ∷ calls) refl (λ p. refl) g
@@ -161,10 +162,10 @@ active_more place pass pass' r e a visits g = subst (λ (c : List Step). IsGrant
 
 -- ---- where it stands
 
-pub stands_nowhere : {Q : Type 0} (limits limits' : ℕ → StreamLimits) (h h' : Histories) (s s' : SeatState Q) → limits' ≡ limits → GoOn h h' → s'.spot ≡ None → s'.active ≡ active.Nothing → s'.visits ≡ s.visits → IsStanding limits h s → IsStanding limits' h' s'
+pub stands_nowhere : {Q : Type 0} (limits limits' : ℕ → Shape) (h h' : Histories) (s s' : SeatState Q) → limits' ≡ limits → GoOn h h' → s'.spot ≡ None → s'.active ≡ active.Nothing → s'.visits ≡ s.visits → IsStanding limits h s → IsStanding limits' h' s'
 stands_nowhere {Q} limits limits' h h' s s' same g none nothing visits st =
     record {
-      calls = subst (λ (l : ℕ → StreamLimits). AllStand l h' s'.visits) (sym same) (subst (λ (v : List Visit). AllStand limits h' v) (sym visits) (all_later limits h h' s.visits g st.calls));
+      calls = subst (λ (l : ℕ → Shape). AllStand l h' s'.visits) (sym same) (subst (λ (v : List Visit). AllStand limits h' v) (sym visits) (all_later limits h h' s.visits g st.calls));
       granted = subst (λ (o : Option (ℕ × Q)). IsActive o s'.active s'.visits) (sym none) nothing;
     }
 
@@ -186,11 +187,11 @@ module _ {Q : Type 0} where
       subst (λ (p : ℕ). known_if seen root spot p ≡ seen pass) e (subst (λ (o : Option (ℕ × Q)). known_if seen root o here ≡ seen pass) (sym is) (known_here seen root here pass))
 
   -- a call was made
-  pub ask_noted : (seen : Q → List Step) (root root' : Histories) (spot : Option (ℕ × Q)) (here place : ℕ) (pass pass' : Q) (limits had has : StreamLimits) (mine mine' : List ℕ) (step : Step) → spot ≡ Some (here, pass) → place_of spot ≡ Some place
+  pub ask_noted : (seen : Q → List Step) (root root' : Histories) (spot : Option (ℕ × Q)) (here place : ℕ) (pass pass' : Q) (limits had has : Shape) (mine mine' : List ℕ) (step : Step) → spot ≡ Some (here, pass) → place_of spot ≡ Some place
       → had ≡ limits → has ≡ had → Placed had (root place) (seen pass) mine step (seen pass') mine' → Keeps has (seen pass') → Noted limits (root place) (known_if seen root spot place) step (known_if seen root' (Some (here, pass')) place)
   ask_noted seen root root' spot here place pass pass' limits had has mine mine' step is at l m p k =
       let e = here_is spot here place pass is at in
-      let n : Noted limits (root place) (seen pass) step (seen pass') = subst (λ (x : StreamLimits). Noted x (root place) (seen pass) step (seen pass')) l (noted had has (root place) (seen pass) mine step (seen pass') mine' m p k) in
+      let n : Noted limits (root place) (seen pass) step (seen pass') = subst (λ (x : Shape). Noted x (root place) (seen pass) step (seen pass')) l (noted had has (root place) (seen pass) mine step (seen pass') mine' m p k) in
       let known : known_if seen root spot place ≡ seen pass = known_at seen root spot here place pass is e in
       let known' : known_if seen root' (Some (here, pass')) place ≡ seen pass' = known_at seen root' (Some (here, pass')) here place pass' refl e in
       subst (λ (h : List Step). Noted limits (root place) h step (known_if seen root' (Some (here, pass')) place)) (sym known) (subst (λ (h : List Step). Noted limits (root place) (seen pass) step h) (sym known') n)
@@ -212,7 +213,7 @@ module _ {Q : Type 0} where
       let more : IsActive (Some (here, pass')) (active_after r s.active) ((place, (entry, r)) ∷ s.visits) =
       subst (λ (p : ℕ). IsActive (Some (here, pass')) (active_after r s.active) ((p, (entry, r)) ∷ s.visits)) e (active_more here pass pass' r entry s.active s.visits before) in
       record {
-        calls = subst (λ (l : ℕ → StreamLimits). AllStand l h' s'.visits) (sym (limits_of rules rules' same))
+        calls = subst (λ (l : ℕ → Shape). AllStand l h' s'.visits) (sym (limits_of rules rules' same))
             (subst (λ (v : List Visit). AllStand rules.limits h' v) (sym visits) (all_more rules.limits h h' place root (entry, r) s.visits g n st.calls));
         granted = subst (λ (o : Option (ℕ × Q)). IsActive o s'.active s'.visits) (sym is')
             (subst (λ (a : Active). IsActive (Some (here, pass')) a s'.visits) (sym active) (subst (λ (v : List Visit). IsActive (Some (here, pass')) (active_after r s.active) v) (sym visits) more));
@@ -223,7 +224,7 @@ module _ {Q : Type 0} where
   stands_same rules rules' h h' s s' here pass pass' same is g is' active visits st =
       let before : IsActive (Some (here, pass')) s.active s.visits = subst (λ (o : Option (ℕ × Q)). IsActive o s.active s.visits) is st.granted in
       record {
-        calls = subst (λ (l : ℕ → StreamLimits). AllStand l h' s'.visits) (sym (limits_of rules rules' same)) (subst (λ (v : List Visit). AllStand rules.limits h' v) (sym visits) (all_later rules.limits h h' s.visits g st.calls));
+        calls = subst (λ (l : ℕ → Shape). AllStand l h' s'.visits) (sym (limits_of rules rules' same)) (subst (λ (v : List Visit). AllStand rules.limits h' v) (sym visits) (all_later rules.limits h h' s.visits g st.calls));
         granted = subst (λ (o : Option (ℕ × Q)). IsActive o s'.active s'.visits) (sym is')
             (subst (λ (a : Active). IsActive (Some (here, pass')) a s'.visits) (sym active) (subst (λ (v : List Visit). IsActive (Some (here, pass')) s.active v) (sym visits) before));
       }
@@ -304,7 +305,7 @@ others_known seen root root' (Some p) g = record { at_each = λ q. more q (nat_e
 pub others_later : {Q : Type 0} (rules rules' : PortRules) (seen : Q → List Step) (root root' : Histories) (s : SeatState Q) → rules' ≡ rules → GoOn root root' → IsStanding rules.limits (known_if seen root s.spot) s → IsStanding rules'.limits (known_if seen root' s.spot) s
 others_later rules rules' seen root root' s same g st =
     record {
-      calls = subst (λ (l : ℕ → StreamLimits). AllStand l (known_if seen root' s.spot) s.visits) (sym (limits_of rules rules' same))
+      calls = subst (λ (l : ℕ → Shape). AllStand l (known_if seen root' s.spot) s.visits) (sym (limits_of rules rules' same))
           (all_later rules.limits (known_if seen root s.spot) (known_if seen root' s.spot) s.visits (others_known seen root root' s.spot g) st.calls);
       granted = st.granted;
     }

@@ -1,7 +1,7 @@
 -- The steps of a turn, over plain values
-use Rattle.std.proofs.Common.{◌≡◌, ℕ, Bool, false, length, sym, ◌∙◌, subst, Option, Some, Result, Ok, Err}
+use Rattle.std.proofs.Common.{◌≡◌, ℕ, Bool, false, sym, ◌∙◌, subst, Option, Some, Result, Ok, Err}
 use Rattle.stream_model.specs.declared.calls.Entry.{Entry}
-use Rattle.stream_registry.specs.Names.{PortRules}
+use Rattle.stream_registry.specs.Names.{PortRules, places}
 use Rattle.relay_session.specs.Places.{IsAt, IsThere}
 use Rattle.relay_session.specs.SeatState.{SeatState, HasFit}
 use Rattle.relay_session.specs.SeatVisits.{calls_of}
@@ -14,11 +14,11 @@ use Rattle.relay_session.specs.declared.seat_answers.Made.TheVariants as made
 
 -- ---- where it is
 
-pub at_same : {Q : Type 0} (fits now : ℕ → Q → Type 0) (rules later : PortRules) (c d : Core) (s t : SeatState Q) → IsAt fits (length rules.names) c s → HasFit now t.spot → later ≡ rules
-    → calls_of t.visits ≡ calls_of s.visits → d.place ≡ c.place → d.calls ≡ c.calls → IsAt now (length later.names) d t
+pub at_same : {Q : Type 0} (fits now : ℕ → Q → Type 0) (rules later : PortRules) (c d : Core) (s t : SeatState Q) → IsAt fits (places rules) c s → HasFit now t.spot → later ≡ rules
+    → calls_of t.visits ≡ calls_of s.visits → d.place ≡ c.place → d.calls ≡ c.calls → IsAt now (places later) d t
 at_same fits now rules later c d s t a f fixed k place calls = record {
   fit = f;
-  there = subst (λ (p : Option ℕ). IsThere (length later.names) p) (sym place) (subst (λ (x : PortRules). IsThere (length x.names) c.place) (sym fixed) a.there);
+  there = subst (λ (p : Option ℕ). IsThere (places later) p) (sym place) (subst (λ (x : PortRules). IsThere (places x) c.place) (sym fixed) a.there);
   calls = calls ∙ a.calls ∙ sym k;
 }
 

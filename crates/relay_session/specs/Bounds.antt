@@ -13,6 +13,8 @@ use Rattle.stream_model.specs.declared.calls.Entry.{Entry}
 -- the bytes of the unit that a call publishes
 abbrev pub call_bytes : Call → ℕ
 call_bytes (call.Push unit) = length unit.body
+call_bytes (call.BeginAs name) = 0
+call_bytes (call.JoinAs name) = 0
 call_bytes call.Begin = 0
 call_bytes call.End = 0
 call_bytes call.Join = 0
@@ -23,6 +25,22 @@ call_bytes call.Count = 0
 abbrev pub kept_bytes : Option Entry → ℕ
 kept_bytes None = 0
 kept_bytes (Some e) = call_bytes e.call
+
+-- the bytes of the name that a call asks for
+abbrev pub name_bytes : Call → ℕ
+name_bytes (call.BeginAs name) = length name
+name_bytes (call.JoinAs name) = length name
+name_bytes (call.Push unit) = 0
+name_bytes call.Begin = 0
+name_bytes call.End = 0
+name_bytes call.Join = 0
+name_bytes (call.Take player want) = 0
+name_bytes (call.Leave player) = 0
+name_bytes call.Count = 0
+
+abbrev pub kept_name : Option Entry → ℕ
+kept_name None = 0
+kept_name (Some e) = name_bytes e.call
 
 -- messages in progress and the unit of the call that waits HAVE ROOM TOGETHER: the message that the unit was had the room that
 -- it leaves

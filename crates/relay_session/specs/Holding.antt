@@ -4,7 +4,7 @@ use Rattle.chunk_reader.specs.Feeds.{IsHeld}
 use Rattle.chunk_reader.specs.ReaderKnown.{ReaderKnown}
 use Rattle.command_dialog.specs.State.{app_length}
 use Rattle.session_owed.specs.Chunks.{Hand}
-use Rattle.relay_session.specs.Bounds.{kept_bytes}
+use Rattle.relay_session.specs.Bounds.{kept_bytes, kept_name}
 use Rattle.relay_session.specs.declared.core_fields.Core.{Core}
 
 -- of messages in progress: a reader that has failed holds nothing
@@ -28,6 +28,8 @@ pub record Held : Type 0 where
   pub unit : ℕ
   -- of the unit that the call that waits publishes
   pub kept : ℕ
+  -- of the name that it asks for
+  pub name : ℕ
   -- of the app that the dialogue keeps
   pub app : ℕ
 
@@ -39,11 +41,12 @@ held_with c input parts = record {
   encoded = length c.outgoing.ready + length c.outgoing.later;
   unit = unit_bytes c.outgoing.hand;
   kept = kept_bytes c.kept;
+  name = kept_name c.kept;
   app = app_length c.dialog.app;
 }
 
 abbrev pub sum_of : Held → ℕ
-sum_of h = h.input + (h.parts + (h.encoded + (h.unit + (h.kept + h.app))))
+sum_of h = h.input + (h.parts + (h.encoded + (h.unit + (h.kept + (h.name + h.app)))))
 
 -- A SESSION WITH THIS INPUT HOLDS SO MANY BYTES
 pub record IsHolding (c : Core) (input : List ℕ) (n : ℕ) : Type 0 where
@@ -61,6 +64,6 @@ HandFits c = UnitFits c.outgoing.hand c.longest c.reader.max
 
 -- IT HOLDS NO MORE THAN so many bytes, where it takes messages of at most M bytes and no unit that it sends is longer than m:
 -- 4,096 of input; M and 65,536 of messages in progress, with the unit of the call that waits; 32,768 of answers, of encoded
--- bytes and of the app; and m
+-- bytes, of the app and of the name that the call that waits asks for; and m
 abbrev pub most_held : ℕ → ℕ → ℕ
 most_held max m = 4096 + ((max + 65536) + (32768 + m))

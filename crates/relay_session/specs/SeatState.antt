@@ -1,12 +1,12 @@
 -- Where a session stands at the streams
 use Rattle.std.specs.Prelude.{◌≡◌, ◌≢◌, ◌⊎◌, ℕ, ◌<◌, ◌^◌, if◌then◌else◌, nat_eq, true, false, Bool, List, [], ◌∷◌, ◌++◌, reverse, Option, Some, None}
-use Rattle.stream_model.specs.declared.calls.StreamLimits.{StreamLimits}
+use Rattle.stream_model.specs.declared.calls.Shape.{Shape}
 use Rattle.stream_model.specs.declared.calls.Call.{Call}
 use Rattle.stream_model.specs.declared.calls.Call.TheVariants as call
 use Rattle.stream_model.specs.declared.calls.Entry.{Entry}
 use Rattle.stream_model.specs.declared.replies.Reply.{Reply}
 use Rattle.stream_model.specs.declared.replies.Reply.TheVariants as reply
-use Rattle.stream_model.specs.Answer as answer
+use Rattle.stream_model.specs.Shape.{shape_reply}
 use Rattle.turn_gate.specs.Histories.{Begins}
 use Rattle.stream_registry.specs.Names.{PortRules}
 use Rattle.stream_registry.specs.Told.{Step, Histories, Keeps, Rose, risen}
@@ -70,6 +70,7 @@ active_after (reply.Began n) a = active.Publishes
 active_after (reply.Joined player from) a = active.Plays player
 active_after (reply.InUse by) a = active.Nothing
 active_after reply.Full a = active.Nothing
+active_after (reply.NoSlot slots) a = active.Nothing
 active_after (reply.Ended n) a = active.Nothing
 active_after (reply.Left player) a = active.Nothing
 active_after (reply.Pushed n) a = a
@@ -86,6 +87,7 @@ is_over (reply.Began n) = false
 is_over (reply.Joined player from) = false
 is_over (reply.InUse by) = true
 is_over reply.Full = true
+is_over (reply.NoSlot slots) = true
 is_over (reply.Ended n) = true
 is_over (reply.Left player) = true
 is_over (reply.Pushed n) = false
@@ -138,7 +140,7 @@ abbrev pub known : {P Q : Type 0} → (P → Histories) → (Q → List Step) �
 known root seen port s = known_if seen (root port) s.spot
 
 -- all its calls stand in what is known, and it is granted what they say
-pub record IsStanding {Q : Type 0} (limits : ℕ → StreamLimits) (histories : Histories) (s : SeatState Q) : Type 0 where
+pub record IsStanding {Q : Type 0} (limits : ℕ → Shape) (histories : Histories) (s : SeatState Q) : Type 0 where
   pub calls : AllStand limits histories s.visits
   pub granted : IsActive s.spot s.active s.visits
 
@@ -151,11 +153,11 @@ pub record GoOn (histories later : Histories) : Type 0 where
 
 -- A call stands in what is then known of a place, once, behind all that the root and the seat had known of it. Its reply is
 -- the rules', after what stands before it, and all that keeps the rules
-pub record Noted (limits : StreamLimits) (root known : List Step) (step : Step) (known' : List Step) : Type 0 where
+pub record Noted (limits : Shape) (root known : List Step) (step : Step) (known' : List Step) : Type 0 where
   pub before : List Step
   pub root_first : Begins root before
   pub known_first : Begins known before
-  pub reply_is : step.1 ≡ answer.reply limits (reverse before) step.0
+  pub reply_is : step.1 ≡ shape_reply limits (reverse before) step.0
   pub within : Begins (before ++ step ∷ []) known'
   pub lawful : Keeps limits (before ++ step ∷ [])
 
@@ -176,7 +178,7 @@ Calls entry (made.Worn e) calls calls' = calls' ≡ calls
 Calls entry (made.OutOfMemory e) calls calls' = calls' ≡ calls
 
 -- what its history says of it
-abbrev pub IsNoted : StreamLimits → List Step → List Step → Entry → Made → List Step → Type 0
+abbrev pub IsNoted : Shape → List Step → List Step → Entry → Made → List Step → Type 0
 IsNoted limits root known entry (made.Answer r) known' = Noted limits root known (entry, r) known'
 IsNoted limits root known entry (made.Busy e) known' = Unit {0}
 IsNoted limits root known entry (made.Worn e) known' = Unit {0}

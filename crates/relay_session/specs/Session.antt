@@ -102,8 +102,8 @@ outbound_by o m = outbound_in o (control_in m)
 -- the place that a Begin or Join names, or the one before
 abbrev pub place_of : Option ℕ → Option Act → Option ℕ
 place_of place None = place
-place_of place (Some (act.Begin p)) = Some p
-place_of place (Some (act.Join p)) = Some p
+place_of place (Some (act.Begin p name)) = Some p
+place_of place (Some (act.Join p name)) = Some p
 place_of place (Some (act.Push unit)) = place
 place_of place (Some act.End) = place
 place_of place (Some (act.Leave player)) = place
@@ -127,6 +127,7 @@ item_in (reply.NotPublisher live) = None
 item_in (reply.Ended n) = None
 item_in (reply.Joined player from) = None
 item_in reply.Full = None
+item_in (reply.NoSlot slots) = None
 item_in reply.NotPlayer = None
 item_in (reply.Skip from to) = None
 item_in (reply.NotYet end) = None

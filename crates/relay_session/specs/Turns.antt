@@ -71,6 +71,7 @@ is_not_yet (reply.NotPublisher live) = false
 is_not_yet (reply.Ended n) = false
 is_not_yet (reply.Joined player from) = false
 is_not_yet reply.Full = false
+is_not_yet (reply.NoSlot slots) = false
 is_not_yet reply.NotPlayer = false
 is_not_yet (reply.Sent from n item) = false
 is_not_yet (reply.Skip from to) = false

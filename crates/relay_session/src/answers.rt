@@ -78,8 +78,8 @@ fn place_after(place: Option<u32>, act: &Option<Act>) -> Option<u32>
 {
     match act {
         None => place,
-        Some(Act::Begin(at)) => Some(*at),
-        Some(Act::Join(at)) => Some(*at),
+        Some(Act::Begin { place: at, name: _ }) => Some(*at),
+        Some(Act::Join { place: at, name: _ }) => Some(*at),
         Some(Act::Push(_)) => place,
         Some(Act::End) => place,
         Some(Act::Leave(_)) => place,
@@ -224,6 +224,7 @@ fn item_of(reply: Reply) -> Option<Item>
         Reply::Ended { .. } => None,
         Reply::Joined { .. } => None,
         Reply::Full => None,
+        Reply::NoSlot { .. } => None,
         Reply::NotPlayer => None,
         Reply::Skip { .. } => None,
         Reply::NotYet { .. } => None,

@@ -1,3 +1,4 @@
+ghost use Rattle.stream_registry.specs.Names.{places};
 ghost use Rattle.std.specs.Prelude.{◌≡◌, [], length, None, Some, Result};
 ghost use Rattle.command_dialog.specs.State.{playing_in};
 ghost use Rattle.command_dialog.specs.declared.types.Ask.{Ask};
@@ -36,6 +37,7 @@ fn finds_nothing(reply: &Reply) -> bool
         Reply::Ended { .. } => false,
         Reply::Joined { .. } => false,
         Reply::Full => false,
+        Reply::NoSlot { .. } => false,
         Reply::NotPlayer => false,
         Reply::Sent { .. } => false,
         Reply::Skip { .. } => false,
@@ -59,9 +61,9 @@ pub(crate) fn make<P: StreamPort>(
     alloc: Global,
     entry: Entry,
 ) -> Result<bool, End>
-    requires at { IsAt (P.fits port.old) (length (P.rules port.old).names) (waiting body.old.core entry) body.old.seat }
+    requires at { IsAt (P.fits port.old) (places (P.rules port.old)) (waiting body.old.core entry) body.old.seat }
     requires sound { IsSteady (waiting body.old.core entry) }
-    ensures at { IsAt (P.fits port.new) (length (P.rules port.new).names) body.new.core body.new.seat }
+    ensures at { IsAt (P.fits port.new) (places (P.rules port.new)) body.new.core body.new.seat }
     ensures sound { LivesTried body.new.core result }
     ensures stands { (desk : Ask → Grant) → StandsBefore desk (waiting body.old.core entry) → LeavesTried desk body.new.core result }
     ensures fixed { P.rules port.new ≡ P.rules port.old }
@@ -100,12 +102,12 @@ pub(crate) fn take<P: StreamPort>(
     playing: &Playing,
     moved: bool,
 ) -> Turn
-    requires at { IsAt (P.fits port.old) (length (P.rules port.old).names) body.old.core body.old.seat }
+    requires at { IsAt (P.fits port.old) (places (P.rules port.old)) body.old.core body.old.seat }
     requires sound { IsSteady body.old.core }
     requires open { body.old.core.kept ≡ None }
     requires plays { playing_in body.old.core.dialog.phase ≡ Some playing.now }
     requires nothing { pending body.old.core.outgoing ≡ [] }
-    ensures at { IsAt (P.fits port.new) (length (P.rules port.new).names) body.new.core body.new.seat }
+    ensures at { IsAt (P.fits port.new) (places (P.rules port.new)) body.new.core body.new.seat }
     ensures sound { Lives body.new.core result }
     ensures stands { (desk : Ask → Grant) → StandsBefore desk body.old.core → Leaves desk body.new.core result }
     ensures taken { TakeAsked (Asked P.fits P.rules P.root P.seen P.count P.wants P.busies)

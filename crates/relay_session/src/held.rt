@@ -1,5 +1,5 @@
 ghost use Rattle.std.specs.Prelude.{◌≡◌, ◌≤◌, length};
-ghost use Rattle.relay_session.specs.Bounds.{HasRoom, IsLight, call_bytes, kept_bytes};
+ghost use Rattle.relay_session.specs.Bounds.{HasRoom, IsLight, call_bytes, kept_bytes, kept_name, name_bytes};
 ghost use Rattle.relay_session.specs.Holding.{HandFits, IsHolding, most_held};
 ghost use Rattle.relay_session.specs.Owing.{pending};
 
@@ -13,6 +13,8 @@ fn call_bytes(call: &Call) -> usize
 {
     match call {
         Call::Push(unit) => unit.unit().body.len(),
+        Call::BeginAs(_) => 0,
+        Call::JoinAs(_) => 0,
         Call::Begin => 0,
         Call::End => 0,
         Call::Join => 0,
@@ -32,6 +34,35 @@ fn kept_bytes(kept: &Option<Entry>) -> usize
     }
 }
 
+// How many bytes the name has that a call asks for.
+fn name_bytes(call: &Call) -> usize
+    ensures value { result ≡ name_bytes call.now }
+    ensures most { result ≤ 64 }
+{
+    match call {
+        Call::BeginAs(name) => name.as_slice().len(),
+        Call::JoinAs(name) => name.as_slice().len(),
+        Call::Push(_) => 0,
+        Call::Begin => 0,
+        Call::End => 0,
+        Call::Join => 0,
+        Call::Take { .. } => 0,
+        Call::Leave { .. } => 0,
+        Call::Count => 0,
+    }
+}
+
+// The same of the call that waits, if there is one.
+fn kept_name(kept: &Option<Entry>) -> usize
+    ensures value { result ≡ kept_name kept.now }
+    ensures most { result ≤ 64 }
+{
+    match kept {
+        None => 0,
+        Some(entry) => name_bytes(&entry.call),
+    }
+}
+
 /// How many bytes a session with this input holds.
 pub(crate) fn held_in(core: &Core, input: &Input) -> u64
     requires room { HasRoom core.now.reader core.now.kept }
@@ -42,12 +73,13 @@ pub(crate) fn held_in(core: &Core, input: &Input) -> u64
 {
     let app = core.dialog.held();
     let kept = kept_bytes(&core.kept) as u64;
+    let name = kept_name(&core.kept) as u64;
     let unit = core.outgoing.unit_len() as u64;
     let later = core.outgoing.later().len() as u64;
     let ready = core.outgoing.ready().len() as u64;
     let parts = core.reader.held();
     let input = input.left().len() as u64;
-    app + kept + unit + later + ready + parts + input
+    app + kept + name + unit + later + ready + parts + input
 }
 
 /// How many bytes a session is to send.

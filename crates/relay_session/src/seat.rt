@@ -1,3 +1,4 @@
+ghost use Rattle.stream_registry.specs.Names.{places};
 ghost use Rattle.std.specs.Prelude.{◌≡◌, ◌≢◌, ◌<◌, ◌≤◌, ℕ, [], length, None, Some};
 ghost use Rattle.relay_session.specs.declared.seat_answers.Active.TheVariants.{Nothing};
 ghost use Rattle.relay_session.specs.SeatVisits.{calls_of};
@@ -36,9 +37,11 @@ fn active_by(reply: &Reply, active: Active) -> Active
     match reply {
         Reply::Began { .. } => Active::Publishes,
         Reply::Joined { player, .. } => Active::Plays { player: *player },
-        Reply::InUse { .. } | Reply::Full | Reply::Ended { .. } | Reply::Left { .. } => {
-            Active::Nothing
-        }
+        Reply::InUse { .. }
+        | Reply::Full
+        | Reply::NoSlot { .. }
+        | Reply::Ended { .. }
+        | Reply::Left { .. } => Active::Nothing,
         Reply::Pushed { .. }
         | Reply::NotPublisher { .. }
         | Reply::NotPlayer
@@ -54,7 +57,11 @@ fn over(reply: &Reply) -> bool
     ensures { result ≡ is_over reply.now }
 {
     match reply {
-        Reply::InUse { .. } | Reply::Full | Reply::Ended { .. } | Reply::Left { .. } => true,
+        Reply::InUse { .. }
+        | Reply::Full
+        | Reply::NoSlot { .. }
+        | Reply::Ended { .. }
+        | Reply::Left { .. } => true,
         Reply::Began { .. }
         | Reply::Joined { .. }
         | Reply::Pushed { .. }
@@ -135,7 +142,7 @@ impl<P: StreamPort> Seat<P> {
     /// Comes to a place, from the one where it is.
     fn enter(&mut self, port: &mut P, place: u32)
         requires fit { HasFit (P.fits port.old) self.old.spot }
-        requires place { CanCome self.old.spot (length (P.rules port.old).names) place }
+        requires place { CanCome self.old.spot (places (P.rules port.old)) place }
         ensures fit { HasFit (P.fits port.new) self.new.spot }
         ensures spot { place_of self.new.spot ≡ Some place }
         ensures active { self.new.active ≡ active_at self.old.spot self.old.active place }
@@ -232,11 +239,11 @@ impl<P: StreamPort> Seat<P> {
         }
     }
 
-    /// Makes one call at a place. It comes to that place first, and leaves it where the reply is InUse, Full, Ended or Left. A
+    /// Makes one call at a place. It comes to that place first, and leaves it where the reply is InUse, Full, NoSlot, Ended or Left. A
     /// call that isn't made comes back, and the seat stays there: for another try, or for none.
     pub fn make(&mut self, port: &mut P, place: u32, entry: Entry) -> Made
         requires fit { HasFit (P.fits port.old) self.old.spot }
-        requires place { CanCome self.old.spot (length (P.rules port.old).names) place }
+        requires place { CanCome self.old.spot (places (P.rules port.old)) place }
         ensures fit { HasFit (P.fits port.new) self.new.spot }
         ensures spot { place_of self.new.spot ≡ stays place result }
         ensures active { self.new.active ≡ active_then result (active_at self.old.spot self.old.active place) }

@@ -1,4 +1,6 @@
-ghost use Rattle.std.specs.Prelude.{◌≡◌, ◌≢◌, ◌≤◌, ℕ, [], length, true, false, Some, None};
+ghost use Rattle.stream_registry.specs.Names.{places};
+ghost use Rattle.std.specs.Prelude.{◌≡◌, ◌≢◌, ◌≤◌, ℕ, [], length, true, false, Some, None, is_some};
+ghost use Rattle.std.specs.Option.{option_copied};
 ghost use Rattle.ack_window.specs.Outbound.{new_out};
 ghost use Rattle.command_dialog.specs.declared.types.Ask.{Ask};
 ghost use Rattle.command_dialog.specs.declared.types.Grant.{Grant};
@@ -20,7 +22,8 @@ use crate::held::{held_in, pending_in};
 use crate::input::Input;
 use crate::six_steps::kept_on;
 use crate::steps::new_core;
-use crate::{Desk, End, Leaving, Seat, Turn};
+use crate::{Active, Desk, End, Leaving, Seat, Turn};
+use command_dialog::App;
 use relay_base::Limits;
 use relay_outside::Link;
 use std::alloc::Global;
@@ -100,9 +103,9 @@ impl<P: StreamPort> Session<P> {
         link: &mut L,
         desk: &D,
     ) -> Turn
-        requires at { IsAt (P.fits port.old) (length (P.rules port.old).names) self.old.parts self.old.seat }
-        requires offered { IsOffered (D.grants desk.now) (length (P.rules port.old).names) }
-        ensures at { IsAt (P.fits port.new) (length (P.rules port.new).names) self.new.parts self.new.seat }
+        requires at { IsAt (P.fits port.old) (places (P.rules port.old)) self.old.parts self.old.seat }
+        requires offered { IsOffered (D.grants desk.now) (places (P.rules port.old)) }
+        ensures at { IsAt (P.fits port.new) (places (P.rules port.new)) self.new.parts self.new.seat }
         ensures turn { EndedBy (Asked P.fits P.rules P.root P.seen P.count P.wants P.busies) (D.grants desk.now) L.hears L.says self.old.ended self.old.quit
             (life_at self.old port.old) link.old result (life_at self.new port.new) link.new }
         ensures goes_on { GoesOn P.fits P.rules P.root P.seen P.busies port.old self.old.seat port.new self.new.seat }
@@ -190,6 +193,27 @@ impl<P: StreamPort> Session<P> {
         ensures { (desk : Ask → Grant) → StandsFor desk self.now → BeginsOwed desk self.now.parts }
     {
         let _ = &self.ended;
+    }
+
+    /// What it was granted where it is.
+    pub fn active(&self) -> Active
+        ensures { result ≡ self.now.seat.active }
+    {
+        self.body.seat.active()
+    }
+
+    /// Whether a call of its waits for the stream to be free.
+    pub fn waits(&self) -> bool
+        ensures { result ≡ is_some self.now.parts.kept }
+    {
+        self.body.core.kept.is_some()
+    }
+
+    /// The application to which its peer has connected, if it has, where that is kept.
+    pub fn app(&self) -> Option<&App>
+        ensures { option_copied result ≡ self.now.parts.dialog.app }
+    {
+        self.body.core.dialog.app()
     }
 
     /// How many bytes of its peer's it was fed; of one that a byte ended, those before it.

@@ -1,4 +1,5 @@
 //! The six steps of a turn, the last first. Each function does one step and those after it.
+ghost use Rattle.stream_registry.specs.Names.{places};
 ghost use Rattle.std.specs.Prelude.{◌≡◌, ◌≤◌, ◌⊎◌, ◌||◌, [], length, take, true, None};
 ghost use Rattle.command_dialog.specs.declared.types.Ask.{Ask};
 ghost use Rattle.command_dialog.specs.declared.types.Grant.{Grant};
@@ -78,9 +79,9 @@ fn hungry(core: &Core) -> bool
 
 /// Step 6: one Take, where it is to be made.
 fn finish<P: StreamPort>(body: &mut Body<P>, port: &mut P, alloc: Global, moved: bool) -> Turn
-    requires at { IsAt (P.fits port.old) (length (P.rules port.old).names) body.old.core body.old.seat }
+    requires at { IsAt (P.fits port.old) (places (P.rules port.old)) body.old.core body.old.seat }
     requires sound { IsSteady body.old.core }
-    ensures at { IsAt (P.fits port.new) (length (P.rules port.new).names) body.new.core body.new.seat }
+    ensures at { IsAt (P.fits port.new) (places (P.rules port.new)) body.new.core body.new.seat }
     ensures sound { Lives body.new.core result }
     ensures stands { (desk : Ask → Grant) → StandsBefore desk body.old.core → Leaves desk body.new.core result }
     ensures turn { Taken (Asked P.fits P.rules P.root P.seen P.count P.wants P.busies)
@@ -98,9 +99,9 @@ fn finish<P: StreamPort>(body: &mut Body<P>, port: &mut P, alloc: Global, moved:
 
 /// The call that a message asked for, and step 6.
 fn make_on<P: StreamPort>(body: &mut Body<P>, port: &mut P, alloc: Global) -> Turn
-    requires at { IsAt (P.fits port.old) (length (P.rules port.old).names) body.old.core body.old.seat }
+    requires at { IsAt (P.fits port.old) (places (P.rules port.old)) body.old.core body.old.seat }
     requires sound { IsSteady body.old.core }
-    ensures at { IsAt (P.fits port.new) (length (P.rules port.new).names) body.new.core body.new.seat }
+    ensures at { IsAt (P.fits port.new) (places (P.rules port.new)) body.new.core body.new.seat }
     ensures sound { Lives body.new.core result }
     ensures stands { (desk : Ask → Grant) → StandsBefore desk body.old.core → Leaves desk body.new.core result }
     ensures turn { CalledBy (Asked P.fits P.rules P.root P.seen P.count P.wants P.busies) body.old.core.kept
@@ -123,12 +124,12 @@ fn feed_on<P: StreamPort, D: Desk>(
     alloc: Global,
     moved: bool,
 ) -> Turn
-    requires at { IsAt (P.fits port.old) (length (P.rules port.old).names) body.old.core body.old.seat }
+    requires at { IsAt (P.fits port.old) (places (P.rules port.old)) body.old.core body.old.seat }
     requires sound { IsSteady body.old.core }
-    requires offered { IsOffered (D.grants desk.now) (length (P.rules port.old).names) }
+    requires offered { IsOffered (D.grants desk.now) (places (P.rules port.old)) }
     requires open { body.old.core.kept ≡ None }
     requires hungry { is_hungry body.old.core ≡ true }
-    ensures at { IsAt (P.fits port.new) (length (P.rules port.new).names) body.new.core body.new.seat }
+    ensures at { IsAt (P.fits port.new) (places (P.rules port.new)) body.new.core body.new.seat }
     ensures sound { Lives body.new.core result }
     ensures stands { StandsBefore (D.grants desk.now) body.old.core → Leaves (D.grants desk.now) body.new.core result }
     ensures turn { Fed (Asked P.fits P.rules P.root P.seen P.count P.wants P.busies) (D.grants desk.now)
@@ -151,11 +152,11 @@ fn input_on<P: StreamPort, D: Desk, L: Link>(
     alloc: Global,
     moved: bool,
 ) -> Turn
-    requires at { IsAt (P.fits port.old) (length (P.rules port.old).names) body.old.core body.old.seat }
+    requires at { IsAt (P.fits port.old) (places (P.rules port.old)) body.old.core body.old.seat }
     requires sound { IsSteady body.old.core }
-    requires offered { IsOffered (D.grants desk.now) (length (P.rules port.old).names) }
+    requires offered { IsOffered (D.grants desk.now) (places (P.rules port.old)) }
     requires open { body.old.core.kept ≡ None }
-    ensures at { IsAt (P.fits port.new) (length (P.rules port.new).names) body.new.core body.new.seat }
+    ensures at { IsAt (P.fits port.new) (places (P.rules port.new)) body.new.core body.new.seat }
     ensures sound { Lives body.new.core result }
     ensures stands { StandsBefore (D.grants desk.now) body.old.core → Leaves (D.grants desk.now) body.new.core result }
     ensures turn { FromInput (Asked P.fits P.rules P.root P.seen P.count P.wants P.busies) (D.grants desk.now) L.hears
@@ -188,11 +189,11 @@ fn send_on<P: StreamPort, D: Desk, L: Link>(
     alloc: Global,
     moved: bool,
 ) -> Turn
-    requires at { IsAt (P.fits port.old) (length (P.rules port.old).names) body.old.core body.old.seat }
+    requires at { IsAt (P.fits port.old) (places (P.rules port.old)) body.old.core body.old.seat }
     requires sound { IsSteady body.old.core }
-    requires offered { IsOffered (D.grants desk.now) (length (P.rules port.old).names) }
+    requires offered { IsOffered (D.grants desk.now) (places (P.rules port.old)) }
     requires open { body.old.core.kept ≡ None }
-    ensures at { IsAt (P.fits port.new) (length (P.rules port.new).names) body.new.core body.new.seat }
+    ensures at { IsAt (P.fits port.new) (places (P.rules port.new)) body.new.core body.new.seat }
     ensures sound { Lives body.new.core result }
     ensures stands { StandsBefore (D.grants desk.now) body.old.core → Leaves (D.grants desk.now) body.new.core result }
     ensures turn { Sent (Asked P.fits P.rules P.root P.seen P.count P.wants P.busies) (D.grants desk.now) L.hears L.says
@@ -226,11 +227,11 @@ fn quit_on<P: StreamPort, D: Desk, L: Link>(
     quit: bool,
     moved: bool,
 ) -> Turn
-    requires at { IsAt (P.fits port.old) (length (P.rules port.old).names) body.old.core body.old.seat }
+    requires at { IsAt (P.fits port.old) (places (P.rules port.old)) body.old.core body.old.seat }
     requires sound { IsSteady body.old.core }
-    requires offered { IsOffered (D.grants desk.now) (length (P.rules port.old).names) }
+    requires offered { IsOffered (D.grants desk.now) (places (P.rules port.old)) }
     requires open { body.old.core.kept ≡ None }
-    ensures at { IsAt (P.fits port.new) (length (P.rules port.new).names) body.new.core body.new.seat }
+    ensures at { IsAt (P.fits port.new) (places (P.rules port.new)) body.new.core body.new.seat }
     ensures sound { Lives body.new.core result }
     ensures stands { StandsBefore (D.grants desk.now) body.old.core → Leaves (D.grants desk.now) body.new.core result }
     ensures turn { QuitBy (Asked P.fits P.rules P.root P.seen P.count P.wants P.busies) (D.grants desk.now) L.hears L.says quit
@@ -251,10 +252,10 @@ pub(crate) fn kept_on<P: StreamPort, D: Desk, L: Link>(
     alloc: Global,
     quit: bool,
 ) -> Turn
-    requires at { IsAt (P.fits port.old) (length (P.rules port.old).names) body.old.core body.old.seat }
+    requires at { IsAt (P.fits port.old) (places (P.rules port.old)) body.old.core body.old.seat }
     requires sound { IsSteady body.old.core }
-    requires offered { IsOffered (D.grants desk.now) (length (P.rules port.old).names) }
-    ensures at { IsAt (P.fits port.new) (length (P.rules port.new).names) body.new.core body.new.seat }
+    requires offered { IsOffered (D.grants desk.now) (places (P.rules port.old)) }
+    ensures at { IsAt (P.fits port.new) (places (P.rules port.new)) body.new.core body.new.seat }
     ensures sound { Lives body.new.core result }
     ensures stands { StandsBefore (D.grants desk.now) body.old.core → Leaves (D.grants desk.now) body.new.core result }
     ensures turn { KeptBy (Asked P.fits P.rules P.root P.seen P.count P.wants P.busies) (D.grants desk.now) L.hears L.says body.old.core.kept quit

@@ -1,11 +1,11 @@
 -- What the sessions of a soak were sent begins what they owe
-use Rattle.std.proofs.Common.{◌≡◌, ℕ, zero, suc, ◌%◌, ◌==◌, Bool, true, false, List, [], ◌∷◌, ◌++◌, refl, sym, ap, subst}
+use Rattle.std.proofs.Common.{◌≡◌, ℕ, zero, suc, ◌%◌, ◌==◌, Bool, true, false, List, [], ◌∷◌, ◌++◌, refl, sym, subst}
 use Rattle.std.specs.Prelude.{codes}
 use Rattle.relay_script.specs.declared.replay.ReplayLine.TheVariants.{Limits, Stream, Session, Piece, Turn}
 use Rattle.relay_replay.specs.Scenes.{Does, SceneState, start}
 use Rattle.relay_replay.specs.Served.{AreServed, IsServedIn}
 use Rattle.relay_replay.specs.Stand.{Stand, allows}
-use Rattle.relay_replay.proofs.Serving.{acts_served, cast_served, does_served, settled_served}
+use Rattle.relay_replay.proofs.Serving.{acts_served, cast_served, does_served, settled_served, stand_desk}
 use Rattle.relay_soak.specs.Clients.{first_input, play, publish}
 use Rattle.relay_soak.specs.Runs.{Act, Printed, Runs, given, joining, most_turns, opening, plays, turn_by, turn_if, unit_acts, units}
 use Rattle.relay_soak.specs.Units.{piece}
@@ -24,11 +24,11 @@ both_keep xs ys f g s t r k = let m = runs_apart xs ys s t r in g m.0 t m.1.1 (f
 
 given_keep : (n : ℕ) (bytes : List ℕ) → Keeps (given n bytes)
 given_keep n bytes s t r k =
-    let told = acts_served (Piece n bytes) s r.0 (ap (λ (x : Stand). x.places) r.1.0.stand) r.1.0.cast k in
+    let told = acts_served (Piece n bytes) s r.0 (stand_desk s r.0 _ r.1.0.stand (refl, refl)) r.1.0.cast k in
     subst AreServed (sym r.1.1.1.1) (settled_served true most_turns n r.0 r.1.1.0 r.1.1.1.0 told)
 
 turn_keeps : (b : Bool) (p : ℕ) → Keeps (turn_by b p)
-turn_keeps true p s t r k = subst AreServed (sym r.1.1) (acts_served (Turn p 1) s r.0 (ap (λ (x : Stand). x.places) r.1.0.stand) r.1.0.cast k)
+turn_keeps true p s t r k = subst AreServed (sym r.1.1) (acts_served (Turn p 1) s r.0 (stand_desk s r.0 _ r.1.0.stand (refl, refl)) r.1.0.cast k)
 turn_keeps false p s t r k = subst AreServed (sym r) k
 
 unit_keeps : (i : ℕ) → Keeps (unit_acts i)
@@ -48,7 +48,7 @@ joining_keeps =
     (both_keep (plays 2) (plays 3) (given_keep 2 (first_input play)) (given_keep 3 (first_input play))))
 
 session_served : (s t : SceneState) → Does Session s t → AreServed s → AreServed t
-session_served s t d k = acts_served Session s t (ap (λ (x : Stand). x.places) d.stand) d.cast k
+session_served s t d k = acts_served Session s t (stand_desk s t _ d.stand (refl, refl)) d.cast k
 
 opening_served : (t : SceneState) → Runs opening start t → AreServed t
 opening_served t r =

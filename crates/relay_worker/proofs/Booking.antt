@@ -24,7 +24,7 @@ use Rattle.session_owed.specs.Talk.{Own, hand_bytes}
 use Rattle.session_owed.specs.Talks.{Talks}
 use Rattle.stream_model.specs.declared.calls.Call.{Call}
 use Rattle.stream_model.specs.declared.calls.Entry.{Entry}
-use Rattle.stream_model.specs.declared.calls.StreamLimits.{StreamLimits}
+use Rattle.stream_model.specs.declared.calls.Shape.{Shape}
 use Rattle.stream_model.specs.declared.replies.Reply.{Reply}
 use Rattle.stream_registry.specs.Names.{PortRules}
 use Rattle.stream_registry.specs.Told.{Step, Histories}
@@ -92,15 +92,15 @@ module _ {Q : Type 0} where
   nothing_granted None visits = refl
   nothing_granted (Some p) visits = tt
 
-  active_of : (spot : Option (ℕ × Q)) (place : ℕ) (a : Active) (visits : List Visit) → place_of spot ≡ Some place → HasGrant spot a visits → IsActive spot a visits
+  pub active_of : (spot : Option (ℕ × Q)) (place : ℕ) (a : Active) (visits : List Visit) → place_of spot ≡ Some place → HasGrant spot a visits → IsActive spot a visits
   active_of None place a visits at g = absurd (let n : None ≡ Some place = at in cc)
   active_of (Some p) place a visits at g = g
 
-  granted_of : (spot : Option (ℕ × Q)) (a : Active) (visits : List Visit) → IsActive spot a visits → HasGrant spot a visits
+  pub granted_of : (spot : Option (ℕ × Q)) (a : Active) (visits : List Visit) → IsActive spot a visits → HasGrant spot a visits
   granted_of None a visits g = tt
   granted_of (Some p) a visits g = g
 
-  nowhere : (spot : Option (ℕ × Q)) → place_of spot ≡ None → spot ≡ None
+  pub nowhere : (spot : Option (ℕ × Q)) → place_of spot ≡ None → spot ≡ None
   nowhere None at = refl
   nowhere (Some p) at = absurd (let n : Some p.0 ≡ None = at in cc)
 
@@ -120,7 +120,7 @@ module _ {P Q : Type 0} (rules : P → PortRules) (root : P → Histories) (seen
   limits_on x y h visits same a = subst (λ (r : PortRules). AllStand r.limits h visits) (sym same) a
 
   -- others have made calls
-  calls_on : (x y : P) (s : SeatState Q) → rules y ≡ rules x → GoOn (root x) (root y) → AllStand (rules x).limits (known root seen x s) s.visits → AllStand (rules y).limits (known root seen y s) s.visits
+  pub calls_on : (x y : P) (s : SeatState Q) → rules y ≡ rules x → GoOn (root x) (root y) → AllStand (rules x).limits (known root seen x s) s.visits → AllStand (rules y).limits (known root seen y s) s.visits
   calls_on x y s same g c =
       let still : SeatState Q = record { spot = s.spot; active = active.Nothing; visits = s.visits } in
       (others_later (rules x) (rules y) seen (root x) (root y) still same g (record { calls = c; granted = nothing_granted s.spot s.visits })).calls
@@ -172,18 +172,18 @@ made_more : (place : ℕ) (e : Entry) (r : Reply) (visits visits' : List Visit) 
 made_more place e r visits visits' m = ap calls_of m ∙ reverse-append ((e, r) ∷ []) (map (λ (v : Visit). v.1) visits)
 
 -- these calls and those made since, by which it is leaving
-record Since (waited : Option Entry) (calls : List Own) (visits : List Visit) (kept : Option Entry) : Type 0 where
-  left : List Own
-  calls_are : calls_of visits ≡ calls ++ left
-  leaving : WaitsOrMade waited kept left
+pub record Since (waited : Option Entry) (calls : List Own) (visits : List Visit) (kept : Option Entry) : Type 0 where
+  pub left : List Own
+  pub calls_are : calls_of visits ≡ calls ++ left
+  pub leaving : WaitsOrMade waited kept left
 
 -- these calls and those by which it has left
-record Went (waited : Option Entry) (calls : List Own) (visits : List Visit) : Type 0 where
-  left : List Own
-  calls_are : calls_of visits ≡ calls ++ left
-  left_by : LeavesBy waited left
+pub record Went (waited : Option Entry) (calls : List Own) (visits : List Visit) : Type 0 where
+  pub left : List Own
+  pub calls_are : calls_of visits ≡ calls ++ left
+  pub left_by : LeavesBy waited left
 
-abbrev LeftAs : Bool → Option Entry → List Own → List Visit → Option Entry → Type 0
+abbrev pub LeftAs : Bool → Option Entry → List Own → List Visit → Option Entry → Type 0
 LeftAs true waited calls visits kept = Went waited calls visits
 LeftAs false waited calls visits kept = Since waited calls visits kept
 
@@ -246,15 +246,15 @@ left_by leaving.Worn waited kept calls who place fed a visits kept' a' visits' t
 left_by leaving.Busy waited kept calls who place fed a visits kept' a' visits' t s = since_or waited kept calls place a visits a' visits' kept' t s
 left_by leaving.OutOfMemory waited kept calls who place fed a visits kept' a' visits' t s = since_or waited kept calls place a visits a' visits' kept' t s
 
-left_from : (o : Option ℕ) (r : Leaving) (waited kept : Option Entry) (calls : List Own) (who fed : ℕ) (a : Active) (visits : List Visit) (kept' : Option Entry) (a' : Active) (visits' : List Visit) → LeavesFrom o who fed kept a visits r kept' a' visits'
+pub left_from : (o : Option ℕ) (r : Leaving) (waited kept : Option Entry) (calls : List Own) (who fed : ℕ) (a : Active) (visits : List Visit) (kept' : Option Entry) (a' : Active) (visits' : List Visit) → LeavesFrom o who fed kept a visits r kept' a' visits'
     → Since waited calls visits kept → LeftAs (has_left r) waited calls visits' kept'
 left_from None r waited kept calls who fed a visits kept' a' visits' t s =
     subst (λ (q : Leaving). LeftAs (has_left q) waited calls visits' kept') (sym t.0) (went_so waited kept' calls visits' (since_same waited calls visits visits' kept kept' t.1 t.2 s))
 left_from (Some place) r waited kept calls who fed a visits kept' a' visits' t s = left_by r waited kept calls who place fed a visits kept' a' visits' t s
 
 -- after further calls of its own
-record Grows (who : ℕ) (visits : List Visit) (kept : Option Entry) (visits' : List Visit) (kept' : Option Entry) : Type 0 where
-  owns : Owns who visits kept → Owns who visits' kept'
+pub record Grows (who : ℕ) (visits : List Visit) (kept : Option Entry) (visits' : List Visit) (kept' : Option Entry) : Type 0 where
+  pub owns : Owns who visits kept → Owns who visits' kept'
 
 grows_same : (who : ℕ) (visits : List Visit) (kept : Option Entry) (visits' : List Visit) (kept' : Option Entry) → visits' ≡ visits → kept' ≡ kept → Grows who visits kept visits' kept'
 grows_same who visits kept visits' kept' v k = record {
@@ -297,7 +297,7 @@ grows_by leaving.Worn who place fed kept a visits kept' a' visits' t = grows_or 
 grows_by leaving.Busy who place fed kept a visits kept' a' visits' t = grows_or who place kept a visits a' visits' kept' t
 grows_by leaving.OutOfMemory who place fed kept a visits kept' a' visits' t = grows_or who place kept a visits a' visits' kept' t
 
-grows_from : (o : Option ℕ) (who fed : ℕ) (kept : Option Entry) (a : Active) (visits : List Visit) (r : Leaving) (kept' : Option Entry) (a' : Active) (visits' : List Visit) → LeavesFrom o who fed kept a visits r kept' a' visits' → Grows who visits kept visits' kept'
+pub grows_from : (o : Option ℕ) (who fed : ℕ) (kept : Option Entry) (a : Active) (visits : List Visit) (r : Leaving) (kept' : Option Entry) (a' : Active) (visits' : List Visit) → LeavesFrom o who fed kept a visits r kept' a' visits' → Grows who visits kept visits' kept'
 grows_from None who fed kept a visits r kept' a' visits' t = grows_same who visits kept visits' kept' t.1 t.2
 grows_from (Some place) who fed kept a visits r kept' a' visits' t = grows_by r who place fed kept a visits kept' a' visits' t
 
@@ -305,7 +305,7 @@ grows_from (Some place) who fed kept a visits r kept' a' visits' t = grows_by r 
 
 module _ {P Q : Type 0} (fits : P → ℕ → Q → Type 0) (rules : P → PortRules) (root : P → Histories) (seen : Q → List Step) (count : Q → ℕ) (wants : Entry → Type 0) (busies : P → ℕ) where
   -- one that is nowhere
-  holds_nowhere : (x y : P) (s t : SeatState Q) → rules y ≡ rules x → GoOn (root x) (root y) → s.spot ≡ None → t.spot ≡ None → t.visits ≡ s.visits → Holds rules root seen x s → Holds rules root seen y t
+  pub holds_nowhere : (x y : P) (s t : SeatState Q) → rules y ≡ rules x → GoOn (root x) (root y) → s.spot ≡ None → t.spot ≡ None → t.visits ≡ s.visits → Holds rules root seen x s → Holds rules root seen y t
   holds_nowhere x y s t same g from at vis h =
       let here : (u : SeatState Q) (p : P) → u.spot ≡ None → known root seen p u ≡ root p = λ u p e. ap (λ (o : Option (ℕ × Q)). known root seen p (record { spot = o; active = u.active; visits = u.visits })) e in
       let before : AllStand (rules x).limits (root x) s.visits = subst (λ (h : Histories). AllStand (rules x).limits h s.visits) (here s x from) h.calls in
@@ -326,7 +326,7 @@ module _ {P Q : Type 0} (fits : P → ℕ → Q → Type 0) (rules : P → PortR
       record { calls = after.calls; granted = granted_of t.seat.spot t.seat.active t.seat.visits after.granted }
 
 -- it has left
-left_nowhere : (r : Leaving) (o : Option ℕ) → has_left r ≡ true → left_at r o ≡ None
+pub left_nowhere : (r : Leaving) (o : Option ℕ) → has_left r ≡ true → left_at r o ≡ None
 left_nowhere leaving.Done o e = refl
 left_nowhere leaving.Worn o e = refl
 left_nowhere leaving.Busy o e = absurd (let n : false ≡ true = e in cc)
@@ -391,11 +391,11 @@ owes_living told counts desk (Some e) c visits n w = absurd (let f : Some e ≡ 
 owes_over : (told : Option LinkTold) (counts : LinkCounts) (desk : Ask → Grant) (o : Option End) (e : End) (c : Core) (visits : List Visit) → o ≡ Some e → OwesBy told counts desk o c visits → HasStopped told counts desk e c visits
 owes_over told counts desk o e c visits is k = subst (λ (q : Option End). OwesBy told counts desk q c visits) is k
 
-or_first : (a b : Bool) → (a || b) ≡ false → a ≡ false
+pub or_first : (a b : Bool) → (a || b) ≡ false → a ≡ false
 or_first true b e = e
 or_first false b e = refl
 
-or_last : (a b : Bool) → (a || b) ≡ false → b ≡ false
+pub or_last : (a b : Bool) → (a || b) ≡ false → b ≡ false
 or_last true b e = absurd (let n : true ≡ false = e in cc)
 or_last false b e = e
 
@@ -420,11 +420,11 @@ unfilled_by (turn.Ended q) e = λ is.
     let f : false ≡ true = sym e ∙ ap wears_out n in cc
 
 -- a link place is free
-has_room : (n m : ℕ) (b : Bool) → (nat_lt n m && b) ≡ true → n < m
+pub has_room : (n m : ℕ) (b : Bool) → (nat_lt n m && b) ≡ true → n < m
 has_room n m b e = let f : nat_lt n m ≡ true = and_first (nat_lt n m) b e in grind arith
 
 -- what each step keeps, a walk keeps
-walked : {B : Type 0} (step : ℕ → B → B → Type 0) (K : B → Type 0) → ((key : ℕ) (b b' : B) → step key b b' → K b → K b') → (n : ℕ) (b b' : B) → Walks step n b b' → K b → K b'
+pub walked : {B : Type 0} (step : ℕ → B → B → Type 0) (K : B → Type 0) → ((key : ℕ) (b b' : B) → step key b b' → K b → K b') → (n : ℕ) (b b' : B) → Walks step n b b' → K b → K b'
 walked step K one zero b b' e k = subst K (sym e) k
 walked step K one (suc n) b b' t k = one n t.0 b' t.1.1 (walked step K one n b t.0 t.1.0 k)
 
@@ -600,14 +600,14 @@ module _ {P Q L : Type 0} (rules : P → PortRules) (root : P → Histories) (se
               (subst (λ (k : ℕ). IsCause (by k now.parts.reader.max) link_is.counts link_is.gave (length now.parts.x) e) l.window i.cause);
         }
 
-accounted_on : (desk : Ask → Grant) (t : Terms) (limits limits' : ℕ → StreamLimits) (h h' : Histories) (a : Account) → limits' ≡ limits → GoOn h h' → Accounted desk t limits h a → Accounted desk t limits' h' a
+accounted_on : (desk : Ask → Grant) (t : Terms) (limits limits' : ℕ → Shape) (h h' : Histories) (a : Account) → limits' ≡ limits → GoOn h h' → Accounted desk t limits h a → Accounted desk t limits' h' a
 accounted_on desk t limits limits' h h' a same g w = record {
   x = w.x;
   fed = w.fed;
   ms = w.ms;
   read = w.read;
   visits = w.visits;
-  stand = subst (λ (l : ℕ → StreamLimits). AllStand l h' w.visits) (sym same) (all_later limits h h' w.visits g w.stand);
+  stand = subst (λ (l : ℕ → Shape). AllStand l h' w.visits) (sym same) (all_later limits h h' w.visits g w.stand);
   own = w.own;
   calls = w.calls;
   waited = w.waited;
@@ -620,7 +620,7 @@ accounted_on desk t limits limits' h h' a same g w = record {
 }
 
 -- what is left of the books, where the histories went on
-pub settled_later : (desk : Ask → Grant) (t : Terms) (limits : ℕ → StreamLimits) (h h' : Histories) (door : DoorTold) (refused worn : Bool) → GoOn h h' → Settled desk t limits h door refused worn → Settled desk t limits h' door refused worn
+pub settled_later : (desk : Ask → Grant) (t : Terms) (limits : ℕ → Shape) (h h' : Histories) (door : DoorTold) (refused worn : Bool) → GoOn h h' → Settled desk t limits h door refused worn → Settled desk t limits h' door refused worn
 settled_later desk t limits h h' door refused worn g w = record {
   accounts = w.accounts;
   back_is = w.back_is;
@@ -864,7 +864,7 @@ module _ {P D Q L : Type 0} (rules : P → PortRules) (root : P → Histories) (
 
   kept_admitted : (link : L) (b b' : Bench P D Q L) → IsNewLink (told link) (counts link) → (doors b'.door).back ≡ (doors b.door).back → IsAdmitted t link b b' → slab_len b.sessions < t.links → Kept b → Kept b'
   kept_admitted link b b' new back a room k =
-      kept_more b b' a.key (record { session = a.came; link = link; over = false }) a.new new a.there a.count back (ap (λ (x : Bench P D Q L). x.had) a.same) (ap (λ (x : Bench P D Q L). x.refused) a.same) (ap (λ (x : Bench P D Q L). x.worn) a.same) (ap (λ (x : Bench P D Q L). x.port) a.same) room k
+      kept_more b b' a.key (record { session = a.came; link = link; over = false; asked = None }) a.new new a.there a.count back (ap (λ (x : Bench P D Q L). x.had) a.same) (ap (λ (x : Bench P D Q L). x.refused) a.same) (ap (λ (x : Bench P D Q L). x.worn) a.same) (ap (λ (x : Bench P D Q L). x.port) a.same) room k
 
   kept_at : (b b' : Bench P D Q L) → b'.sessions ≡ b.sessions → (doors b'.door).back ≡ (doors b.door).back → b'.had ≡ b.had → b'.refused ≡ b.refused → b'.worn ≡ b.worn → b'.port ≡ b.port → Kept b → Kept b'
   kept_at b b' same back had refused worn port k =
@@ -933,9 +933,9 @@ module _ {P D Q L : Type 0} (rules : P → PortRules) (root : P → Histories) (
         let w = k.works in
         let l = subst (λ (x : Bool). IsLeaving rules root seen told counts desk t fits count wants busies x b'.port e w.accounts s.link now) stays
         (leaving_of rules root seen told counts desk t fits count wants busies b.port b'.port e w.accounts s answer now n c (w.lives key s here)) in
-        kept_put b b' key s (record { session = now; link = s.link; over = true }) here i.there i.count (ap (λ (x : Bench P D Q L). (doors x.door).back) i.same) (ap (λ (x : Bench P D Q L). x.had) i.same)
+        kept_put b b' key s (record s { session = now; over = true }) here i.there i.count (ap (λ (x : Bench P D Q L). (doors x.door).back) i.same) (ap (λ (x : Bench P D Q L). x.had) i.same)
         (λ r. sym (ap (λ (x : Bench P D Q L). x.refused) i.same) ∙ r) (λ r. sym (ap (λ (x : Bench P D Q L). x.worn) i.same) ∙ r) c.fixed c.roots (ap (λ (g : Gone). g.who) (ap gone_but_kept c.parts)) k
-        (lives_left rules root seen told counts desk t fits count wants busies b'.port e w.accounts (record { session = now; link = s.link; over = true }) (c.ended ∙ ap (λ (o : Option End). Some (end_or_quit o)) n) l)
+        (lives_left rules root seen told counts desk t fits count wants busies b'.port e w.accounts (record s { session = now; over = true }) (c.ended ∙ ap (λ (o : Option End). Some (end_or_quit o)) n) l)
         (λ r. subst (λ (o : Option End). o ≢ Some end.OutOfMemory) (n ∙ sym (c.ended ∙ ap (λ (o : Option End). Some (end_or_quit o)) n))
         (w.unspent (sym (ap (λ (x : Bench P D Q L). x.refused) i.same) ∙ r) key s here))
         (λ r. subst (λ (o : Option End). o ≢ Some end.Worn) (n ∙ sym (c.ended ∙ ap (λ (o : Option End). Some (end_or_quit o)) n))

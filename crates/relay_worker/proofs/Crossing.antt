@@ -32,6 +32,7 @@ use Rattle.relay_outside.specs.declared.sink.Sink.{Ghosts as SinkGhosts}
 use Rattle.relay_worker.specs.contracts.bench.Seated as Seated
 use Rattle.relay_worker.specs.contracts.bench.Terms as Terms
 use Rattle.relay_worker.specs.contracts.bench.Bench as Bench
+use Rattle.relay_worker.specs.contracts.telling.Request as Request
 use Rattle.relay_worker.specs.contracts.worker.Worker as Worker
 use Rattle.relay_worker.specs.contracts.recorder.Recorder as Rec
 use Rattle.slab.specs.contracts.Slab as Slab
@@ -109,6 +110,14 @@ ts_send P Q port q =
 slab_send : (S : RattleType) → IsSend S → IsSend (Slab.the_row S Heap.the_row heap)
 slab_send S s = search (sendable, crosses) depth 40 fits 20000
 
+request_send : IsSend Request.the_row
+request_send = search (sendable, crosses) depth 40 fits 20000
+
+request_field : IsSend (as_row (Option.the_field Request.the_row))
+request_field =
+    let r = request_send in
+    search (sendable, crosses) depth 40 fits 20000
+
 terms_send : IsSend Terms.the_row
 terms_send = search (sendable, crosses) depth 40 fits 20000
 
@@ -125,7 +134,8 @@ module _ (P Q : RattleType) (port : Ghosts P.Denot Q.Denot) where
   seated_send : (L : RattleType) → IsSend L → IsSend Q → IsSend (Seated.the_row P L Q port)
   seated_send L l q =
       let s = session_field q in
-      declared_send (Seated.the_type P L Q port) (search (sendable, crosses) depth 40 fits 20000, (search (sendable, crosses) depth 40 fits 20000, (search (sendable, crosses) depth 40 fits 20000, tt)))
+      let r = request_field in
+      declared_send (Seated.the_type P L Q port) (search (sendable, crosses) depth 40 fits 20000, (search (sendable, crosses) depth 40 fits 20000, (search (sendable, crosses) depth 40 fits 20000, (search (sendable, crosses) depth 40 fits 20000, tt))))
 
   bench_send : (D L : RattleType) → IsSend P → IsSend D → IsSend L → IsSend Q → IsSend (Bench.the_row P D Q L port)
   bench_send D L p d l q =

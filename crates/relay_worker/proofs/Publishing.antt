@@ -9,7 +9,7 @@ use Rattle.session_owed.specs.Talk.{Own}
 use Rattle.session_owed.proofs.Publishing.{published_are}
 use Rattle.stream_model.specs.declared.calls.Call.{Call}
 use Rattle.stream_model.specs.declared.calls.Entry.{Entry}
-use Rattle.stream_model.specs.declared.calls.StreamLimits.{StreamLimits}
+use Rattle.stream_model.specs.declared.calls.Shape.{Shape}
 use Rattle.stream_registry.specs.Told.{Histories}
 use Rattle.turn_gate.specs.Histories.{Begins}
 use Rattle.relay_session.specs.SeatVisits.{calls_of}
@@ -42,7 +42,7 @@ begins_after : (a b : List Media) (P Q : List Media) → Begins P Q → a ≡ b 
 begins_after a b P Q s e = (s.0, ap (λ (l : List Media). l ++ s.0) e ∙ (append_assoc b P s.0 ∙ ap (λ (l : List Media). b ++ l) s.1))
 
 -- THE UNITS THAT A SESSION PUSHED begin those that its messages publish
-pub published_begins : (desk : Ask → Grant) (t : Terms) (limits : ℕ → StreamLimits) (histories : Histories) (a : Account) (w : Accounted desk t limits histories a)
+pub published_begins : (desk : Ask → Grant) (t : Terms) (limits : ℕ → Shape) (histories : Histories) (a : Account) (w : Accounted desk t limits histories a)
     → Begins (pushed_by (calls_of w.visits)) (published (session a.who t.limits.window desk) w.ms w.calls)
 published_begins desk t limits histories a w =
     let d = session a.who t.limits.window desk in

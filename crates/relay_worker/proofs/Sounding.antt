@@ -10,7 +10,7 @@ use Rattle.relay_outside.specs.Doors.{DoorTold}
 use Rattle.media_recorder.specs.Ports.{FitsIf, Serves}
 use Rattle.relay_outside.specs.Told.{LinkTold, LinkCounts}
 use Rattle.stream_registry.specs.Told.{Histories}
-use Rattle.stream_registry.specs.Names.{PortRules}
+use Rattle.stream_registry.specs.Names.{PortRules, places}
 use Rattle.session_owed.specs.Standing.{Past}
 use Rattle.session_owed.specs.Talk.{Own}
 use Rattle.relay_session.specs.Places.{IsAt, IsOffered, IsThere}
@@ -47,7 +47,7 @@ pub named_more : (number had who : ℕ) → IsNamed number had who → IsNamed n
 named_more number had who n = record { from = n.from; to = let t = n.to in omega arith }
 
 module _ {Q : Type 0} where
-  fit_on : (fits fits' : ℕ → Q → Type 0) (spot : Option (ℕ × Q)) → ((q : ℕ) (p : Q) → fits q p → fits' q p) → HasFit fits spot → HasFit fits' spot
+  pub fit_on : (fits fits' : ℕ → Q → Type 0) (spot : Option (ℕ × Q)) → ((q : ℕ) (p : Q) → fits q p → fits' q p) → HasFit fits spot → HasFit fits' spot
   fit_on fits fits' None on f = tt
   fit_on fits fits' (Some p) on f = on p.0 p.1 f
 
@@ -62,9 +62,9 @@ module _ {P Q : Type 0} (fits : P → ℕ → Q → Type 0) (rules : P → PortR
     pub passes : (q : ℕ) (p : Q) → fits x q p → fits y q p
 
 module _ {P Q L : Type 0} (fits : P → ℕ → Q → Type 0) (rules : P → PortRules) where
-  pub at_on : (x y : P) (number had : ℕ) (s : Seated P L Q) → Goes fits rules x y → IsSeated (fits x) (length (rules x).names) number had s → IsSeated (fits y) (length (rules y).names) number had s
+  pub at_on : (x y : P) (number had : ℕ) (s : Seated P L Q) → Goes fits rules x y → IsSeated (fits x) (places (rules x)) number had s → IsSeated (fits y) (places (rules y)) number had s
   at_on x y number had s g i =
-      let same : length (rules y).names ≡ length (rules x).names = ap (λ (r : PortRules). length r.names) g.fixed in
+      let same : places (rules y) ≡ places (rules x) = ap places g.fixed in
       record {
         fit = fit_on (fits x) (fits y) s.session.seat.spot g.passes i.fit;
         at = λ n. let a = i.at n in record {
@@ -79,32 +79,32 @@ module _ {P Q L : Type 0} (fits : P → ℕ → Q → Type 0) (rules : P → Por
   -- ---- the sessions after a change at one key
 
   pub seated_put : (x y : P) (number had : ℕ) (old new : Slab (Seated P L Q)) (key : ℕ) (s' : Seated P L Q) → Goes fits rules x y → Updates old new key (Some s')
-      → IsSeated (fits y) (length (rules y).names) number had s'
-      → ((k : ℕ) (s : Seated P L Q) → get old k ≡ Some s → IsSeated (fits x) (length (rules x).names) number had s)
-      → (k : ℕ) (s : Seated P L Q) → get new k ≡ Some s → IsSeated (fits y) (length (rules y).names) number had s
+      → IsSeated (fits y) (places (rules y)) number had s'
+      → ((k : ℕ) (s : Seated P L Q) → get old k ≡ Some s → IsSeated (fits x) (places (rules x)) number had s)
+      → (k : ℕ) (s : Seated P L Q) → get new k ≡ Some s → IsSeated (fits y) (places (rules y)) number had s
   seated_put x y number had old new key s' g u i was k s at =
       elim (put_cases old new key s' u k s at) [
-        | inl e ↦ subst (λ (t : Seated P L Q). IsSeated (fits y) (length (rules y).names) number had t) (sym e.1) i
+        | inl e ↦ subst (λ (t : Seated P L Q). IsSeated (fits y) (places (rules y)) number had t) (sym e.1) i
         | inr d ↦ at_on x y number had s g (was k s d.1)
       ]
 
   pub seated_gone : (x y : P) (number had : ℕ) (old new : Slab (Seated P L Q)) (key : ℕ) → Goes fits rules x y → Updates old new key None
-      → ((k : ℕ) (s : Seated P L Q) → get old k ≡ Some s → IsSeated (fits x) (length (rules x).names) number had s)
-      → (k : ℕ) (s : Seated P L Q) → get new k ≡ Some s → IsSeated (fits y) (length (rules y).names) number had s
+      → ((k : ℕ) (s : Seated P L Q) → get old k ≡ Some s → IsSeated (fits x) (places (rules x)) number had s)
+      → (k : ℕ) (s : Seated P L Q) → get new k ≡ Some s → IsSeated (fits y) (places (rules y)) number had s
   seated_gone x y number had old new key g u was k s at = at_on x y number had s g (was k s (gone_cases old new key u k s at).1)
 
-  seated_had : (x : P) (number had : ℕ) (s : Seated P L Q) → IsSeated (fits x) (length (rules x).names) number had s → IsSeated (fits x) (length (rules x).names) number (had + 1) s
+  seated_had : (x : P) (number had : ℕ) (s : Seated P L Q) → IsSeated (fits x) (places (rules x)) number had s → IsSeated (fits x) (places (rules x)) number (had + 1) s
   seated_had x number had s i = record { fit = i.fit; at = i.at; over = i.over; named = named_more number had s.session.parts.who i.named }
 
   -- a new session, which is nowhere
-  pub seated_new : (x : P) (t : Terms) (had : ℕ) (s : Seated P L Q) → IsNewSession t had s.session → s.over ≡ false → IsSeated (fits x) (length (rules x).names) t.number (had + 1) s
+  pub seated_new : (x : P) (t : Terms) (had : ℕ) (s : Seated P L Q) → IsNewSession t had s.session → s.over ≡ false → IsSeated (fits x) (places (rules x)) t.number (had + 1) s
   seated_new x t had s n o =
       let fit : HasFit (fits x) s.session.seat.spot = subst (HasFit (fits x)) (sym n.nowhere.0) tt in
       record {
         fit = fit;
         at = λ e. record {
           fit = fit;
-          there = subst (IsThere (length (rules x).names)) (sym n.nowhere.2) tt;
+          there = subst (IsThere (places (rules x))) (sym n.nowhere.2) tt;
           calls = no_calls s.session.parts.calls s.session.seat.visits (ap (λ (p : Past). p.calls) n.past) n.nowhere.1;
         };
         over = o ∙ sym (ap is_some n.lives);
@@ -113,11 +113,11 @@ module _ {P Q L : Type 0} (fits : P → ℕ → Q → Type 0) (rules : P → Por
 
   pub seated_more : (x : P) (t : Terms) (had : ℕ) (old new : Slab (Seated P L Q)) (key : ℕ) (s' : Seated P L Q) → IsNewSession t had s'.session → s'.over ≡ false
       → Updates old new key (Some s')
-      → ((k : ℕ) (s : Seated P L Q) → get old k ≡ Some s → IsSeated (fits x) (length (rules x).names) t.number had s)
-      → (k : ℕ) (s : Seated P L Q) → get new k ≡ Some s → IsSeated (fits x) (length (rules x).names) t.number (had + 1) s
+      → ((k : ℕ) (s : Seated P L Q) → get old k ≡ Some s → IsSeated (fits x) (places (rules x)) t.number had s)
+      → (k : ℕ) (s : Seated P L Q) → get new k ≡ Some s → IsSeated (fits x) (places (rules x)) t.number (had + 1) s
   seated_more x t had old new key s' n o u was k s at =
       elim (put_cases old new key s' u k s at) [
-        | inl e ↦ subst (λ (y : Seated P L Q). IsSeated (fits x) (length (rules x).names) t.number (had + 1) y) (sym e.1) (seated_new x t had s' n o)
+        | inl e ↦ subst (λ (y : Seated P L Q). IsSeated (fits x) (places (rules x)) t.number (had + 1) y) (sym e.1) (seated_new x t had s' n o)
         | inr d ↦ seated_had x t.number had s (was k s d.1)
       ]
 
@@ -172,7 +172,7 @@ module _ {P D Q L : Type 0} (fits : P → ℕ → Q → Type 0) (rules : P → P
   -- a session is put back where it was
   pub sound_put : (t : Terms) (b b' : Bench P D Q L) (key : ℕ) (s s' : Seated P L Q) → IsSound fits rules doors t b → get b.sessions key ≡ Some s
       → Updates b.sessions b'.sessions key (Some s') → slab_len b'.sessions ≡ slab_len b.sessions → b'.sessions.capacity ≡ b.sessions.capacity
-      → Goes fits rules b.port b'.port → IsSeated (fits b'.port) (length (rules b'.port).names) t.number b.had s' → s'.session.parts.who ≡ s.session.parts.who
+      → Goes fits rules b.port b'.port → IsSeated (fits b'.port) (places (rules b'.port)) t.number b.had s' → s'.session.parts.who ≡ s.session.parts.who
       → b'.door ≡ b.door → b'.had ≡ b.had → b'.closed ≡ b.closed → IsSound fits rules doors t b'
   sound_put t b b' key s s' w here u len cap g i who door had closed = record {
     number = w.number;
@@ -182,7 +182,7 @@ module _ {P D Q L : Type 0} (fits : P → ℕ → Q → Type 0) (rules : P → P
     closed = ap (λ (d : D). (doors d).closed) door ∙ (w.closed ∙ sym closed);
     most = let m = w.most in omega (arith, len);
     room = let r = w.room in omega (arith, cap);
-    seated = λ k y at. subst (λ (h : ℕ). IsSeated (fits b'.port) (length (rules b'.port).names) t.number h y) (sym had)
+    seated = λ k y at. subst (λ (h : ℕ). IsSeated (fits b'.port) (places (rules b'.port)) t.number h y) (sym had)
         (seated_put fits rules b.port b'.port t.number b.had b.sessions b'.sessions key s' g u i w.seated k y at);
     single = single_put b.sessions b'.sessions key s s' here u who w.single;
   }
@@ -199,7 +199,7 @@ module _ {P D Q L : Type 0} (fits : P → ℕ → Q → Type 0) (rules : P → P
     closed = shut ∙ (w.closed ∙ sym closed);
     most = let m = w.most in omega (arith, len);
     room = let r = w.room in omega (arith, cap);
-    seated = λ k y at. subst (λ (h : ℕ). IsSeated (fits b'.port) (length (rules b'.port).names) t.number h y) (sym had)
+    seated = λ k y at. subst (λ (h : ℕ). IsSeated (fits b'.port) (places (rules b'.port)) t.number h y) (sym had)
         (seated_gone fits rules b.port b'.port t.number b.had b.sessions b'.sessions key g u w.seated k y at);
     single = single_gone b.sessions b'.sessions key u w.single;
   }
@@ -217,8 +217,8 @@ module _ {P D Q L : Type 0} (fits : P → ℕ → Q → Type 0) (rules : P → P
     closed = shut ∙ (w.closed ∙ sym closed);
     most = omega (arith, len, place);
     room = let r = w.room in omega (arith, cap);
-    seated = λ k y at. subst (λ (h : ℕ). IsSeated (fits b'.port) (length (rules b'.port).names) t.number h y) (sym had)
-        (subst (λ (x : P). IsSeated (fits x) (length (rules x).names) t.number (b.had + 1) y) (sym port)
+    seated = λ k y at. subst (λ (h : ℕ). IsSeated (fits b'.port) (places (rules b'.port)) t.number h y) (sym had)
+        (subst (λ (x : P). IsSeated (fits x) (places (rules x)) t.number (b.had + 1) y) (sym port)
         (seated_more fits rules b.port t b.had b.sessions b'.sessions key s' n o u w.seated k y at));
     single = single_more t.number b.had b.sessions b'.sessions key s' u n.who (λ k y at. (w.seated k y at).named) w.single;
   }
@@ -234,7 +234,7 @@ module _ {P D Q L : Type 0} (fits : P → ℕ → Q → Type 0) (rules : P → P
     closed = closed;
     most = let m = w.most in subst (λ (l : Slab (Seated P L Q)). slab_len l ≤ t.links) (sym same) m;
     room = subst (λ (l : Slab (Seated P L Q)). t.links ≤ l.capacity) (sym same) w.room;
-    seated = λ k y at. subst (λ (h : ℕ). IsSeated (fits b'.port) (length (rules b'.port).names) t.number h y) (sym had)
+    seated = λ k y at. subst (λ (h : ℕ). IsSeated (fits b'.port) (places (rules b'.port)) t.number h y) (sym had)
         (at_on fits rules b.port b'.port t.number b.had y g (w.seated k y (ap (λ (l : Slab (Seated P L Q)). get l k) (sym same) ∙ at)));
     single = subst (λ (l : Slab (Seated P L Q)). (j k : ℕ) (s u : Seated P L Q) → get l j ≡ Some s → get l k ≡ Some u → s.session.parts.who ≡ u.session.parts.who → j ≡ k) (sym same) w.single;
   }
@@ -308,12 +308,12 @@ module _ {P D Q L : Type 0} (told : L → Option LinkTold) (counts : L → LinkC
 
 module _ {P Q L : Type 0} where
   pub seated_turned : (fits : P → ℕ → Q → Type 0) (rules : P → PortRules) (y : P) (number had : ℕ) (s s' : Seated P L Q) → IsNamed number had s.session.parts.who → s'.session.parts.who ≡ s.session.parts.who
-      → IsAt (fits y) (length (rules y).names) s'.session.parts s'.session.seat → s'.over ≡ is_some s'.session.ended → IsSeated (fits y) (length (rules y).names) number had s'
+      → IsAt (fits y) (places (rules y)) s'.session.parts s'.session.seat → s'.over ≡ is_some s'.session.ended → IsSeated (fits y) (places (rules y)) number had s'
   seated_turned fits rules y number had s s' named who at over = record { fit = at.fit; at = λ n. at; over = over; named = subst (IsNamed number had) (sym who) named }
 
   -- one that was closed and is still there
   pub seated_left : (fits : P → ℕ → Q → Type 0) (rules : P → PortRules) (y : P) (number had : ℕ) (s s' : Seated P L Q) → IsNamed number had s.session.parts.who → s'.session.parts.who ≡ s.session.parts.who
-      → HasFit (fits y) s'.session.seat.spot → s'.over ≡ true → is_some s'.session.ended ≡ true → IsSeated (fits y) (length (rules y).names) number had s'
+      → HasFit (fits y) s'.session.seat.spot → s'.over ≡ true → is_some s'.session.ended ≡ true → IsSeated (fits y) (places (rules y)) number had s'
   seated_left fits rules y number had s s' named who fit over ended = record {
     fit = fit;
     at = λ n. absurd (let e : is_some s'.session.ended ≡ false = ap is_some n in let f : true ≡ false = sym ended ∙ e in cc);
@@ -368,8 +368,8 @@ module _ {P Q L : Type 0} where
   pub over_same : (o : Option (Seated P L Q)) (s u n : Seated P L Q) → Some s ≡ o → Some u ≡ o → s.over ≡ true → n ≡ record u { session = n.session } → n.over ≡ true
   over_same o s u n a b over is = ap (λ (x : Seated P L Q). x.over) is ∙ (ap (λ (x : Seated P L Q). x.over) (some_same u s (b ∙ sym a)) ∙ over)
 
-  pub left_is : (u n : Seated P L Q) → n ≡ record u { session = n.session } → n.over ≡ true → n ≡ record { session = n.session; link = u.link; over = true }
-  left_is u n is over = is ∙ ap (λ (x : Bool). record { session = n.session; link = u.link; over = x }) (sym (ap (λ (x : Seated P L Q). x.over) is) ∙ over)
+  pub left_is : (u n : Seated P L Q) → n ≡ record u { session = n.session } → n.over ≡ true → n ≡ record u { session = n.session; over = true }
+  left_is u n is over = is ∙ ap (λ (x : Bool). record u { session = n.session; over = x }) (sym (ap (λ (x : Seated P L Q). x.over) is) ∙ over)
 
 -- ---- recorders
 

@@ -131,7 +131,7 @@ ties_said (Some t) t' x input sent sent' b more is k = λ u e.
 ties_told : (t t' : Option LinkTold) (x input sent : List ℕ) → t' ≡ t → TiesBy None t x input sent → TiesBy None t' x input sent
 ties_told t t' x input sent is k = λ u e. k u (sym is ∙ e)
 
-some_nil : (l : List ℕ) → is_nil l ≡ false → 0 < length (take 16384 l)
+pub some_nil : (l : List ℕ) → is_nil l ≡ false → 0 < length (take 16384 l)
 some_nil [] e = absurd (let n : true ≡ false = e in cc)
 some_nil (b ∷ l) e = omega arith
 
@@ -139,7 +139,7 @@ nil_is : (l : List ℕ) → is_nil l ≡ true → l ≡ []
 nil_is [] e = refl
 nil_is (b ∷ l) e = absurd (let n : false ≡ true = e in cc)
 
-take_less : (n k : ℕ) (l : List ℕ) → n ≤ length (take k l) → take n (take k l) ≡ take n l
+pub take_less : (n k : ℕ) (l : List ℕ) → n ≤ length (take k l) → take n (take k l) ≡ take n l
 take_less zero k l le = refl
 take_less (suc n) zero l le = absurd (omega (arith, le))
 take_less (suc n) (suc k) [] le = absurd (omega (arith, le))
@@ -150,12 +150,12 @@ take_less (suc n) (suc k) (x ∷ l) le = ap (λ (y : List ℕ). x ∷ y) (take_l
 abbrev Own : ℕ → List Visit → Option Entry → Type 0
 Own who visits kept = Owns who visits kept
 
-owns_same : (who who' : ℕ) (v v' : List Visit) (k k' : Option Entry) → who' ≡ who → v' ≡ v → k' ≡ k → Owns who v k → Owns who' v' k'
+pub owns_same : (who who' : ℕ) (v v' : List Visit) (k k' : Option Entry) → who' ≡ who → v' ≡ v → k' ≡ k → Owns who v k → Owns who' v' k'
 owns_same who who' v v' k k' a b c o =
     subst (λ (w : ℕ). Owns w v' k') (sym a) (subst (λ (l : List Visit). Owns who l k') (sym b) (subst (λ (e : Option Entry). Owns who v e) (sym c) o))
 
 -- a call that was made, and none waits
-owns_made : (who who' : ℕ) (v v' : List Visit) (k k' : Option Entry) (place : ℕ) (e : Entry) (r : Reply) → who' ≡ who → v' ≡ (place, (e, r)) ∷ v → k' ≡ None → e.who ≡ who → Owns who v k → Owns who' v' k'
+pub owns_made : (who who' : ℕ) (v v' : List Visit) (k k' : Option Entry) (place : ℕ) (e : Entry) (r : Reply) → who' ≡ who → v' ≡ (place, (e, r)) ∷ v → k' ≡ None → e.who ≡ who → Owns who v k → Owns who' v' k'
 owns_made who who' v v' k k' place e r a b c named o =
     owns_same who who' ((place, (e, r)) ∷ v) v' None k' a b c
     (record { made = All-cons (λ (x : Visit). x.1.0.who ≡ who) (place, (e, r)) v named o.made; waits = λ f n. absurd (cc) })
@@ -170,7 +170,7 @@ owns_asked who who' n v k k' o a b w = subst (λ (x : ℕ). Owns x v k') (sym a)
 
 -- ---- ends
 
-rose_some : (before now : ℕ) → Rose before now → now ≢ 0
+pub rose_some : (before now : ℕ) → Rose before now → now ≢ 0
 rose_some before now r = λ z. let h = r.higher in omega (arith, h, z)
 
 -- nothing received is left to be fed

@@ -3,7 +3,7 @@ use Rattle.std.specs.Prelude.{◌≡◌, ◌<◌, ◌≤◌, ◌+◌, ◌*◌, �
 use Rattle.slab.specs.Slab.{get, slab_len}
 use Rattle.relay_outside.specs.Doors.{DoorTold}
 use Rattle.media_recorder.specs.Ports.{FitsIf}
-use Rattle.stream_registry.specs.Names.{PortRules}
+use Rattle.stream_registry.specs.Names.{PortRules, places}
 use Rattle.relay_session.specs.Places.{IsAt}
 use Rattle.relay_session.specs.SeatState.{HasFit}
 use Rattle.relay_worker.specs.declared.bench.Bench.{Bench}
@@ -56,7 +56,7 @@ module _ {P D Q L : Type 0} (fits : P → ℕ → Q → Type 0) (rules : P → P
     pub most : slab_len b.sessions ≤ t.links
     pub room : t.links ≤ b.sessions.capacity
     pub seated : (key : ℕ) (s : Seated P L Q) → get b.sessions key ≡ Some s
-        → IsSeated (fits b.port) (length (rules b.port).names) t.number b.had s
+        → IsSeated (fits b.port) (places (rules b.port)) t.number b.had s
     pub single : (j k : ℕ) (s u : Seated P L Q) → get b.sessions j ≡ Some s → get b.sessions k ≡ Some u
         → s.session.parts.who ≡ u.session.parts.who → j ≡ k
 

@@ -14,7 +14,7 @@ use Rattle.stream_model.specs.declared.calls.Call.{Call}
 use Rattle.stream_model.specs.declared.calls.Call.TheVariants as call
 use Rattle.stream_model.specs.declared.calls.Entry.{Entry}
 use Rattle.stream_model.specs.declared.replies.Reply.{Reply}
-use Rattle.stream_model.specs.declared.calls.StreamLimits.{StreamLimits}
+use Rattle.stream_model.specs.declared.calls.Shape.{Shape}
 use Rattle.stream_registry.specs.Names.{PortRules}
 use Rattle.stream_registry.specs.Told.{Step, Histories}
 use Rattle.turn_gate.specs.Histories.{Begins}
@@ -111,7 +111,7 @@ pub record Account : Type 0 where
 -- then those by which it left: so each unit that it pushed is one that its messages publish. What the link took begins what is
 -- owed before this desk for these bytes and the first of these calls. The bytes that the link gave are the cause of its end, where
 -- these messages and calls had left its dialogue
-pub record Accounted (desk : Ask → Grant) (t : Terms) (limits : ℕ → StreamLimits) (histories : Histories) (a : Account) : Type 0 where
+pub record Accounted (desk : Ask → Grant) (t : Terms) (limits : ℕ → Shape) (histories : Histories) (a : Account) : Type 0 where
   pub x : List ℕ
   pub fed : Begins x a.link.gave
   pub ms : List (ℕ × Message)
@@ -215,7 +215,7 @@ module _ {P D Q L : Type 0} (rules : P → PortRules) (root : P → Histories) (
 -- of its own. Where nothing was refused for want of memory, they are as many as the door gave, they came back in an order in which
 -- no more were out at a time than there are link places, and no session ended by that. Where no session found a history full, none
 -- ended by that
-pub record Settled (desk : Ask → Grant) (t : Terms) (limits : ℕ → StreamLimits) (histories : Histories)
+pub record Settled (desk : Ask → Grant) (t : Terms) (limits : ℕ → Shape) (histories : Histories)
     (door : DoorTold) (refused worn : Bool) : Type 0 where
   pub accounts : List Account
   pub back_is : (list : List Returned) → door.back ≡ Some list → list ≡ map (λ a. a.link) accounts

@@ -39,7 +39,7 @@ pub record IsAdmitted {P D Q L : Type 0} (t : Terms) (link : L) (b b' : Bench P 
   pub free : get b.sessions key ≡ None
   pub came : SessionState Q
   pub new : IsNewSession t b.had came
-  pub there : Updates b.sessions b'.sessions key (Some (record { session = came; link = link; over = false }))
+  pub there : Updates b.sessions b'.sessions key (Some (record { session = came; link = link; over = false; asked = None }))
   pub count : slab_len b'.sessions ≡ slab_len b.sessions + 1
   pub same : b' ≡ record b { door = b'.door; sessions = b'.sessions; had = b.had + 1; moved = true }
 
@@ -126,7 +126,7 @@ module _ {P D Q L : Type 0} (told : L → Option LinkTold) (counts : L → LinkC
 
   -- it is still there with its link, and is closed again in the next round
   pub record IsLeft (key : ℕ) (s : Seated P L Q) (now : SessionState Q) (b b' : Bench P D Q L) : Type 0 where
-    pub there : Updates b.sessions b'.sessions key (Some (record { session = now; link = s.link; over = true }))
+    pub there : Updates b.sessions b'.sessions key (Some (record s { session = now; over = true }))
     pub count : slab_len b'.sessions ≡ slab_len b.sessions
     pub same : b' ≡ record b { port = b'.port; sessions = b'.sessions }
 

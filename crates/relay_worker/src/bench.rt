@@ -1,5 +1,6 @@
 //! What a worker has in hand: its port, its door, and its sessions with their links.
 ghost use Rattle.std.specs.Prelude.{◌≡◌, ◌≢◌, All, length, map, true, None, is_some};
+ghost use Rattle.stream_registry.specs.Names.{places};
 ghost use Rattle.relay_session.specs.Onward.{GoesOn};
 ghost use Rattle.relay_session.specs.Places.{Asked, IsAt, IsOffered};
 ghost use Rattle.relay_session.specs.SeatState.{HasFit};
@@ -13,12 +14,14 @@ ghost use Rattle.relay_worker.specs.Sessions.{Closes, TakesTurn, is_moved, is_sp
 
 use crate::recorder::Recorder;
 use crate::round::Round;
+use crate::telling::{Before, NotingDesk, Request, told};
 use media_recorder::{RecEnd, RecTurn};
 use relay_base::Limits;
 use relay_outside::{Door, Knock, Link, Rest, Sink};
 use relay_session::{Desk, End, Leaving, Session, Turn, decided_law};
 use slab::Slab;
 use std::alloc::Global;
+use std::cell::Cell;
 use std::sync::Wait;
 use stream_registry::StreamPort;
 
@@ -30,29 +33,44 @@ pub struct Terms {
     pub limits: Limits,
 }
 
-/// A session with its link. `over` says that it has ended.
+/// A session with its link. `over` says that it has ended, `asked` what its peer has asked for that waits or was granted.
 #[derive(Drop)]
 pub struct Seated<P: StreamPort, L: Link> {
     pub session: Session<P>,
     pub link: L,
     pub over: bool,
+    pub asked: Option<Request>,
 }
 
 impl<P: StreamPort, L: Link> Seated<P, L> {
     // One turn of a session that lives.
     fn turn<G: Desk>(&mut self, alloc: Global, port: &mut P, desk: &G) -> Turn
         requires living { self.old.session.ended ≡ None }
-        requires at { IsAt (P.fits port.old) (length (P.rules port.old).names) self.old.session.parts self.old.session.seat }
-        requires offered { IsOffered (G.grants desk.now) (length (P.rules port.old).names) }
-        ensures at { IsAt (P.fits port.new) (length (P.rules port.new).names) self.new.session.parts self.new.session.seat }
+        requires at { IsAt (P.fits port.old) (places (P.rules port.old)) self.old.session.parts self.old.session.seat }
+        requires offered { IsOffered (G.grants desk.now) (places (P.rules port.old)) }
+        ensures at { IsAt (P.fits port.new) (places (P.rules port.new)) self.new.session.parts self.new.session.seat }
         ensures over { self.new.over ≡ is_some self.new.session.ended }
         ensures ahead { GoesAhead P.fits P.rules P.root port.old port.new }
         ensures turn { TakesTurn (Asked P.fits P.rules P.root P.seen P.count P.wants P.busies) (GoesOn P.fits P.rules P.root P.seen P.busies)
             (G.grants desk.now) L.hears L.says port.old self.old result port.new self.new }
     {
         decided_law();
-        let answer = self.session.turn(alloc, port, &mut self.link, desk);
+        let before = Before::of(&self.session);
+        let noting = NotingDesk {
+            inner: desk,
+            noted: Cell::new(None),
+        };
+        let answer = self.session.turn(alloc, port, &mut self.link, &noting);
         self.over = is_over(answer);
+        let NotingDesk { inner: _, noted } = noting;
+        self.asked = told(
+            &self.link,
+            &self.session,
+            before,
+            self.asked,
+            noted.into_inner(),
+            answer,
+        );
         answer
     }
 
@@ -199,6 +217,7 @@ impl<P: StreamPort, D: Door> Bench<P, D> {
                     session,
                     link,
                     over: false,
+                    asked: None,
                 });
                 self.had += 1;
                 self.moved = true;
@@ -221,7 +240,7 @@ impl<P: StreamPort, D: Door> Bench<P, D> {
         key: usize,
     )
         requires sound { IsSound P.fits P.rules D.told terms.now self.old }
-        requires offered { IsOffered (G.grants desk.now) (length (P.rules self.old.port).names) }
+        requires offered { IsOffered (G.grants desk.now) (places (P.rules self.old.port)) }
         ensures sound { IsSound P.fits P.rules D.told terms.now self.new }
         ensures ahead { GoesAhead P.fits P.rules P.root self.old.port self.new.port }
         ensures turns { TurnsAt (TakesTurn (Asked P.fits P.rules P.root P.seen P.count P.wants P.busies) (GoesOn P.fits P.rules P.root P.seen P.busies)
@@ -278,6 +297,7 @@ impl<P: StreamPort, D: Door> Bench<P, D> {
             session,
             link,
             over: _,
+            asked: _,
         } = seated;
         drop(session);
         self.moved = true;
@@ -296,7 +316,7 @@ impl<P: StreamPort, D: Door> Bench<P, D> {
         terms: &Terms,
     )
         requires sound { IsSound P.fits P.rules D.told terms.now self.old }
-        requires offered { IsOffered (G.grants desk.now) (length (P.rules self.old.port).names) }
+        requires offered { IsOffered (G.grants desk.now) (places (P.rules self.old.port)) }
         ensures sound { IsSound P.fits P.rules D.told terms.now self.new }
         ensures ahead { GoesAhead P.fits P.rules P.root self.old.port self.new.port }
         ensures turns { WalksAll (TurnsAt (TakesTurn (Asked P.fits P.rules P.root P.seen P.count P.wants P.busies)

@@ -10,6 +10,7 @@ mod laws;
 mod recorder;
 mod round;
 mod running;
+mod telling;
 mod worker;
 
 pub use bench::{Bench, Seated, Terms};
@@ -17,4 +18,5 @@ pub use laws::{published_law, settled_law};
 pub use recorder::{Form, Parted, Recorder};
 pub use round::Round;
 pub use running::run_all;
+pub use telling::Request;
 pub use worker::{Finished, Worker};

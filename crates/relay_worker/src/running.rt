@@ -1,5 +1,6 @@
 //! All workers at the same time.
 ghost use Rattle.std.specs.Prelude.{◌<◌, ℕ, All, length, slice_index_or};
+ghost use Rattle.stream_registry.specs.Names.{places};
 ghost use Rattle.relay_session.specs.Places.{IsOffered};
 ghost use Rattle.relay_worker.specs.Books.{HasBooks};
 ghost use Rattle.relay_worker.specs.Filed.{Tallies};
@@ -26,7 +27,7 @@ pub fn run_all<
 where
     P::Pass: Send,
     D::Link: Send,
-    requires offered { Each (λ w. IsOffered (G.grants desk.now) (length (P.rules w.bench.port).names)) workers.old }
+    requires offered { Each (λ w. IsOffered (G.grants desk.now) (places (P.rules w.bench.port))) workers.old }
     ensures run { All (λ w. HasRun D.told w) workers.new }
     ensures keeps { (i : ℕ) (d : _) → i < length workers.old
         → KeepsOn P.fits P.rules P.root (slice_index_or workers.old i d) (slice_index_or workers.new i d) }
@@ -42,7 +43,7 @@ where
         workers,
         count,
         &|_, worker: &mut Worker<P, D, R, K>|
-            requires { IsOffered (G.grants desk.now) (length (P.rules worker.old.bench.port).names) }
+            requires { IsOffered (G.grants desk.now) (places (P.rules worker.old.bench.port)) }
             ensures { HasRun D.told worker.new × KeepsOn P.fits P.rules P.root worker.old worker.new
                 × (All (Tallies P.count K.holds K.faults) worker.old.recorders → All (Tallies P.count K.holds K.faults) worker.new.recorders)
                 × (HasBooks P.rules P.root P.seen D.Link.told D.Link.counts D.told (G.grants desk.entry.now) worker.old

@@ -3,6 +3,7 @@ ghost use Rattle.std.specs.Prelude.{◌≡◌, ◌≤◌, ◌<◌, ◌^◌, [], 
 ghost use Rattle.command_dialog.specs.declared.types.Ask.{Ask};
 ghost use Rattle.command_dialog.specs.declared.types.Grant.{Grant};
 ghost use Rattle.slab.specs.Slab.{slab_len};
+ghost use Rattle.stream_registry.specs.Names.{places};
 ghost use Rattle.relay_outside.specs.Doors.{IsNewDoor};
 ghost use Rattle.relay_outside.specs.Heard.{Came, HearStep};
 ghost use Rattle.relay_outside.specs.Said.{SayStep};
@@ -155,7 +156,7 @@ impl<P: StreamPort, D: Door, R: Rest, K: Sink> Worker<P, D, R, K> {
     /// One round: the door is asked for a link where a place is free, each session takes one turn, each that has ended is
     /// closed, and each recorder takes one turn. Each desk that is handed in is to be the same.
     pub fn round<G: Desk>(&mut self, desk: &G) -> Round
-        requires offered { IsOffered (G.grants desk.now) (length (P.rules self.old.bench.port).names) }
+        requires offered { IsOffered (G.grants desk.now) (places (P.rules self.old.bench.port)) }
         ensures rounds { Rounds D.Link.told D.Link.counts D.told
             (TakesTurn (Asked P.fits P.rules P.root P.seen P.count P.wants P.busies) (GoesOn P.fits P.rules P.root P.seen P.busies)
             (G.grants desk.now) D.Link.hears D.Link.says)
@@ -181,7 +182,7 @@ impl<P: StreamPort, D: Door, R: Rest, K: Sink> Worker<P, D, R, K> {
 
     /// Rounds until the door has closed and no session lives, with a pause after each round in which nothing moved.
     pub fn run<W: Wait, G: Desk>(&mut self, rt: &W, desk: &G)
-        requires offered { IsOffered (G.grants desk.now) (length (P.rules self.old.bench.port).names) }
+        requires offered { IsOffered (G.grants desk.now) (places (P.rules self.old.bench.port)) }
         ensures keeps { KeepsOn P.fits P.rules P.root self.old self.new }
         ensures run { HasRun D.told self.new }
         ensures tallies { All (Tallies P.count K.holds K.faults) self.old.recorders → All (Tallies P.count K.holds K.faults) self.new.recorders }

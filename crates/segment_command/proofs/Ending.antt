@@ -1,14 +1,13 @@
 -- How the command ends
-use Rattle.std.proofs.Common.{◌≡◌, ◌⊎◌, ◌≤◌, ◌<◌, ◌+◌, ◌^◌, ℕ, Bool, true, false, List, [], ◌∷◌, ◌++◌, length, Option, Some, None, Result, Ok, Err, MatchResult, inl, inr, refl, sym, ap, ◌∙◌, subst, arith, append_assoc, append-nil, length-append}
+use Rattle.std.proofs.Common.{◌≡◌, ◌⊎◌, ◌≤◌, ◌<◌, ℕ, Bool, true, false, List, [], ◌∷◌, ◌++◌, length, Option, Some, None, inl, inr, refl, sym, ap, ◌∙◌, subst, arith, append_assoc, append-nil, length-append}
 use Rattle.std.proofs.lemmas.List.{append_cancel_right}
-use Rattle.std.specs.Io.KnownBytes.{IsAtEnd, append_known, prepend_known}
+use Rattle.std.specs.Io.KnownBytes.{IsAtEnd, append_known}
 use Rattle.relay_base.specs.declared.limits.Status.{Status}
-use Rattle.relay_outside.specs.Counts.{Rose}
 use Rattle.relay_outside.specs.Houses.{HouseTold}
 use Rattle.av_unit.specs.declared.item.Item.{Item}
 use Rattle.flv_tags.specs.declared.tag.Tag.{Tag}
 use Rattle.flv_tags.specs.Reads.{IsFile, Reads}
-use Rattle.file_commands.specs.Outcome.{IsReadTo, Seen, most_bytes, seen}
+use Rattle.file_commands.specs.Outcome.{IsReadTo, Seen, most_bytes}
 use Rattle.file_commands.specs.Written.{WritesPart}
 use Rattle.hls_segments.specs.Cuts.{segments, some_left_out}
 use Rattle.hls_segments.specs.Known.{Known}
@@ -17,11 +16,12 @@ use Rattle.segment_command.specs.declared.stop.Fault.{Fault}
 use Rattle.segment_command.specs.declared.stop.Fault.TheVariants.{Sink, House, Memory}
 use Rattle.segment_command.specs.declared.stop.End.{End}
 use Rattle.segment_command.specs.declared.stop.End.TheVariants.{Whole, Refused, TooMany, SourceFault}
-use Rattle.segment_command.specs.Words.{Asked, asked}
+use Rattle.segment_command.specs.Words.{Asked}
 use Rattle.segment_command.specs.Files.{Grew, GrewInPart, kept_files, texts}
-use Rattle.segment_command.specs.Shelves.{AreKept, HouseCause, IsSameHouse, IsUnbegun, PutCause, Settles}
-use Rattle.segment_command.specs.Outcome.{IsCode, IsCutOff, IsFirst, IsRefused, IsStopped, IsTooLong, IsTooMany, IsWhole, Outcome, WritesAll, WritesFirst, film, past_of}
-use Rattle.segment_command.specs.Parts.{CutSource, EndSource, FilmEnds, IsCut, IsCutTo, IsEndedSo, IsPartCut, IsPartRead, PartCause, WasRead, fault_status, list_of, status_of}
+use Rattle.segment_command.specs.Shelves.{AreKept, HouseCause, IsSameHouse, PutCause, Settles}
+use Rattle.segment_command.specs.Outcome.{IsCode, IsTooMany, IsWhole, Outcome, WritesAll, WritesFirst, film, past_of}
+use Rattle.segment_command.specs.Films.{IsCutOff, IsFirst, IsRefused, IsStopped, IsTooLong, WasRead}
+use Rattle.segment_command.specs.Parts.{CutSource, FilmEnds, IsCut, IsCutTo, IsEndedSo, IsPartCut, IsPartRead, PartCause, fault_status, list_of, status_of}
 use Rattle.segment_command.specs.declared.shelf.Pending.{Pending}
 use Rattle.segment_command.specs.Shelves.{StandsBy}
 use Rattle.segment_command.proofs.Reading.{prepend_none}

@@ -1,5 +1,5 @@
 -- What an item does to the files of segments
-use Rattle.std.proofs.Common.{◌≡◌, ◌≤◌, ◌<◌, ◌^◌, ℕ, zero, suc, ◌+◌, Bool, true, false, List, [], ◌∷◌, ◌++◌, length, take, drop, Option, Some, None, Result, Ok, Err, MatchResult, inl, inr, refl, sym, ap, ◌∙◌, subst, arith, append_assoc, append-nil, length-append}
+use Rattle.std.proofs.Common.{◌≡◌, ◌≤◌, ◌<◌, ◌^◌, ℕ, suc, Bool, true, false, List, [], ◌∷◌, ◌++◌, length, take, drop, Option, Some, None, inl, inr, refl, sym, ap, ◌∙◌, subst, arith, append_assoc, append-nil}
 use Rattle.std.specs.Prelude.{◌&&◌, not, nat_lt, if◌then◌else◌}
 use Rattle.std.specs.Option.{option_map}
 use Rattle.std.proofs.lemmas.Bool.Decides.{nat_tests}
@@ -19,14 +19,12 @@ use Rattle.hls_segments.specs.Cuts.{Segment, cut_by, cut_of, cut_unit, is_furthe
 use Rattle.hls_segments.specs.Known.{Known, given, refused}
 use Rattle.hls_segments.proofs.Texts.{begin_text, end_text, is_written, unwritten_text}
 use Rattle.segment_command.specs.declared.stop.Fault.{Fault}
-use Rattle.segment_command.specs.declared.stop.Fault.TheVariants.{Sink, House, Memory}
+use Rattle.segment_command.specs.declared.stop.Fault.TheVariants.{Memory}
 use Rattle.segment_command.specs.declared.stop.End.{End as FilmEnd}
-use Rattle.segment_command.specs.declared.stop.End.TheVariants.{Whole, Refused, TooMany, SourceFault}
-use Rattle.segment_command.specs.declared.stop.Stop.{Stop}
-use Rattle.segment_command.specs.declared.stop.Stop.TheVariants.{Ended, Broken}
+use Rattle.segment_command.specs.declared.stop.Stop.TheVariants.{Broken}
 use Rattle.segment_command.specs.declared.shelf.Pending.{Pending}
-use Rattle.segment_command.specs.Files.{Grew, kept_files, texts}
-use Rattle.segment_command.specs.Shelves.{AreKept, Breaks, FileSeen, Grown, IsSameHouse, Stands, StandsBy}
+use Rattle.segment_command.specs.Files.{texts}
+use Rattle.segment_command.specs.Shelves.{AreKept, Breaks, FileSeen, Grown, Stands, StandsBy}
 use Rattle.segment_command.specs.Parts.{GoesOn, ItemBreaks, ItemEnds, Stops, list_of, stop_of_cut}
 use Rattle.segment_command.proofs.Shelving.{count_stands, stands_then}
 

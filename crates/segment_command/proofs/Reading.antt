@@ -1,5 +1,5 @@
 -- A film that is read
-use Rattle.std.proofs.Common.{◌≡◌, ◌⊎◌, ◌-◌, ◌≤◌, ◌<◌, ◌+◌, ◌^◌, ℕ, Bool, true, false, List, [], ◌∷◌, ◌++◌, length, take, drop, Option, Some, None, is_some, Result, Ok, Err, MatchResult, inl, inr, refl, sym, ap, ◌∙◌, subst, arith, append_assoc, append-nil, length-append}
+use Rattle.std.proofs.Common.{◌≡◌, ◌⊎◌, ◌-◌, ◌≤◌, ◌<◌, ◌+◌, ℕ, List, [], ◌∷◌, ◌++◌, length, take, drop, Option, Some, None, Result, Ok, Err, MatchResult, inl, inr, refl, sym, ap, ◌∙◌, subst, arith, append_assoc, append-nil, length-append}
 use Rattle.std.specs.Prelude.{reverse}
 use Rattle.std.specs.List.{flat_map}
 use Rattle.std.specs.Option.{option_to_list}
@@ -15,11 +15,11 @@ use Rattle.flv_tags.specs.declared.fail.FlvFail.{FlvFail}
 use Rattle.flv_tags.specs.declared.fail.FlvFail.TheVariants.{BadHeader, BadTag, BadBack, OutOfMemory as TagMemory}
 use Rattle.flv_tags.specs.Known.{Known as TagsKnown}
 use Rattle.flv_tags.specs.Feeds.{IsFedTo, IsRefused, Stands as TagsStand}
-use Rattle.flv_tags.specs.Reads.{IsFile, Reads}
+use Rattle.flv_tags.specs.Reads.{Reads}
 use Rattle.flv_tags.specs.Stops.{Ends as TagsEnd, Stops as TagsStop}
 use Rattle.file_commands.specs.Outcome.{most_bytes}
 use Rattle.file_commands.specs.Remux.{items, items_of, place_of}
-use Rattle.hls_segments.specs.Cuts.{is_too_many, segments}
+use Rattle.hls_segments.specs.Cuts.{is_too_many}
 use Rattle.hls_segments.specs.Known.{Known}
 use Rattle.segment_command.specs.declared.stop.Fault.{Fault}
 use Rattle.segment_command.specs.declared.stop.Fault.TheVariants.{Sink, House, Memory}
@@ -28,10 +28,10 @@ use Rattle.segment_command.specs.declared.stop.End.TheVariants.{Whole, Refused, 
 use Rattle.segment_command.specs.declared.stop.Stop.{Stop}
 use Rattle.segment_command.specs.declared.stop.Stop.TheVariants.{Ended, Broken}
 use Rattle.segment_command.specs.declared.shelf.Pending.{Pending}
-use Rattle.segment_command.specs.Files.{texts}
-use Rattle.segment_command.specs.Shelves.{AreKept, Breaks, FileSeen, IsOfFile, StandsBy}
-use Rattle.segment_command.specs.Outcome.{IsCutOff, IsFirst, IsStopped, IsTooLong, IsTooMany, past_of}
-use Rattle.segment_command.specs.Parts.{CutSource, EndSource, FileEnds, FilmEnds, Fits, GoesOn, IsEndedBy, IsEndedSo, IsPartRead, IsReadSo, IsRefusedHere, ItemBreaks, ItemEnds, StepEnds, Stops, TagBreaks, TagEnds, TakeEnds, WasRead, ended, list_of, stop_of_tags}
+use Rattle.segment_command.specs.Shelves.{Breaks, FileSeen, IsOfFile, StandsBy}
+use Rattle.segment_command.specs.Outcome.{past_of}
+use Rattle.segment_command.specs.Films.{IsFirst, WasRead}
+use Rattle.segment_command.specs.Parts.{CutSource, EndSource, FileEnds, FilmEnds, Fits, GoesOn, IsEndedBy, IsEndedSo, IsPartRead, IsReadSo, IsRefusedHere, ItemBreaks, ItemEnds, StepEnds, Stops, TagBreaks, TagEnds, TakeEnds, ended, list_of, stop_of_tags}
 use Rattle.segment_command.proofs.Shelving.{stands_then}
 
 -- the reasons in other words

@@ -1,19 +1,16 @@
 -- The files of segments
-use Rattle.std.proofs.Common.{◌≡◌, ◌≤◌, ◌<◌, ◌^◌, ℕ, zero, suc, ◌+◌, Bool, true, false, List, [], ◌∷◌, ◌++◌, length, take, drop, Option, Some, None, Result, Ok, Err, MatchResult, inl, inr, refl, sym, ap, ◌∙◌, subst, arith, append_assoc, append-nil, length-append}
-use Rattle.std.specs.Prelude.{◌&&◌, not, nat_lt, if◌then◌else◌}
+use Rattle.std.proofs.Common.{◌≡◌, ℕ, zero, suc, ◌+◌, List, [], ◌∷◌, ◌++◌, length, Option, Some, None, Result, Ok, Err, MatchResult, inl, inr, refl, sym, ap, ◌∙◌, subst, arith, append_assoc, append-nil}
 use Rattle.std.specs.Option.{option_map}
 use Rattle.std.specs.Io.KnownBytes.{append_known}
-use Rattle.std.proofs.lemmas.Bool.Decides.{nat_tests}
-use Rattle.std.proofs.lemmas.List.{take-append-drop, take_at, drop_at}
 use Rattle.relay_outside.specs.Counts.{Rose}
 use Rattle.relay_outside.specs.Doors.{with_one}
-use Rattle.relay_outside.specs.Houses.{HouseTold, IsNewFile, Kept, Keeps, Refuses, Spoils, kept_file}
+use Rattle.relay_outside.specs.Houses.{HouseTold, IsNewFile, Kept, Keeps, Spoils, kept_file}
 use Rattle.file_commands.specs.Written.{WritesPart}
 use Rattle.hls_segments.specs.Playlist.{file_name}
 use Rattle.segment_command.specs.declared.stop.Fault.{Fault}
 use Rattle.segment_command.specs.declared.stop.Fault.TheVariants.{Sink, House, Memory}
-use Rattle.segment_command.specs.Files.{Grew, GrewByFirst, GrewByPart, GrewInPart, kept_files, whole_file}
-use Rattle.segment_command.specs.Shelves.{AreKept, Breaks, FileSeen, Holds, HouseCause, IsBegun, IsOfFile, IsPartBegun, IsPartKept, IsSameHouse, IsUnbegun, KeepsLast, OpenFails, PutCause, PutsAll, PutsPart, Settles, Stands, file_seen}
+use Rattle.segment_command.specs.Files.{Grew, GrewInPart, kept_files, whole_file}
+use Rattle.segment_command.specs.Shelves.{AreKept, Breaks, FileSeen, Holds, IsBegun, IsOfFile, IsPartBegun, IsPartKept, IsSameHouse, KeepsLast, OpenFails, PutCause, PutsAll, PutsPart, Settles, Stands, file_seen}
 
 -- ---- lists that grew
 

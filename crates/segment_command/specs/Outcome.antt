@@ -1,21 +1,20 @@
 -- HOW THE COMMAND ENDS
-use Rattle.std.specs.Prelude.{◌≡◌, ◌⊎◌, ◌≤◌, ◌<◌, ℕ, Bool, true, false, List, [], ◌∷◌, ◌++◌, length, reverse, Option, Some}
+use Rattle.std.specs.Prelude.{◌≡◌, ◌⊎◌, ◌≤◌, ℕ, Bool, true, false, List, [], ◌∷◌, ◌++◌, length, reverse, Some}
 use Rattle.std.specs.Io.KnownBytes.{append_known, IsAtEnd}
 use Rattle.relay_base.specs.declared.limits.Status.{Status}
 use Rattle.relay_outside.specs.Counts.{Rose}
 use Rattle.relay_outside.specs.Houses.{HouseTold}
 use Rattle.flv_tags.specs.declared.tag.Tag.{Tag}
-use Rattle.flv_tags.specs.declared.fail.FlvFail.{FlvFail}
 use Rattle.flv_tags.specs.Reads.{IsFile, Reads}
-use Rattle.flv_tags.specs.Stops.{Ends, Stops}
 use Rattle.av_unit.specs.declared.item.Item.{Item}
 use Rattle.file_commands.specs.Outcome.{IsReadTo, Seen, most_bytes}
 use Rattle.file_commands.specs.Written.{WritesPart}
-use Rattle.file_commands.specs.Remux.{items, items_of, place_of}
+use Rattle.file_commands.specs.Remux.{items, items_of}
 use Rattle.hls_segments.specs.Cuts.{Segment, is_too_many, segments, some_left_out}
 use Rattle.hls_segments.specs.Playlist.{playlist}
 use Rattle.segment_command.specs.Words.{Asked}
 use Rattle.segment_command.specs.Files.{Grew, GrewInPart, kept_files, texts}
+use Rattle.segment_command.specs.Films.{IsFirst, IsRefused}
 
 -- the items of a film: a Begin and the units of its tags; the newest first
 abbrev pub past_of : List Tag → List Item
@@ -35,47 +34,6 @@ abbrev pub WritesFirst : Asked → List Tag → Seen → Seen → HouseTold → 
 WritesFirst a tags old new house house' =
     (GrewInPart a.name (texts (film a tags)) house.kept house'.kept × (new.held ≡ old.held))
     ⊎ (Grew (kept_files a.name (texts (film a tags))) house.kept house'.kept × WritesPart (playlist a.name (film a tags)) old.held new.held)
-
--- some first bytes read as these tags
-pub record IsFirst (read : List ℕ) (tags : List Tag) : Type 0 where
-  pub front : List ℕ
-  pub behind : List ℕ
-  pub parts : read ≡ front ++ behind
-  pub rest : List ℕ
-  pub reads : Reads front tags rest
-
--- bytes that are refused: some first of them
-pub record IsStopped (file : List ℕ) (at : ℕ) (tags : List Tag) : Type 0 where
-  pub front : List ℕ
-  pub behind : List ℕ
-  pub parts : file ≡ front ++ behind
-  pub within : length front ≤ most_bytes
-  pub count : ℕ
-  pub cause : FlvFail
-  pub stops : Stops front count tags cause
-  pub place : at ≡ place_of cause
-
--- the end of all
-pub record IsCutOff (file : List ℕ) (at : ℕ) (tags : List Tag) : Type 0 where
-  pub within : length file ≤ most_bytes
-  pub cause : FlvFail
-  pub ends : Ends file tags cause
-  pub place : at ≡ place_of cause
-
--- or that they are too many
-pub record IsTooLong (file : List ℕ) (at : ℕ) (tags : List Tag) : Type 0 where
-  pub front : List ℕ
-  pub behind : List ℕ
-  pub parts : file ≡ front ++ behind
-  pub full : length front ≡ most_bytes
-  pub more : 0 < length behind
-  pub place : at ≡ most_bytes
-  pub rest : List ℕ
-  pub reads : Reads front tags rest
-
--- THE REFUSAL of a file: where it is refused, and the tags before
-abbrev pub IsRefused : List ℕ → ℕ → List Tag → Type 0
-IsRefused file at tags = IsStopped file at tags ⊎ (IsCutOff file at tags ⊎ IsTooLong file at tags)
 
 -- the first tags of a file, and one more whose unit would begin a segment more than there may be
 pub record IsTooMany (least : ℕ) (file : List ℕ) (tags : List Tag) : Type 0 where

@@ -1,9 +1,9 @@
 -- Only proofs and private functions use it.
 -- What the parts of the command do
-use Rattle.std.specs.Prelude.{◌≡◌, ◌⊎◌, ◌≤◌, ◌<◌, ℕ, Bool, true, false, List, [], ◌∷◌, ◌++◌, length, reverse, take, Option, Some, None, if◌then◌else◌}
+use Rattle.std.specs.Prelude.{◌≡◌, ◌⊎◌, ◌≤◌, ℕ, Bool, true, List, [], ◌∷◌, ◌++◌, length, reverse, Option, None, if◌then◌else◌}
 use Rattle.std.specs.declared.result.Result.{Result}
 use Rattle.std.specs.declared.result.Result.TheVariants.{Ok, Err}
-use Rattle.std.specs.Io.KnownBytes.{IsAtEnd, append_known, prepend_known}
+use Rattle.std.specs.Io.KnownBytes.{IsAtEnd}
 use Rattle.relay_base.specs.declared.limits.Status.{Status}
 use Rattle.relay_outside.specs.Counts.{Rose}
 use Rattle.relay_outside.specs.Houses.{HouseTold}
@@ -29,9 +29,10 @@ use Rattle.segment_command.specs.declared.stop.Stop.{Stop}
 use Rattle.segment_command.specs.declared.stop.Stop.TheVariants.{Ended, Broken}
 use Rattle.segment_command.specs.declared.shelf.Pending.{Pending}
 use Rattle.segment_command.specs.Words.{Asked}
-use Rattle.segment_command.specs.Files.{Grew, kept_files, texts}
+use Rattle.segment_command.specs.Files.{texts}
 use Rattle.segment_command.specs.Shelves.{Breaks, FileSeen, IsSameHouse, StandsBy}
-use Rattle.segment_command.specs.Outcome.{IsCutOff, IsFirst, IsStopped, IsTooLong, IsTooMany, WritesAll, WritesFirst, film, past_of}
+use Rattle.segment_command.specs.Outcome.{IsTooMany, WritesAll, WritesFirst, past_of}
+use Rattle.segment_command.specs.Films.{IsCutOff, IsFirst, IsStopped, IsTooLong, WasRead}
 
 abbrev pub stop_of_cut : CutFail → Stop
 stop_of_cut cutting.TooMany = Ended TooMany
@@ -137,10 +138,6 @@ FileEnds (Err (Ended SourceFault)) fed tags = ⊥
 FileEnds (Err (Broken Sink)) fed tags = ⊥
 FileEnds (Err (Broken House)) fed tags = ⊥
 FileEnds (Err (Broken Memory)) fed tags = Unit {0}
-
--- these bytes were read
-abbrev pub WasRead : List ℕ → Option (List ℕ) → Option (List ℕ) → Type 0
-WasRead read left now = left ≡ prepend_known read now
 
 -- HOW THE READING ENDS, where so much is left
 abbrev pub FilmEnds : ℕ → Option (List ℕ) → End → List ℕ → List Tag → Type 0

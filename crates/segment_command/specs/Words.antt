@@ -1,7 +1,7 @@
 -- The words of the command line
-use Rattle.std.specs.Prelude.{ℕ, Bool, ◌&&◌, if◌then◌else◌, List, [], ◌∷◌, codes, Option, Some, None}
+use Rattle.std.specs.Prelude.{ℕ, ◌&&◌, if◌then◌else◌, List, [], ◌∷◌, codes, Option, Some, None}
 use Rattle.relay_script.specs.Lines.{count_of, is_text}
-use Rattle.relay_script.specs.ReplayLines.{is_name}
+use Rattle.stream_model.specs.Names.{is_name}
 
 -- what is asked for: the name of the files, and the least span of a segment in milliseconds
 pub record Asked : Type 0 where

@@ -86,7 +86,7 @@ fn cut_tag<H: House>(
         (option_map (λ f. file_seen (H.File.holds f) (H.File.faults f)) file.new) start (H.told house.new)) }
 {
     let Tag { kind, time, body } = tag;
-    match unit_of(kind, time, body) {
+    match unit_of(kind, time, body, 0) {
         Some(unit) => {
             let item = Item::Unit(UnitArc::new(alloc, unit)?);
             cut_item(alloc, name, segmenter, pending, house, file, &item)

@@ -2,7 +2,7 @@
 ghost use Rattle.std.specs.Prelude.{◌≡◌, map};
 ghost use Rattle.std.specs.List.{list_all};
 ghost use Rattle.std.specs.Option.{option_map};
-ghost use Rattle.relay_script.specs.ReplayLines.{is_name, is_name_byte, within};
+ghost use Rattle.stream_model.specs.Names.{is_name, is_name_byte, within};
 ghost use Rattle.segment_command.specs.Words.{asked, asked_by, asked_of};
 
 use relay_script::count_of;

@@ -4,7 +4,7 @@ ghost use Rattle.key_guard.specs.Allowed.{is_allowed};
 ghost use Rattle.relay_outside.specs.MemDoors.{IsNewMemLink};
 
 use crate::waiting::WaitingHouse;
-use key_guard::{Grants, Guard, Guards, Mode, by_digest, by_name};
+use key_guard::{Grants, Guard, Guards, Mode, by_digest, by_name, by_named};
 use relay_outside::{House, MemDoor, MemHouse, MemLink, MemSink, MemSource};
 use relay_serve::serve;
 use std::alloc::{AllocError, Global};
@@ -14,6 +14,9 @@ use std::thread::Threads;
 
 const RECORDS: &[u8] =
     b"[relay]\nlisten = \"127.0.0.1:1935\"\nworkers = 2\naccept = 1\n[[stream]]\napp = \"live\"\nname = \"one\"\nflv = \"one.flv\"\nts = \"one.ts\"\n";
+
+const IS_OPEN: &[u8] =
+    b"[relay]\nlisten = \"127.0.0.1:1935\"\nworkers = 2\naccept = 1\n[[stream]]\napp = \"live\"\nname = \"two\"\n[[open]]\napp = \"live\"\nnames = 2\n";
 
 const KEEPS_NOTHING: &[u8] =
     b"[relay]\nlisten = \"127.0.0.1:1935\"\nworkers = 2\n[[stream]]\napp = \"live\"\nname = \"one\"\n";
@@ -32,17 +35,24 @@ const PUBLISHES: &[u8] =
 const FRAME: &[u8] = b"\x06\x00\x00\x00\x00\x00\x03\x08\x01\x00\x00\x00\xaf\x01\x21";
 
 // Whether the grants allow the key in mode `Plain`.
-fn is_named(grants: &Grants, key: &[u8]) -> bool
-    ensures { result ≡ is_allowed Mode.Plain grants.now key.now }
+fn is_plain(grants: &Grants, name: &[u8], key: &[u8]) -> bool
+    ensures { result ≡ is_allowed Mode.Plain grants.now name.now key.now }
 {
-    by_name(grants, key)
+    by_name(grants, name, key)
 }
 
 // Whether the grants allow the key in mode `Digest`.
-fn is_digested(grants: &Grants, key: &[u8]) -> bool
-    ensures { result ≡ is_allowed Mode.Digest grants.now key.now }
+fn is_digested(grants: &Grants, name: &[u8], key: &[u8]) -> bool
+    ensures { result ≡ is_allowed Mode.Digest grants.now name.now key.now }
 {
-    by_digest(grants, key)
+    by_digest(grants, name, key)
+}
+
+// Whether the grants allow the key for that name in mode `Named`.
+fn is_named(grants: &Grants, name: &[u8], key: &[u8]) -> bool
+    ensures { result ≡ is_allowed Mode.Named grants.now name.now key.now }
+{
+    by_named(grants, name, key)
 }
 
 fn words(alloc: Global) -> Result<Vec<Vec<u8>>, AllocError> {
@@ -67,8 +77,9 @@ fn served<T: Threads + Wait + Sync, H: House>(
     report: &mut MemSink,
 ) -> Result<u8, AllocError> {
     let guards = Guards::new(
-        Guard::new(Mode::Plain, Box::new(alloc, is_named)?),
+        Guard::new(Mode::Plain, Box::new(alloc, is_plain)?),
         Guard::new(Mode::Digest, Box::new(alloc, is_digested)?),
+        Guard::new(Mode::Named, Box::new(alloc, is_named)?),
     );
     let words = words(alloc)?;
     let mut config = source(alloc, config)?;
@@ -114,11 +125,12 @@ fn front(file: Option<&[u8]>) -> u8 {
     }
 }
 
-// Serves over a house whose first door has one such link. The calls of the house and of the door with these numbers fail. The
+// Serves by that configuration over a house whose first door has one such link. The calls of the house and of the door with these numbers fail. The
 // code, how the files begin, whether the link was sent more than the handshake's answer, and the report.
 fn told<T: Threads + Wait + Sync>(
     rt: &T,
     alloc: Global,
+    config: &[u8],
     frame: bool,
     fails: Vec<u64>,
     door_fails: Vec<u64>,
@@ -127,7 +139,7 @@ fn told<T: Threads + Wait + Sync>(
     let doors = vec![in alloc; MemDoor::new(alloc, links, door_fails)]?;
     let mut house = MemHouse::new(alloc, doors, fails);
     let mut report = MemSink::new(alloc, Vec::new(alloc));
-    let code = served(rt, alloc, RECORDS, &mut house, &mut report)?;
+    let code = served(rt, alloc, config, &mut house, &mut report)?;
     let sent = house.link_sent(0, 0).is_some_and(|sent| sent.len() > 3_073);
     let mut told = Vec::new(alloc);
     told.push(b'0'.saturating_add(code))?;
@@ -142,15 +154,35 @@ fn told<T: Threads + Wait + Sync>(
 fn serves_until_the_last_link_is_gone(rt: HostRuntime) -> Result<(), Fail> {
     let alloc = rt.alloc();
     let none = Vec::new(alloc);
-    let whole = told(&rt, alloc, false, none, Vec::new(alloc))?;
+    let whole = told(&rt, alloc, RECORDS, false, none, Vec::new(alloc))?;
     assert_eq!(rt;
         whole.as_slice(),
         b"0F0+stream 0 began 1 pushed 1 ended 1 joined 2 skips 0\n".as_slice()
     );
-    let recorded = told(&rt, alloc, true, Vec::new(alloc), vec![in alloc; 0]?)?;
+    let recorded = told(
+        &rt,
+        alloc,
+        RECORDS,
+        true,
+        Vec::new(alloc),
+        vec![in alloc; 0]?,
+    )?;
     assert_eq!(rt;
         recorded.as_slice(),
         b"0FG+stream 0 began 1 pushed 2 ended 1 joined 2 skips 0\n".as_slice()
+    );
+    Ok(())
+}
+
+// The name that is published was listed by nobody.
+#[test]
+fn an_open_table_has_its_line_behind_the_streams(rt: HostRuntime) -> Result<(), Fail> {
+    let alloc = rt.alloc();
+    let none = Vec::new(alloc);
+    let open = told(&rt, alloc, IS_OPEN, true, none, Vec::new(alloc))?;
+    assert_eq!(rt;
+        open.as_slice(),
+        b"0--+stream 0 began 0 pushed 0 ended 0 joined 0 skips 0\nopen 0 began 1 pushed 2 ended 1 joined 0 skips 0\n".as_slice()
     );
     Ok(())
 }
@@ -160,7 +192,14 @@ fn serves_until_the_last_link_is_gone(rt: HostRuntime) -> Result<(), Fail> {
 fn nobody_is_served_where_the_house_fails(rt: HostRuntime) -> Result<(), Fail> {
     let alloc = rt.alloc();
     for number in 0..6 {
-        let failed = told(&rt, alloc, true, vec![in alloc; number]?, Vec::new(alloc))?;
+        let failed = told(
+            &rt,
+            alloc,
+            RECORDS,
+            true,
+            vec![in alloc; number]?,
+            Vec::new(alloc),
+        )?;
         assert_eq!(rt; failed.as_slice(), b"7---".as_slice());
     }
     Ok(())

@@ -3,7 +3,7 @@ ghost use Rattle.std.specs.Prelude.{◌≡◌, None, false};
 ghost use Rattle.relay_outside.specs.Heard.{HearStep};
 ghost use Rattle.relay_outside.specs.Said.{SayStep};
 
-use relay_outside::{Door, Heard, House, Knock, Link, MemLink, MemRest, MemSink, Said};
+use relay_outside::{Door, Heard, House, Knock, Link, MemLink, MemRest, MemSink, News, Said};
 use std::alloc::{AllocError, Global};
 use std::marker::Model;
 use std::sync::Arc;
@@ -137,6 +137,10 @@ impl Link for WaitingLink {
             }
             Said::OutOfMemory => Said::OutOfMemory,
         }
+    }
+
+    fn tell(&self, _news: News, _app: &[u8], _name: &[u8]) {
+        let _ = &self.failed;
     }
 
     ghost hears_mean = { λ l room answer m some step. step };

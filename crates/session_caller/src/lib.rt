@@ -1,10 +1,11 @@
 //! Sessions that are turned as often as they need, and tests of whole sessions, over ports that threads share.
 #![tactic(auto)]
 
-ghost use Rattle.std.specs.Prelude.{◌≡◌, ◌≤◌, length};
+ghost use Rattle.std.specs.Prelude.{◌≡◌, ◌≤◌};
 ghost use Rattle.std.specs.Option.{IfSome};
 ghost use Rattle.relay_session.specs.Places.{Asked, IsAt, IsOffered};
 ghost use Rattle.relay_session.specs.SessionState.{StandsFor};
+ghost use Rattle.stream_registry.specs.Names.{places};
 ghost use Rattle.session_caller.specs.Often.{Often, moved_by};
 
 use relay_outside::Link;
@@ -38,9 +39,9 @@ pub fn turn_often<P: StreamPort, D: Desk, L: Link>(
     desk: &D,
     most: u64,
 ) -> u64
-    requires at { IsAt (P.fits port.old) (length (P.rules port.old).names) session.old.parts session.old.seat }
-    requires offered { IsOffered (D.grants desk.now) (length (P.rules port.old).names) }
-    ensures at { IsAt (P.fits port.new) (length (P.rules port.new).names) session.new.parts session.new.seat }
+    requires at { IsAt (P.fits port.old) (places (P.rules port.old)) session.old.parts session.old.seat }
+    requires offered { IsOffered (D.grants desk.now) (places (P.rules port.old)) }
+    ensures at { IsAt (P.fits port.new) (places (P.rules port.new)) session.new.parts session.new.seat }
     ensures stands { StandsFor (D.grants desk.now) session.old → StandsFor (D.grants desk.now) session.new }
     ensures fixed { P.rules port.new ≡ P.rules port.old }
     ensures turns { Often (Asked P.fits P.rules P.root P.seen P.count P.wants P.busies) (D.grants desk.now) L.hears L.says most

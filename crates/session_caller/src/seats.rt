@@ -1,12 +1,13 @@
 ghost use Rattle.std.specs.Prelude.{◌≡◌, ◌<◌, ℕ, length, IfOk};
 ghost use Rattle.relay_session.specs.SeatState.{HasFit};
+ghost use Rattle.stream_registry.specs.Names.{places};
 
 use av_unit::{Bytes, Kind, OutOfMemory, Unit, UnitArc, Want};
 use relay_session::{Leaving, Made, Seat};
 use std::alloc::Global;
 use std::test::Fail;
-use stream_model::{Call, Entry, Reply, StreamLimits};
-use stream_registry::{Name, NameList, Sole, StreamPort};
+use stream_model::{Call, Entry, Reply, ShortName, StreamLimits};
+use stream_registry::{Name, NameList, OpenList, Sole, StreamPort};
 
 const LIMITS: StreamLimits = StreamLimits {
     bytes: 1000,
@@ -14,7 +15,9 @@ const LIMITS: StreamLimits = StreamLimits {
     players: 1,
 };
 
-fn bytes(alloc: Global, text: &[u8]) -> Result<Bytes, OutOfMemory> {
+fn bytes(alloc: Global, text: &[u8]) -> Result<Bytes, OutOfMemory>
+    ensures { IfOk result (λ b. b ≡ text.now) }
+{
     let mut bytes = Bytes::new(alloc);
     bytes.append(text)?;
     Ok(bytes)
@@ -37,7 +40,7 @@ fn names(alloc: Global) -> Result<NameList, OutOfMemory>
     let mut names = NameList::new(alloc);
     names.push(Name {
         app: bytes(alloc, b"live")?,
-        name: bytes(alloc, b"one")?,
+        name: ShortName::new(bytes(alloc, b"one")?),
     })?;
     Ok(names)
 }
@@ -70,6 +73,7 @@ fn answered(reply: Reply) -> u8 {
         Reply::Ended { .. } => b'e',
         Reply::Joined { .. } => b'j',
         Reply::Full => b'f',
+        Reply::NoSlot { .. } => b'o',
         Reply::NotPlayer => b'y',
         Reply::Sent { .. } => b's',
         Reply::Skip { .. } => b'k',
@@ -108,9 +112,9 @@ fn walk<P: StreamPort>(
     letters: &[u8],
 ) -> Result<Bytes, OutOfMemory>
     requires fit { HasFit (P.fits port.old) seat.old.spot }
-    requires place { 0 < length (P.rules port.old).names }
+    requires place { 0 < places (P.rules port.old) }
     ensures fit { HasFit (P.fits port.new) seat.new.spot }
-    ensures place { 0 < length (P.rules port.new).names }
+    ensures place { 0 < places (P.rules port.new) }
     ensures passes { (q : ℕ) (p : P.Pass) → P.fits port.old q p → P.fits port.new q p }
 {
     let mut told = Bytes::new(alloc);
@@ -129,7 +133,7 @@ fn walk<P: StreamPort>(
 
 // What two seats are told at one stream.
 fn story<P: StreamPort>(alloc: Global, port: &mut P, unit: &UnitArc) -> Result<Bytes, OutOfMemory>
-    requires { 0 < length (P.rules port.old).names }
+    requires { 0 < places (P.rules port.old) }
 {
     Seat::<P>::others_law();
     let mut one = Seat::new();
@@ -145,7 +149,7 @@ fn story<P: StreamPort>(alloc: Global, port: &mut P, unit: &UnitArc) -> Result<B
 fn two_seats_at_one_stream(rt: HostRuntime) -> Result<(), Fail> {
     let alloc = rt.alloc();
     let unit = key(alloc)?;
-    let mut port = Sole::new(alloc, names(alloc)?, LIMITS)?;
+    let mut port = Sole::new(alloc, names(alloc)?, OpenList::new(alloc), LIMITS)?;
     let told = story(alloc, &mut port, &unit)?;
     assert_eq!(rt; told.as_slice(), b"bppy+ujsn+fpe-ssnlbd-".as_slice());
     Ok(())

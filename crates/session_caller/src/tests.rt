@@ -14,9 +14,9 @@ use relay_session::{Desk, Session};
 use std::alloc::{AllocError, Global};
 use std::test::Fail;
 use std::thread;
-use stream_model::{Call, Entry, Reply, StreamLimits};
+use stream_model::{Call, Entry, Reply, ShortName, StreamLimits};
 use stream_registry::{
-    Desk as Streams, Name, NameList, PortFail, Shared, StreamPort, shared_ports,
+    Desk as Streams, Name, NameList, OpenList, Shared, StreamPort, shared_ports,
 };
 
 // How many units are published.
@@ -66,7 +66,9 @@ impl Desk for At {
     }
 }
 
-fn bytes(alloc: Global, text: &[u8]) -> Result<Bytes, OutOfMemory> {
+fn bytes(alloc: Global, text: &[u8]) -> Result<Bytes, OutOfMemory>
+    ensures { IfOk result (λ b. b ≡ text.now) }
+{
     let mut bytes = Bytes::new(alloc);
     bytes.append(text)?;
     Ok(bytes)
@@ -78,7 +80,7 @@ fn names(alloc: Global) -> Result<NameList, OutOfMemory>
     let mut names = NameList::new(alloc);
     names.push(Name {
         app: bytes(alloc, b"live")?,
-        name: bytes(alloc, b"one")?,
+        name: ShortName::new(bytes(alloc, b"one")?),
     })?;
     Ok(names)
 }
@@ -97,7 +99,7 @@ type TwoPorts = (Shared<Streams>, Shared<Streams>);
 fn two_ports(alloc: Global) -> Result<TwoPorts, OutOfMemory>
     ensures { IfOk result (λ p. shared_rules p.1 ≡ shared_rules p.0) }
 {
-    let mut list = shared_ports(alloc, names(alloc)?, STREAM, 2)?;
+    let mut list = shared_ports(alloc, names(alloc)?, OpenList::new(alloc), STREAM, 2)?;
     let Some(one) = next_port(&mut list) else {
         return Err(OutOfMemory);
     };

@@ -24,6 +24,8 @@ take_none call.End e = absurd (cc)
 take_none call.Join e = absurd (cc)
 take_none (call.Leave player) e = absurd (cc)
 take_none call.Count e = absurd (cc)
+take_none (call.BeginAs name) e = absurd (cc)
+take_none (call.JoinAs name) e = absurd (cc)
 
 makes_case : (t : Bool) (c : Own) (es : List Entry) (l : List Media) → is_take c.0.call ≡ t → pushed es ≡ l → pushed (if t then es else c.0 ∷ es) ≡ unit_of c.0.call ++ l
 unfolding pushed

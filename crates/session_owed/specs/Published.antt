@@ -17,6 +17,8 @@ unit_of call.Join = []
 unit_of (call.Take player want) = []
 unit_of (call.Leave player) = []
 unit_of call.Count = []
+unit_of (call.BeginAs name) = []
+unit_of (call.JoinAs name) = []
 
 -- the units of the calls that publish one, in their order
 unfoldable pub pushed : List Entry → List Media

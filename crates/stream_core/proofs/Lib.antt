@@ -3,3 +3,6 @@ pub mod Taking
 pub mod Tallies
 pub mod Places
 pub mod Parts
+pub mod Clearing
+pub mod Pools
+pub mod Tables

@@ -4,3 +4,5 @@ pub mod Tally
 pub mod IsPast
 pub mod Itemless
 pub mod Alone
+pub mod IsPoolPast
+pub mod Table

@@ -1,10 +1,13 @@
-ghost use Rattle.std.specs.Prelude.{◌≡◌, ℕ, ◌<◌, ◌≤◌, ◌+◌, ◌^◌, [], ◌∷◌, length, vec_len, IfOk, OnErr, slice_index_or};
+ghost use Rattle.std.specs.Prelude.{◌≡◌, ℕ, ◌<◌, ◌≤◌, ◌+◌, ◌*◌, ◌^◌, true, [], ◌∷◌, length, vec_len, IfOk, OnErr, slice_index_or};
 ghost use Rattle.stream_model.specs.Held.{held};
 ghost use Rattle.std.specs.Option.{IfSome};
 ghost use Rattle.stream_model.specs.Answer.{free_place as least_free, reply, IsSent};
 ghost use Rattle.stream_model.specs.History.{items_of};
 ghost use Rattle.stream_model.specs.Known.{StreamKnown, answered, IsLawful};
 ghost use Rattle.stream_model.specs.Legal.{Legal};
+ghost use Rattle.stream_model.specs.Pool.{asks_begin, asks_join, is_free, none_held, cleared, is_published_by, is_played_by};
+ghost use Rattle.stream_model.specs.Answer.{is_who};
+ghost use Rattle.stream_model.specs.History.{publisher, holder};
 ghost use Rattle.stream_core.specs.Placed.{free_place};
 ghost use Rattle.stream_core.specs.Alone.{DependsOnItsOwn};
 ghost use Rattle.stream_core.specs.Itemless.{Itemless};
@@ -23,6 +26,9 @@ use std::snapshot::Snapshot;
 use stream_law::{takes_alone, viewers_law};
 use stream_model::{Call, Entry, Reply, StreamLimits};
 use unit_ring::Ring;
+
+/// By this name a slot of a pool publishes the markers of a name that it takes. No reply depends on it.
+const NOBODY: u64 = u64::MAX;
 
 /// One stream: what is published on it, and the players that take from it.
 ///
@@ -63,12 +69,12 @@ impl Stream {
         })
     }
 
-    /// Answers the call by the rules of one stream, on condition that fewer than 2^62 items were published.
+    /// Answers the call by the rules of one stream, on condition that fewer than 3 times 2^62 items were published.
     /// Memory is wanted only at a Take that the rules answer with an item; a call so refused changes nothing.
     /// Whatever the calls so far, what each player was sent since its Join keeps the viewer's law, and
     /// what a Take is answered depends on the items and that player's own answers alone.
     pub fn apply(&mut self, entry: Entry) -> Result<Reply, OutOfMemory>
-        requires { length (items_of self.old.past) < 2 ^ 62 }
+        requires { length (items_of self.old.past) < 3 * 2 ^ 62 }
         ensures ok { IfOk result (λ r. (r ≡ reply self.old.limits self.old.past entry) × (self.new ≡ answered self.old entry r)) }
         ensures err { OnErr result (self.new ≡ self.old) }
         ensures memory { OnErr result (IsSent (reply self.old.limits self.old.past entry)) }
@@ -84,7 +90,7 @@ impl Stream {
     /// The same with the reply given twice, for a port that keeps a journal. Both shares of a unit are taken first, and a
     /// call so refused changes nothing.
     pub fn apply_twice(&mut self, entry: Entry) -> Result<(Reply, Reply), OutOfMemory>
-        requires { length (items_of self.old.past) < 2 ^ 62 }
+        requires { length (items_of self.old.past) < 3 * 2 ^ 62 }
         ensures ok { IfOk result (λ r. (r.0 ≡ reply self.old.limits self.old.past entry) × (self.new ≡ answered self.old entry r.0) × (r.1 ≡ r.0)) }
         ensures err { OnErr result (self.new ≡ self.old) }
         ensures memory { OnErr result (IsSent (reply self.old.limits self.old.past entry)) }
@@ -100,6 +106,7 @@ impl Stream {
     pub fn held(&self) -> u64
         ensures sum { result ≡ held self.now.limits (items_of self.now.past) }
         ensures most { result ≤ self.now.limits.bytes + 196608 }
+        ensures fits { result < 2 ^ 55 }
     {
         self.ring.held()
     }
@@ -114,8 +121,60 @@ impl Stream {
         viewers_law();
     }
 
+    /// A call publishes at most one item.
+    pub(crate) fn few_items(&self)
+        ensures { length (items_of self.now.past) ≤ length self.now.past }
+    {}
+
+    /// Whether it isn't live, and nobody holds a place of it.
+    pub(crate) fn is_free(&self) -> bool
+        ensures { result ≡ is_free self.now }
+    {
+        let _ = &self.ring;
+        self.publisher.is_none() && none_held(&self.places)
+    }
+
+    /// Whether it is live, and that one publishes.
+    pub(crate) fn is_published_by(&self, who: u64) -> bool
+        ensures { result ≡ is_who (publisher self.now.past) who }
+    {
+        let _ = &self.ring;
+        is_who(self.publisher, who)
+    }
+
+    /// Whether that one holds the place.
+    pub(crate) fn is_played_by(&self, who: u64, player: u32) -> bool
+        ensures { result ≡ is_who (holder self.now.past player) who }
+    {
+        let _ = &self.ring;
+        match self.places.get(player as usize) {
+            Some(place) => place.is_held_by(who),
+            None => false,
+        }
+    }
+
+    /// Appends a Begin and an End, which no caller asked for.
+    pub(crate) fn clear(&mut self)
+        requires free { is_free self.old ≡ true }
+        requires few { length (items_of self.old.past) + 1 < 3 * 2 ^ 62 }
+        ensures { self.new ≡ cleared self.old }
+    {
+        let begin = Entry {
+            who: NOBODY,
+            at: 0,
+            call: Call::Begin,
+        };
+        let end = Entry {
+            who: NOBODY,
+            at: 0,
+            call: Call::End,
+        };
+        self.begin(Snapshot::of(&begin), NOBODY);
+        self.end(Snapshot::of(&end), NOBODY);
+    }
+
     fn answer(&mut self, entry: Entry) -> Result<Reply, OutOfMemory>
-        requires { length (items_of self.old.past) < 2 ^ 62 }
+        requires { length (items_of self.old.past) < 3 * 2 ^ 62 }
         ensures ok { IfOk result (λ r. (r ≡ reply self.old.limits self.old.past entry) × (self.new ≡ answered self.old entry r)) }
         ensures err { OnErr result (self.new ≡ self.old) }
         ensures memory { OnErr result (IsSent (reply self.old.limits self.old.past entry)) }
@@ -130,11 +189,13 @@ impl Stream {
             Call::Take { player, want } => self.take(seen, who, player, want),
             Call::Leave { player } => Ok(self.leave(seen, who, player)),
             Call::Count => Ok(self.count(seen)),
+            Call::BeginAs(_) => Ok(self.begin(seen, who)),
+            Call::JoinAs(_) => Ok(self.join(seen, who)),
         }
     }
 
     fn answer_twice(&mut self, entry: Entry) -> Result<(Reply, Reply), OutOfMemory>
-        requires { length (items_of self.old.past) < 2 ^ 62 }
+        requires { length (items_of self.old.past) < 3 * 2 ^ 62 }
         ensures ok { IfOk result (λ r. (r.0 ≡ reply self.old.limits self.old.past entry) × (self.new ≡ answered self.old entry r.0) × (r.1 ≡ r.0)) }
         ensures err { OnErr result (self.new ≡ self.old) }
         ensures memory { OnErr result (IsSent (reply self.old.limits self.old.past entry)) }
@@ -149,12 +210,14 @@ impl Stream {
             Call::Take { player, want } => self.take_twice(seen, who, player, want),
             Call::Leave { player } => Ok(twice(self.leave(seen, who, player))),
             Call::Count => Ok(twice(self.count(seen))),
+            Call::BeginAs(_) => Ok(twice(self.begin(seen, who))),
+            Call::JoinAs(_) => Ok(twice(self.join(seen, who))),
         }
     }
 
-    fn begin(&mut self, seen: Snapshot<Entry>, who: u64) -> Reply
-        requires call { (seen.value.who ≡ who) × (seen.value.call ≡ Call.Begin) }
-        requires few { length (items_of self.old.past) < 2 ^ 62 }
+    pub(crate) fn begin(&mut self, seen: Snapshot<Entry>, who: u64) -> Reply
+        requires call { (seen.value.who ≡ who) × (asks_begin seen.value.call ≡ true) }
+        requires few { length (items_of self.old.past) < 3 * 2 ^ 62 }
         ensures { (result ≡ reply self.old.limits self.old.past seen.value) × (self.new ≡ answered self.old seen.value result) }
     {
         if let Some(by) = self.publisher {
@@ -166,9 +229,9 @@ impl Stream {
         noted(&mut self.past, &mut self.tally, seen, Reply::Began { n })
     }
 
-    fn push(&mut self, seen: Snapshot<Entry>, who: u64, unit: UnitArc) -> Reply
+    pub(crate) fn push(&mut self, seen: Snapshot<Entry>, who: u64, unit: UnitArc) -> Reply
         requires call { (seen.value.who ≡ who) × (seen.value.call ≡ Call.Push unit) }
-        requires few { length (items_of self.old.past) < 2 ^ 62 }
+        requires few { length (items_of self.old.past) < 3 * 2 ^ 62 }
         ensures { (result ≡ reply self.old.limits self.old.past seen.value) × (self.new ≡ answered self.old seen.value result) }
     {
         if !is_who(self.publisher, who) {
@@ -185,9 +248,9 @@ impl Stream {
         noted(&mut self.past, &mut self.tally, seen, Reply::Pushed { n })
     }
 
-    fn end(&mut self, seen: Snapshot<Entry>, who: u64) -> Reply
+    pub(crate) fn end(&mut self, seen: Snapshot<Entry>, who: u64) -> Reply
         requires call { (seen.value.who ≡ who) × (seen.value.call ≡ Call.End) }
-        requires few { length (items_of self.old.past) < 2 ^ 62 }
+        requires few { length (items_of self.old.past) < 3 * 2 ^ 62 }
         ensures { (result ≡ reply self.old.limits self.old.past seen.value) × (self.new ≡ answered self.old seen.value result) }
     {
         if !is_who(self.publisher, who) {
@@ -205,8 +268,8 @@ impl Stream {
         noted(&mut self.past, &mut self.tally, seen, Reply::Ended { n })
     }
 
-    fn join(&mut self, seen: Snapshot<Entry>, who: u64) -> Reply
-        requires { (seen.value.who ≡ who) × (seen.value.call ≡ Call.Join) }
+    pub(crate) fn join(&mut self, seen: Snapshot<Entry>, who: u64) -> Reply
+        requires { (seen.value.who ≡ who) × (asks_join seen.value.call ≡ true) }
         ensures { (result ≡ reply self.old.limits self.old.past seen.value) × (self.new ≡ answered self.old seen.value result) }
     {
         match free_place(&self.places) {
@@ -228,7 +291,7 @@ impl Stream {
         }
     }
 
-    fn take(
+    pub(crate) fn take(
         &mut self,
         seen: Snapshot<Entry>,
         who: u64,
@@ -236,7 +299,7 @@ impl Stream {
         want: Want,
     ) -> Result<Reply, OutOfMemory>
         requires call { (seen.value.who ≡ who) × (seen.value.call ≡ Call.Take player want) }
-        requires few { length (items_of self.old.past) < 2 ^ 62 }
+        requires few { length (items_of self.old.past) < 3 * 2 ^ 62 }
         ensures ok { IfOk result (λ r. (r ≡ reply self.old.limits self.old.past seen.value) × (self.new ≡ answered self.old seen.value r)) }
         ensures err { OnErr result (self.new ≡ self.old) }
         ensures memory { OnErr result (IsSent (reply self.old.limits self.old.past seen.value)) }
@@ -253,7 +316,7 @@ impl Stream {
         Ok(noted(&mut self.past, &mut self.tally, seen, taken.into_reply()))
     }
 
-    fn take_twice(
+    pub(crate) fn take_twice(
         &mut self,
         seen: Snapshot<Entry>,
         who: u64,
@@ -261,7 +324,7 @@ impl Stream {
         want: Want,
     ) -> Result<(Reply, Reply), OutOfMemory>
         requires call { (seen.value.who ≡ who) × (seen.value.call ≡ Call.Take player want) }
-        requires few { length (items_of self.old.past) < 2 ^ 62 }
+        requires few { length (items_of self.old.past) < 3 * 2 ^ 62 }
         ensures ok { IfOk result (λ r. (r.0 ≡ reply self.old.limits self.old.past seen.value) × (self.new ≡ answered self.old seen.value r.0) × (r.1 ≡ r.0)) }
         ensures err { OnErr result (self.new ≡ self.old) }
         ensures memory { OnErr result (IsSent (reply self.old.limits self.old.past seen.value)) }
@@ -281,7 +344,7 @@ impl Stream {
         ))
     }
 
-    fn leave(&mut self, seen: Snapshot<Entry>, who: u64, player: u32) -> Reply
+    pub(crate) fn leave(&mut self, seen: Snapshot<Entry>, who: u64, player: u32) -> Reply
         requires { (seen.value.who ≡ who) × (seen.value.call ≡ Call.Leave player) }
         ensures { (result ≡ reply self.old.limits self.old.past seen.value) × (self.new ≡ answered self.old seen.value result) }
     {
@@ -302,7 +365,7 @@ impl Stream {
         )
     }
 
-    fn count(&mut self, seen: Snapshot<Entry>) -> Reply
+    pub(crate) fn count(&mut self, seen: Snapshot<Entry>) -> Reply
         requires { seen.value.call ≡ Call.Count }
         ensures { (result ≡ reply self.old.limits self.old.past seen.value) × (self.new ≡ answered self.old seen.value result) }
     {
@@ -312,7 +375,7 @@ impl Stream {
 }
 
 // A reply without an item, twice.
-fn twice(reply: Reply) -> (Reply, Reply)
+pub(crate) fn twice(reply: Reply) -> (Reply, Reply)
     requires { Itemless reply }
     ensures { (result.0 ≡ reply) × (result.1 ≡ reply) }
 {
@@ -321,7 +384,7 @@ fn twice(reply: Reply) -> (Reply, Reply)
 }
 
 // The reply, which is counted, and which the past has from then on.
-fn noted(
+pub(crate) fn noted(
     past: &mut History<Pair<Entry, Reply>>,
     tally: &mut Tally,
     seen: Snapshot<Entry>,
@@ -343,6 +406,17 @@ fn free_places(alloc: Global, count: u32) -> Result<Vec<Place>, OutOfMemory>
         places.push(Place::free())?;
     }
     Ok(places)
+}
+
+// Whether nobody holds any of them.
+fn none_held(places: &[Place]) -> bool
+    ensures { result ≡ none_held (λ p. (slice_index_or places.now p free_place).who) (length places.now) }
+{
+    let mut none = true;
+    for (_p, place) in places.iter().enumerate() {
+        none = none && place.who.is_none();
+    }
+    none
 }
 
 // The least place that nobody holds.

@@ -17,3 +17,9 @@ pub mod Inters
 pub mod Published
 pub mod Ruled
 pub mod Configured
+pub mod Slots
+pub mod PoolSlots
+pub mod Since
+pub mod OwnNames
+pub mod Shapes
+pub mod Spares

@@ -6,3 +6,5 @@ pub mod IsKeyToJoin
 pub mod Needs
 pub mod IsBeginning
 pub mod IsRuled
+pub mod HasTaken
+pub mod KeepsUp

@@ -10,4 +10,9 @@ pub mod Known
 pub mod Legal
 pub mod Slots
 pub mod Held
+pub mod Names
+pub mod Pool
+pub mod Shape
 pub mod Examples
+pub mod PoolExamples
+pub mod SpareExamples

@@ -1,3 +1,4 @@
+use crate::names::ShortName;
 use av_unit::{UnitArc, Want};
 
 /// What the window of a stream has at most, and how many players it has.
@@ -11,7 +12,15 @@ pub struct StreamLimits {
     pub players: u32,
 }
 
-/// A call at a stream.
+/// What never changes of a place: the limits of its stream, or of each slot where it has a pool.
+#[derive(Clone, Copy, Debug, PartialEq, Eq)]
+pub struct Shape {
+    pub limits: StreamLimits,
+    /// How many slots the pool has; `None` where the place has a stream.
+    pub slots: Option<u32>,
+}
+
+/// A call at a stream or a pool.
 #[derive(Debug, PartialEq, Eq, Drop)]
 pub enum Call {
     /// Begins a broadcast.
@@ -28,6 +37,10 @@ pub enum Call {
     Leave { player: u32 },
     /// Asks how often the stream has answered so far.
     Count,
+    /// Begins a broadcast of that name. A stream answers it as `Begin`.
+    BeginAs(ShortName),
+    /// Asks for a place for a player of the broadcast of that name. A stream answers it as `Join`.
+    JoinAs(ShortName),
 }
 
 /// A call with its caller.

@@ -1,19 +1,18 @@
 -- Journals of many places, and calls noted there
-use Rattle.std.proofs.Common.{◌≡◌, ◌≢◌, ℕ, zero, suc, ◌<◌, List, [], ◌∷◌, length, slice_get, slice_set, get_or, Some, refl, sym, ap, ◌∙◌, subst, append-nil, arith, All}
+use Rattle.std.proofs.Common.{◌≡◌, ◌≢◌, ℕ, zero, suc, ◌<◌, ◌≤◌, List, [], ◌∷◌, length, slice_get, slice_set, get_or, Some, refl, sym, ap, ◌∙◌, subst, append-nil, arith, map}
 use Rattle.std.specs.Prelude.{reverse}
-use Rattle.std.proofs.lemmas.List.Elements.{All-get_or, All-head, All-tail, All-nil, All-cons}
 use Rattle.std.proofs.lemmas.Option.{slice_get_read}
-use Rattle.stream_model.specs.declared.calls.StreamLimits.{StreamLimits}
+use Rattle.stream_model.specs.declared.calls.Shape.{Shape}
 use Rattle.stream_model.specs.History.{History}
-use Rattle.stream_model.specs.Known.{IsLawful}
-use Rattle.stream_model.specs.Legal.{Legal}
+use Rattle.stream_model.specs.Shape.{IsShapeLawful, IsLegalAt, shape_held, most_held}
 use Rattle.turn_gate.specs.Histories.{Begins}
 use Rattle.stream_registry.specs.Told.{Step, Keeps}
 use Rattle.stream_registry.proofs.Rooting.{begins_same, begins_trans}
-use Rattle.stream_registry.specs.Books.{BookState, SoleRules, SoleState, SeenState, journal_of, journal_at, FitsSole}
+use Rattle.stream_registry.specs.Names.{shape_at}
+use Rattle.stream_registry.specs.Books.{BookState, SoleRules, SoleState, SeenState, journal_of, journal_at, new_book, shapes_in, FitsSole}
 
-pub keeps_law : (limits : StreamLimits) (past : History) (journal : List Step) → past ≡ reverse journal → IsLawful limits past → ((player : ℕ) → Legal limits past player) → Keeps limits journal
-keeps_law limits past journal is l v = record { rules = subst (λ (h : History). IsLawful limits h) is l; viewers = λ player. subst (λ (h : History). Legal limits h player) is (v player) }
+pub keeps_law : (limits : Shape) (past : History) (journal : List Step) → past ≡ reverse journal → IsShapeLawful limits past → ((slot player : ℕ) → IsLegalAt limits past slot player) → Keeps limits journal
+keeps_law limits past journal is l v = record { rules = subst (λ (h : History). IsShapeLawful limits h) is l; viewers = λ slot player. subst (λ (h : History). IsLegalAt limits h slot player) is (v slot player) }
 
 pub book_at : (books : List BookState) (place : ℕ) (v : BookState) → place < length books → v ≡ get_or books place v → slice_get books place ≡ Some v
 book_at books place v there read = slice_get_read books (length books) place v refl there read
@@ -21,8 +20,20 @@ book_at books place v there read = slice_get_read books (length books) place v r
 pub journal_is : (books : List BookState) (place : ℕ) (v : BookState) → place < length books → v ≡ get_or books place v → journal_at books place ≡ v.journal
 journal_is books place v there read = ap journal_of (book_at books place v there read)
 
-pub limits_at : (books : List BookState) (limits : StreamLimits) (place : ℕ) (v : BookState) → All (λ b. b.limits ≡ limits) books → place < length books → v ≡ get_or books place v → v.limits ≡ limits
-limits_at books limits place v all there read = ap (λ (b : BookState). b.limits) read ∙ All-get_or (λ (b : BookState). b.limits ≡ limits) books place v there all
+shape_there : (books : List BookState) (place : ℕ) (v : BookState) → slice_get books place ≡ Some v → shape_at (map (λ b. b.limits) books) place ≡ v.limits
+shape_there [] place v e = absurd (cc)
+shape_there (b ∷ books) zero v e = let same : b ≡ v = cc in ap (λ (k : BookState). k.limits) same
+shape_there (b ∷ books) (suc place) v e = shape_there books place v e
+
+pub limits_at : (books : List BookState) (shapes : List Shape) (place : ℕ) (v : BookState) → map (λ b. b.limits) books ≡ shapes → place < length books → v ≡ get_or books place v → v.limits ≡ shape_at shapes place
+limits_at books shapes place v all there read =
+    sym (shape_there books place v (book_at books place v there read)) ∙ ap (λ (l : List Shape). shape_at l place) all
+
+-- no call changes what the places have
+pub limits_set : (books : List BookState) (place : ℕ) (v w : BookState) → place < length books → v ≡ get_or books place v → w.limits ≡ v.limits → map (λ b. b.limits) (slice_set books place w) ≡ map (λ b. b.limits) books
+limits_set [] place v w there read same = refl
+limits_set (b ∷ books) zero v w there read same = ap (λ (s : Shape). s ∷ map (λ (k : BookState). k.limits) books) (same ∙ ap (λ (k : BookState). k.limits) read)
+limits_set (b ∷ books) (suc place) v w there read same = ap (λ (l : List Shape). b.limits ∷ l) (limits_set books place v w (omega (arith, there)) read same)
 
 pub journal_set_here : (books : List BookState) (place : ℕ) (w : BookState) → place < length books → journal_at (slice_set books place w) place ≡ w.journal
 journal_set_here [] place w l = absurd (omega (arith, l))
@@ -51,12 +62,22 @@ length_set (b ∷ bs) (suc place) w = ap suc (length_set bs place w)
 -- a pass fits where journals have grown
 pub fits_later : (s s' : SoleState) (q : ℕ) (p : SeenState) → length s'.books ≡ length s.books → s'.rules ≡ s.rules → ((q : ℕ) → Begins (journal_at s.books q) (journal_at s'.books q)) → FitsSole s q p → FitsSole s' q p
 fits_later s s' q p count rules later f =
-    record { there = omega (arith, f.there, count); limits = f.limits ∙ sym (ap (λ (r : SoleRules). r.limits) rules); seen = begins_trans p.seen (journal_at s.books q) (journal_at s'.books q) f.seen (later q) }
+    record { there = omega (arith, f.there, count); limits = f.limits ∙ sym (ap (λ (r : SoleRules). shape_at (shapes_in r) q) rules); seen = begins_trans p.seen (journal_at s.books q) (journal_at s'.books q) f.seen (later q) }
 
-pub empty_journals : (limits : StreamLimits) (books : List BookState) → All (λ b. b ≡ record { limits = limits; journal = [] }) books → (q : ℕ) → journal_at books q ≡ []
-empty_journals limits [] a q = refl
-empty_journals limits (b ∷ bs) a zero = ap (λ (k : BookState). k.journal) (All-head (λ (k : BookState). k ≡ record { limits = limits; journal = [] }) b bs a)
-empty_journals limits (b ∷ bs) a (suc q) = empty_journals limits bs (All-tail (λ (k : BookState). k ≡ record { limits = limits; journal = [] }) b bs a) q
+pub empty_journals : (shapes : List Shape) (books : List BookState) → books ≡ map new_book shapes → (q : ℕ) → journal_at books q ≡ []
+empty_journals shapes books e q = ap (λ (l : List BookState). journal_at l q) e ∙ empty_new shapes q
+  where
+    empty_new : (shapes : List Shape) (q : ℕ) → journal_at (map new_book shapes) q ≡ []
+    empty_new [] q = refl
+    empty_new (s ∷ shapes) zero = refl
+    empty_new (s ∷ shapes) (suc q) = empty_new shapes q
+
+new_limits : (shapes : List Shape) → map (λ (b : BookState). b.limits) (map new_book shapes) ≡ shapes
+new_limits [] = refl
+new_limits (s ∷ shapes) = ap (λ (l : List Shape). s ∷ l) (new_limits shapes)
+
+pub limits_new : (shapes : List Shape) (books : List BookState) → books ≡ map new_book shapes → map (λ b. b.limits) books ≡ shapes
+limits_new shapes books e = ap (λ (l : List BookState). map (λ (b : BookState). b.limits) l) e ∙ new_limits shapes
 
 -- what a call leaves of a port of one thread
 pub record Left (s s' : SoleState) (place : ℕ) (v w : SeenState) : Type 0 where
@@ -75,15 +96,16 @@ sole_call s rules books place b b' v w same_rules view f read begins same seen =
     let here : journal_at (slice_set books place b') place ≡ w.seen = journal_set_here books place b' there ∙ sym seen in
     let count : length (slice_set books place b') ≡ length s.books = length_set books place b' ∙ ap length view in
     record {
-      fits = record { there = omega (arith, f.there, count); limits = same ∙ (f.limits ∙ sym (ap (λ (r : SoleRules). r.limits) same_rules)); seen = ([], append-nil w.seen ∙ sym here) };
+      fits = record { there = omega (arith, f.there, count); limits = same ∙ (f.limits ∙ sym (ap (λ (r : SoleRules). shape_at (shapes_in r) place) same_rules)); seen = ([], append-nil w.seen ∙ sym here) };
       seen = begins_trans v.seen (journal_at s.books place) w.seen f.seen (subst (λ (h : List Step). Begins (journal_at s.books place) h) here (later place));
       later = later;
       others = λ q d. journal_set_else books place b' q d ∙ ap (λ (l : List BookState). journal_at l q) view;
       still = λ q p g. fits_later s s' q p count same_rules later g;
     }
 
-pub limits_all : (limits : StreamLimits) (books : List BookState) → All (λ b. b ≡ record { limits = limits; journal = [] }) books → All (λ b. b.limits ≡ limits) books
-limits_all limits [] a = All-nil (λ (b : BookState). b.limits ≡ limits)
-limits_all limits (b ∷ bs) a =
-    All-cons (λ (k : BookState). k.limits ≡ limits) b bs (ap (λ (k : BookState). k.limits) (All-head (λ (k : BookState). k ≡ record { limits = limits; journal = [] }) b bs a))
-    (limits_all limits bs (All-tail (λ (k : BookState). k ≡ record { limits = limits; journal = [] }) b bs a))
+-- what a book holds is what its place holds
+pub held_same : (r : ℕ) (s s' : Shape) (j j' : List Step) → s ≡ s' → j ≡ j' → r ≡ shape_held s (reverse j) → r ≡ shape_held s' (reverse j')
+held_same r s s' j j' e f h = rw (← e, ← f) h
+
+pub most_same : (r : ℕ) (s s' : Shape) → s ≡ s' → r ≤ most_held s → r ≤ most_held s'
+most_same r s s' e h = rw (← e) h

@@ -1,4 +1,4 @@
--- A gate's history has at least as many calls as its stream has items
+-- A gate's history has at least as many calls as its past
 use Rattle.std.proofs.Common.{◌+◌, ◌≤◌, List, [], ◌∷◌, length, arith}
 use Rattle.std.specs.List.{fold}
 use Rattle.std.specs.declared.result.Result.{Result}
@@ -6,13 +6,8 @@ use Rattle.std.specs.declared.result.Result.TheVariants.{Ok, Err}
 use Rattle.av_unit.specs.declared.bytes.OutOfMemory.{OutOfMemory}
 use Rattle.stream_model.specs.declared.calls.Entry.{Entry}
 use Rattle.stream_model.specs.declared.replies.Reply.{Reply}
-use Rattle.stream_model.specs.History.{History, items_of}
-use Rattle.stream_model.proofs.Growth.{one_item_more}
+use Rattle.stream_model.specs.History.{History}
 use Rattle.stream_registry.specs.Pasts.{Attempt, past_after, past_of}
-
-pub no_more_items : (past : History) → length (items_of past) ≤ length past
-no_more_items [] = omega arith
-no_more_items (step ∷ past) = omega (arith, one_item_more step.0 step.1 past, no_more_items past)
 
 one_more : (past : History) (e : Entry) (r : Result Reply OutOfMemory) → length (past_after past e r) ≤ length past + 1
 one_more past e (Ok r) = omega arith
@@ -21,9 +16,6 @@ one_more past e (Err x) = omega arith
 folded : (past : History) (h : List Attempt) → length (fold (λ p step. past_after p step.0 step.1) past h) ≤ length past + length h
 folded past [] = omega arith
 folded past (s ∷ h) = omega (arith, one_more past s.0 s.1, folded (past_after past s.0 s.1) h)
-
-pub few_items : (h : List Attempt) → length (items_of (past_of h)) ≤ length h
-few_items h = omega (arith, no_more_items (past_of h), folded [] h)
 
 pub few_answered : (h : List Attempt) → length (past_of h) ≤ length h
 few_answered h = omega (arith, folded [] h)

@@ -1,7 +1,11 @@
 pub mod Counted
 pub mod Tells
 pub mod Rooting
+pub mod Forking
+pub mod Alone
 pub mod Placing
 pub mod Naming
+pub mod Shaping
 pub mod Booking
 pub mod Wanting
+pub mod Crossing

@@ -1,12 +1,17 @@
 -- Roots that grow
-use Rattle.std.proofs.Common.{◌≡◌, ◌≢◌, ℕ, zero, suc, ◌+◌, ◌<◌, ◌≤◌, List, [], ◌∷◌, ◌++◌, length, slice_get, slice_set, Some, refl, sym, ap, ◌∙◌, subst, append_assoc, append-nil, arith, get_or, take, drop, length-append, inl, inr}
+use Rattle.std.proofs.Common.{◌≡◌, ◌≢◌, ℕ, zero, suc, ◌+◌, ◌<◌, ◌≤◌, List, [], ◌∷◌, ◌++◌, length, slice_get, slice_set, Some, refl, sym, ap, ◌∙◌, subst, append_assoc, append-nil, arith, get_or, take, drop, map, length-append, inl, inr}
 use Rattle.std.proofs.lemmas.Bool.{cases_eq}
 use Rattle.std.specs.Option.{option_map}
 use Rattle.std.proofs.lemmas.Option.{slice_get_within, slice_get_read, slice_get_past, slice_get-map, slice_get-get_or}
-use Rattle.std.proofs.lemmas.List.{length-map, set-get_or, take_more, take-append-le, take_all}
+use Rattle.std.proofs.lemmas.List.{length-map, take-append-le, take_all}
 use Rattle.turn_gate.specs.Histories.{Begins, longer}
-use Rattle.turn_gate.specs.Known.{GateId}
-use Rattle.stream_registry.specs.Roots.{Root, Stays, seen_of, seen_at, gates, Grown, Gathers, Later}
+use Rattle.turn_gate.specs.Known.{GateId, PassKnown, newcomer, SplitOnce}
+use Rattle.turn_gate.specs.Branches.{trunk, cut_off, offshoot}
+use Rattle.turn_gate.specs.declared.gate.CallFail.{CallFail}
+use Rattle.std.specs.declared.result.Result.{Result}
+use Rattle.turn_gate.specs.declared.view.Branch.{Branch}
+use Rattle.stream_registry.specs.Roots.{Root, Stays, Unlearned, AreTrunks, root_with, seen_of, seen_at, kin_of, kin_at, gates, Grown, Gathers, Later}
+use Rattle.stream_registry.specs.Splits.{SplitsOff, TakesIn, TakesAll, Forks}
 
 pub begins_same : {E : Type 0} (xs : List E) → Begins xs xs
 begins_same xs = ([], append-nil xs)
@@ -58,8 +63,30 @@ module _ {A E : Type 0} where
   get_middle [] x zs = refl
   get_middle (y ∷ ys) x zs = get_middle ys x zs
 
+  pub kin_set_here : (roots : List (Root A E)) (place : ℕ) (w : Root A E) → place < length roots → kin_at (slice_set roots place w) place ≡ w.kin
+  kin_set_here [] place w l = absurd (omega (arith, l))
+  kin_set_here (k ∷ ks) zero w l = refl
+  kin_set_here (k ∷ ks) (suc place) w l = kin_set_here ks place w (omega (arith, l))
+
+  pub kin_set_else : (roots : List (Root A E)) (place : ℕ) (w : Root A E) (q : ℕ) → q ≢ place → kin_at (slice_set roots place w) q ≡ kin_at roots q
+  kin_set_else [] place w q d = refl
+  kin_set_else (k ∷ ks) zero w zero d = absurd (d refl)
+  kin_set_else (k ∷ ks) zero w (suc q) d = refl
+  kin_set_else (k ∷ ks) (suc place) w zero d = refl
+  kin_set_else (k ∷ ks) (suc place) w (suc q) d = kin_set_else ks place w q (λ e. d (ap suc e))
+
+  pub kin_past : (roots : List (Root A E)) (p : ℕ) → length roots ≤ p → kin_at roots p ≡ []
+  kin_past roots p far = ap kin_of (slice_get_past roots p far)
+
   pub gathers_first : (others roots : List (Root A E)) → Gathers others others roots roots
-  gathers_first others roots = record { rest = []; split = append-nil others; grown = grown_same roots; done = λ p far. subst (λ (l : List E). Begins l (seen_at roots p)) (sym (seen_past others p far)) (seen_at roots p, refl) }
+  gathers_first others roots = record {
+    rest = [];
+    split = append-nil others;
+    grown = grown_same roots;
+    done = λ p far. subst (λ (l : List E). Begins l (seen_at roots p)) (sym (seen_past others p far)) (seen_at roots p, refl);
+    taken = λ p far. sym (append-nil (kin_at roots p)) ∙ ap (λ (l : List Branch). kin_at roots p ++ l) (sym (kin_past others p far));
+    untaken = λ p l. refl;
+  }
 
   pub gathers_next : (others left ys roots roots' : List (Root A E)) (x : Root A E) → Gathers others left roots roots' → left ≡ ys ++ x ∷ [] → (rest : List (Root A E)) × (others ≡ ys ++ x ∷ rest)
   gathers_next others left ys roots roots' x i is = (i.rest, sym i.split ∙ (ap (λ (l : List (Root A E)). l ++ i.rest) is ∙ append_assoc ys (x ∷ []) i.rest))
@@ -72,9 +99,9 @@ module _ {A E : Type 0} where
       let b : slice_get (gates roots') (length ys) ≡ Some v.gate = slice_get-map (λ (k : Root A E). k.gate) roots' (length ys) ∙ ap (option_map (λ (k : Root A E). k.gate)) at in
       let n : Some x.gate ≡ Some v.gate = sym a ∙ (ap (λ (l : List (GateId A)). slice_get l (length ys)) (same ∙ sym i.grown.gates) ∙ b) in cc
 
-  pub gathers_more : (others left ys roots roots' : List (Root A E)) (x v w : Root A E) → Gathers others left roots roots' → left ≡ ys ++ x ∷ [] → slice_get roots' (length ys) ≡ Some v → Stays v w → Begins x.seen w.seen
+  pub gathers_more : (others left ys roots roots' : List (Root A E)) (x v w : Root A E) → Gathers others left roots roots' → left ≡ ys ++ x ∷ [] → slice_get roots' (length ys) ≡ Some v → Stays v w → Begins x.seen w.seen → w.kin ≡ v.kin ++ x.kin
       → Gathers others ys roots (slice_set roots' (length ys) w)
-  gathers_more others left ys roots roots' x v w i is at s b =
+  gathers_more others left ys roots roots' x v w i is at s b takes =
       let o = gathers_next others left ys roots roots' x i is in
       let step = grown_set roots' (length ys) v w at s in
       record {
@@ -90,16 +117,215 @@ module _ {A E : Type 0} where
               let past : length left ≤ p = omega (arith, ap length is, length-append ys (x ∷ [])) in
               begins_trans (seen_at others p) (seen_at roots' p) (seen_at (slice_set roots' (length ys) w) p) (i.done p past) (step.seen.at p)
         ];
+        taken = λ p far. elim (cases_eq p (length ys)) [
+          | inl e ↦
+              let here : kin_at others (length ys) ≡ x.kin = ap kin_of (subst (λ (l : List (Root A E)). slice_get l (length ys) ≡ Some x) (sym o.1) (get_middle ys x o.0)) in
+              let was : kin_at roots (length ys) ≡ v.kin = sym (i.untaken (length ys) (omega (arith, ap length is, length-append ys (x ∷ [])))) ∙ ap kin_of at in
+              ap (kin_at (slice_set roots' (length ys) w)) e
+              ∙ (kin_set_here roots' (length ys) w (slice_get_within roots' (length ys) v at)
+              ∙ (takes ∙ (λ j. (sym was ∙ ap (kin_at roots) (sym e)) j ++ (sym here ∙ ap (kin_at others) (sym e)) j)))
+          | inr d ↦ kin_set_else roots' (length ys) w p d ∙ i.taken p (omega (arith, ap length is, length-append ys (x ∷ [])))
+        ];
+        untaken = λ p l. kin_set_else roots' (length ys) w p (λ e. absurd (omega arith)) ∙ i.untaken p (omega (arith, ap length is, length-append ys (x ∷ [])));
       }
 
-  -- a list of the first i, and one more
-  pub forks_more : (first places list list' : List (Root A E)) (i : ℕ) (v v' p : Root A E) → list ≡ take i first → places ≡ first → i < length places → v ≡ get_or places i v → v' ≡ v → p ≡ v → list' ≡ list ++ p ∷ []
-      → (list' ≡ take (i + 1) first) × (slice_set places i v' ≡ first)
-  forks_more first places list list' i v v' p done same within read kept again more =
-      let at : get_or first i v ≡ v = ap (λ (l : List (Root A E)). get_or l i v) (sym same) ∙ sym read in (
-        more ∙ (ap (λ (l : List (Root A E)). l ++ p ∷ []) done ∙ (ap (λ (x : Root A E). take i first ++ x ∷ []) (again ∙ sym at) ∙ sym (take_more first i v (omega (arith, within, ap length same))))),
-        ap (slice_set places i) (kept ∙ read) ∙ (set-get_or places i v ∙ same),
-      )
+  -- roots without their places among the passes
+  abbrev pub bare : Root A E → Root A E
+  bare k = root_with k []
+
+  abbrev pub bared : List (Root A E) → List (Root A E)
+  bared roots = map bare roots
+
+  gates_bared : (roots : List (Root A E)) → gates (bared roots) ≡ gates roots
+  gates_bared [] = refl
+  gates_bared (k ∷ ks) = ap (λ (l : List (GateId A)). k.gate ∷ l) (gates_bared ks)
+
+  seen_bared : (roots : List (Root A E)) (p : ℕ) → seen_at (bared roots) p ≡ seen_at roots p
+  seen_bared [] p = refl
+  seen_bared (k ∷ ks) zero = refl
+  seen_bared (k ∷ ks) (suc p) = seen_bared ks p
+
+  pub unlearned_of : (roots roots' : List (Root A E)) → bared roots' ≡ bared roots → Unlearned roots roots'
+  unlearned_of roots roots' e = record {
+    gates = sym (gates_bared roots') ∙ (ap (λ (l : List (Root A E)). gates l) e ∙ gates_bared roots);
+    seen = λ p. sym (seen_bared roots' p) ∙ (ap (λ (l : List (Root A E)). seen_at l p) e ∙ seen_bared roots p);
+  }
+
+  pub unlearned_same : (roots roots' : List (Root A E)) → roots' ≡ roots → Unlearned roots roots'
+  unlearned_same roots roots' e = unlearned_of roots roots' (ap bared e)
+
+  pub unlearned_then : (a b c : List (Root A E)) → Unlearned a b → Unlearned b c → Unlearned a c
+  unlearned_then a b c x y = record { gates = y.gates ∙ x.gates; seen = λ p. y.seen p ∙ x.seen p }
+
+  bare_of : (v w : Root A E) → w ≡ root_with v w.kin → bare w ≡ bare v
+  bare_of v w e = ap bare e
+
+  pub bared_set : (roots : List (Root A E)) (place : ℕ) (v w : Root A E) → v ≡ get_or roots place v → place < length roots → w ≡ root_with v w.kin → bared (slice_set roots place w) ≡ bared roots
+  bared_set [] place v w read l e = absurd (omega (arith, l))
+  bared_set (k ∷ ks) zero v w read l e = ap (λ (x : Root A E). x ∷ bared ks) (bare_of v w e ∙ ap bare read)
+  bared_set (k ∷ ks) (suc place) v w read l e = ap (λ (x : List (Root A E)). bare k ∷ x) (bared_set ks place v w read (omega (arith, l)) e)
+
+  -- what is known of the root at one place, where that alone was set
+  pub record SetAt (roots new : List (Root A E)) (place : ℕ) (v w : Root A E) : Type 0 where
+    pub was : kin_at roots place ≡ v.kin
+    pub seen_was : seen_at roots place ≡ v.seen
+    pub here : kin_at new place ≡ w.kin
+    pub others : (q : ℕ) → q ≢ place → kin_at new q ≡ kin_at roots q
+
+  pub set_at : (roots items : List (Root A E)) (place : ℕ) (v w : Root A E) → items ≡ roots → v ≡ get_or items place v → place < length items → SetAt roots (slice_set items place w) place v w
+  set_at roots items place v w is read l =
+      let at : slice_get items place ≡ Some v = slice_get_read items (length items) place v refl l read in record {
+        was = ap (λ (x : List (Root A E)). kin_at x place) (sym is) ∙ ap kin_of at;
+        seen_was = ap (λ (x : List (Root A E)). seen_at x place) (sym is) ∙ ap seen_of at;
+        here = kin_set_here items place w l;
+        others = λ q d. kin_set_else items place w q d ∙ ap (λ (x : List (Root A E)). kin_at x q) is;
+      }
+
+  pub unlearned_set : (roots items : List (Root A E)) (place : ℕ) (v w : Root A E) → items ≡ roots → v ≡ get_or items place v → place < length items → w ≡ root_with v w.kin → Unlearned roots (slice_set items place w)
+  unlearned_set roots items place v w is read l e = unlearned_of roots (slice_set items place w) (bared_set items place v w read l e ∙ ap bared is)
+
+  pub kept_as : (v x w : Root A E) → v ≡ x → w ≡ root_with x w.kin → w ≡ root_with v w.kin
+  kept_as v x w e k = k ∙ ap (λ (r : Root A E). root_with r w.kin) (sym e)
+
+  pub split_as : (v x w : Root A E) (kin : List Branch) → v ≡ x → w ≡ root_with x kin → w ≡ root_with v w.kin
+  split_as v x w kin e k = k ∙ (λ i. root_with (sym e i) (sym (ap (λ (r : Root A E). r.kin) k) i))
+
+  -- one pass was split off from the root at a place
+  pub splits_off : (roots items : List (Root A E)) (place : ℕ) (v w : Root A E) → items ≡ roots → v ≡ get_or items place v → place < length items → w ≡ root_with v (cut_off v.kin)
+      → Unlearned roots (slice_set items place w) × SplitsOff (kin_at roots) (kin_at (slice_set items place w)) place
+  splits_off roots items place v w is read l e = let s = set_at roots items place v w is read l in (
+    unlearned_set roots items place v w is read l (split_as v v w (cut_off v.kin) refl e),
+    record { here = s.here ∙ (ap (λ (r : Root A E). r.kin) e ∙ ap cut_off (sym s.was)); others = s.others },
+  )
+
+  pub newcomer_at : (roots items : List (Root A E)) (place : ℕ) (v w : Root A E) (p : PassKnown A E) → items ≡ roots → v ≡ get_or items place v → place < length items → p ≡ newcomer v.gate (offshoot v.kin) v.seen
+      → p ≡ newcomer p.gate (offshoot (kin_at roots place)) (seen_at roots place)
+  newcomer_at roots items place v w p is read l e = let s = set_at roots items place v w is read l in
+      e ∙ (λ i. newcomer (sym (ap (λ (x : PassKnown A E). x.gate) e) i) (offshoot (sym s.was i)) (sym s.seen_was i))
+
+  -- it took in a pass
+  pub takes_in : (roots items : List (Root A E)) (place : ℕ) (v w : Root A E) (branches : List Branch) → items ≡ roots → v ≡ get_or items place v → place < length items → w.kin ≡ v.kin ++ branches
+      → TakesIn (kin_at roots) branches (kin_at (slice_set items place w)) place
+  takes_in roots items place v w branches is read l e = let s = set_at roots items place v w is read l in
+      record { here = s.here ∙ (e ∙ ap (λ (x : List Branch). x ++ branches) (sym s.was)); others = s.others }
+
+  -- what is split off in a call
+  pub splits_once : {C R : Type 0} (roots items : List (Root A E)) (place : ℕ) (v w : Root A E) (kin kin' : List Branch) (result : Result R (CallFail C)) → items ≡ roots → v ≡ get_or items place v → place < length items → SplitOnce v.kin kin result w.kin kin'
+      → SplitOnce (kin_at roots place) kin result (kin_at (slice_set items place w) place) kin'
+  splits_once roots items place v w kin kin' result is read l e = let s = set_at roots items place v w is read l in
+      subst (λ (x : List Branch × List Branch). SplitOnce x.0 kin result x.1 kin') (λ i. (sym s.was i, sym s.here i)) e
+
+  -- a place that has a gate is there
+  pub there_by_gate : (roots items : List (Root A E)) (place : ℕ) (g : GateId A) → items ≡ roots → slice_get (gates roots) place ≡ Some g → place < length items
+  there_by_gate roots items place g is at = omega (arith, slice_get_within (gates roots) place g at, length-map roots (λ (k : Root A E). k.gate), ap length is)
+
+  -- a root of which one pass was split off, and that pass as a root
+  abbrev pub cut : Root A E → Root A E
+  cut k = root_with k (cut_off k.kin)
+
+  abbrev pub shoot : Root A E → Root A E
+  shoot k = root_with k (offshoot k.kin)
+
+  -- the first n were cut, and these are what was split off from them
+  abbrev pub cut_first : ℕ → List (Root A E) → List (Root A E)
+  cut_first zero ks = ks
+  cut_first (suc n) [] = []
+  cut_first (suc n) (k ∷ ks) = cut k ∷ cut_first n ks
+
+  abbrev pub shoots : ℕ → List (Root A E) → List (Root A E)
+  shoots zero ks = []
+  shoots (suc n) [] = []
+  shoots (suc n) (k ∷ ks) = shoot k ∷ shoots n ks
+
+  cut_next : (ks : List (Root A E)) (n : ℕ) (v : Root A E) → n < length ks → v ≡ get_or (cut_first n ks) n v → slice_set (cut_first n ks) n (cut v) ≡ cut_first (suc n) ks
+  cut_next [] n v l read = absurd (omega (arith, l))
+  cut_next (k ∷ ks) zero v l read = ap (λ (x : Root A E). cut x ∷ ks) read
+  cut_next (k ∷ ks) (suc n) v l read = ap (λ (x : List (Root A E)). cut k ∷ x) (cut_next ks n v (omega (arith, l)) read)
+
+  shoots_next : (ks : List (Root A E)) (n : ℕ) (v : Root A E) → n < length ks → v ≡ get_or (cut_first n ks) n v → shoots n ks ++ shoot v ∷ [] ≡ shoots (suc n) ks
+  shoots_next [] n v l read = absurd (omega (arith, l))
+  shoots_next (k ∷ ks) zero v l read = ap (λ (x : Root A E). shoot x ∷ []) read
+  shoots_next (k ∷ ks) (suc n) v l read = ap (λ (x : List (Root A E)). shoot k ∷ x) (shoots_next ks n v (omega (arith, l)) read)
+
+  pub length_cut : (ks : List (Root A E)) (n : ℕ) → length (cut_first n ks) ≡ length ks
+  length_cut ks zero = refl
+  length_cut [] (suc n) = refl
+  length_cut (k ∷ ks) (suc n) = ap suc (length_cut ks n)
+
+  bared_cut : (ks : List (Root A E)) (n : ℕ) → bared (cut_first n ks) ≡ bared ks
+  bared_cut ks zero = refl
+  bared_cut [] (suc n) = refl
+  bared_cut (k ∷ ks) (suc n) = ap (λ (x : List (Root A E)). bare k ∷ x) (bared_cut ks n)
+
+  bared_shoots : (ks : List (Root A E)) (n : ℕ) → length ks ≤ n → bared (shoots n ks) ≡ bared ks
+  bared_shoots [] zero l = refl
+  bared_shoots [] (suc n) l = refl
+  bared_shoots (k ∷ ks) zero l = absurd (omega (arith, l))
+  bared_shoots (k ∷ ks) (suc n) l = ap (λ (x : List (Root A E)). bare k ∷ x) (bared_shoots ks n (omega (arith, l)))
+
+  kin_cut : (ks : List (Root A E)) (n : ℕ) → length ks ≤ n → (q : ℕ) → kin_at (cut_first n ks) q ≡ cut_off (kin_at ks q)
+  kin_cut [] zero l q = refl
+  kin_cut [] (suc n) l q = refl
+  kin_cut (k ∷ ks) zero l q = absurd (omega (arith, l))
+  kin_cut (k ∷ ks) (suc n) l zero = refl
+  kin_cut (k ∷ ks) (suc n) l (suc q) = kin_cut ks n (omega (arith, l)) q
+
+  kin_shoots : (ks : List (Root A E)) (n : ℕ) → length ks ≤ n → (q : ℕ) → kin_at (shoots n ks) q ≡ offshoot (kin_at ks q)
+  kin_shoots [] zero l q = refl
+  kin_shoots [] (suc n) l q = refl
+  kin_shoots (k ∷ ks) zero l q = absurd (omega (arith, l))
+  kin_shoots (k ∷ ks) (suc n) l zero = refl
+  kin_shoots (k ∷ ks) (suc n) l (suc q) = kin_shoots ks n (omega (arith, l)) q
+
+  -- some were split, and these are the ports that they gave so far
+  pub record Forking (first places list : List (Root A E)) (n : ℕ) : Type 0 where
+    pub places_are : places ≡ cut_first n first
+    pub list_is : list ≡ shoots n first
+
+  pub forks_first : (first : List (Root A E)) → Forking first first [] 0
+  forks_first first = record { places_are = refl; list_is = refl }
+
+  pub forks_more : (first places list list' : List (Root A E)) (n : ℕ) (v w p : Root A E) → Forking first places list n → n < length places → v ≡ get_or places n v → w ≡ cut v → p ≡ shoot v → list' ≡ list ++ p ∷ []
+      → Forking first (slice_set places n w) list' (n + 1)
+  forks_more first places list list' n v w p f within read is shot more =
+      let same = f.places_are in
+      let l : n < length first = omega (arith, within, ap length same, length_cut first n) in
+      let at : v ≡ get_or (cut_first n first) n v = read ∙ ap (λ (x : List (Root A E)). get_or x n v) same in
+      let next : suc n ≡ n + 1 = omega arith in
+      record {
+        places_are = (λ i. slice_set (same i) n (is i)) ∙ (cut_next first n v l at ∙ ap (λ m. cut_first m first) next);
+        list_is = more ∙ ((λ i. f.list_is i ++ shot i ∷ []) ∙ (shoots_next first n v l at ∙ ap (λ m. shoots m first) next));
+      }
+
+  pub forks_so_far : (first places list : List (Root A E)) (n : ℕ) → Forking first places list n → Unlearned first places
+  forks_so_far first places list n f = unlearned_of first places (ap bared f.places_are ∙ bared_cut first n)
+
+  pub forks_all : (first places list : List (Root A E)) (n : ℕ) → Forking first places list n → length first ≤ n → Unlearned first list × Forks (kin_at first) (kin_at places) (kin_at list)
+  forks_all first places list n f l = (
+    unlearned_of first list (ap bared f.list_is ∙ bared_shoots first n l),
+    record { split = λ q. ap (λ (x : List (Root A E)). kin_at x q) f.places_are ∙ kin_cut first n l q; shoots = λ q. ap (λ (x : List (Root A E)). kin_at x q) f.list_is ∙ kin_shoots first n l q },
+  )
+
+  -- a fork that wasn't made, or not put into the list
+  pub forks_not : (first places list : List (Root A E)) (n : ℕ) (v w : Root A E) → Forking first places list n → v ≡ get_or places n v → n < length places → w ≡ root_with v w.kin → Unlearned first (slice_set places n w)
+  forks_not first places list n v w f read within e = unlearned_of first (slice_set places n w) (bared_set places n v w read within e ∙ (ap bared f.places_are ∙ bared_cut first n))
+
+  -- the root from which one was split off on, as it is then
+  pub cut_as : (v x w : Root A E) → v ≡ x → w ≡ root_with x w.kin → w.kin ≡ cut_off x.kin → w ≡ cut v
+  cut_as v x w e k c = k ∙ (λ i. root_with (sym e i) ((c ∙ ap (λ (r : Root A E). cut_off r.kin) (sym e)) i))
+
+  pub shoot_as : (v x p : Root A E) → v ≡ x → p ≡ root_with x (offshoot x.kin) → p ≡ shoot v
+  shoot_as v x p e k = k ∙ ap shoot (sym e)
+
+  -- one root more
+  pub trunks_more : (roots roots' : List (Root A E)) (x : Root A E) → AreTrunks roots → x.kin ≡ trunk → roots' ≡ roots ++ x ∷ [] → AreTrunks roots'
+  trunks_more roots roots' x all new is = subst (λ (l : List (Root A E)). AreTrunks l) (sym is) (trunks_behind roots x all new)
+    where
+      trunks_behind : (roots : List (Root A E)) (x : Root A E) → AreTrunks roots → x.kin ≡ trunk → AreTrunks (roots ++ x ∷ [])
+      trunks_behind [] x all new zero l = new
+      trunks_behind [] x all new (suc q) l = absurd (omega (arith, l))
+      trunks_behind (k ∷ ks) x all new zero l = all zero (omega arith)
+      trunks_behind (k ∷ ks) x all new (suc q) l = trunks_behind ks x (λ p m. all (suc p) (omega (arith, m))) new q (omega (arith, l))
 
   pub gathers_within : (others left ys roots roots' : List (Root A E)) (x : Root A E) (k : ℕ) → Gathers others left roots roots' → gates others ≡ gates roots → left ≡ ys ++ x ∷ [] → k ≡ length ys → k < length roots'
   gathers_within others left ys roots roots' x k i same is at =
@@ -111,11 +337,11 @@ module _ {A E : Type 0} where
   gathers_gate_at others left ys roots roots' x d k i same is at =
       gathers_gate others left ys roots roots' x (get_or roots' k d) i same is (subst (λ (j : ℕ). slice_get roots' j ≡ Some (get_or roots' k d)) at (slice_get-get_or roots' k d (gathers_within others left ys roots roots' x k i same is at)))
 
-  pub gathers_more_at : (others left ys roots roots' : List (Root A E)) (x d w : Root A E) (k : ℕ) → Gathers others left roots roots' → gates others ≡ gates roots → left ≡ ys ++ x ∷ [] → k ≡ length ys → Stays (get_or roots' k d) w → Begins x.seen w.seen
+  pub gathers_more_at : (others left ys roots roots' : List (Root A E)) (x d w : Root A E) (k : ℕ) → Gathers others left roots roots' → gates others ≡ gates roots → left ≡ ys ++ x ∷ [] → k ≡ length ys → Stays (get_or roots' k d) w → Begins x.seen w.seen → w.kin ≡ (get_or roots' k d).kin ++ x.kin
       → Gathers others ys roots (slice_set roots' k w)
-  gathers_more_at others left ys roots roots' x d w k i same is at s b =
+  gathers_more_at others left ys roots roots' x d w k i same is at s b takes =
       subst (λ (j : ℕ). Gathers others ys roots (slice_set roots' j w)) (sym at)
-      (gathers_more others left ys roots roots' x (get_or roots' k d) w i is (subst (λ (j : ℕ). slice_get roots' j ≡ Some (get_or roots' k d)) at (slice_get-get_or roots' k d (gathers_within others left ys roots roots' x k i same is at))) s b)
+      (gathers_more others left ys roots roots' x (get_or roots' k d) w i is (subst (λ (j : ℕ). slice_get roots' j ≡ Some (get_or roots' k d)) at (slice_get-get_or roots' k d (gathers_within others left ys roots roots' x k i same is at))) s b takes)
 
   pub seen_set_else : (roots : List (Root A E)) (place : ℕ) (w : Root A E) (q : ℕ) → q ≢ place → seen_at (slice_set roots place w) q ≡ seen_at roots q
   seen_set_else [] place w q d = refl
@@ -144,3 +370,23 @@ module _ {A E : Type 0} where
       let g : Grown roots new = subst (λ (l : List (Root A E)). Grown l new) is grown in
       let h : Grown gone new = record { gates = g.gates ∙ sym same; seen = subst (λ (l : List (Root A E)). Later (seen_at l) (seen_at new)) was later } in
       (subst (λ (l : List (Root A E)). Grown roots l) (sym e) g, subst (λ (l : List (Root A E)). Grown gone l) (sym e) h)
+
+  pub forked : (mid old new roots : List (Root A E)) (n : ℕ) → mid ≡ old → length old ≡ n → old ≡ roots → Unlearned mid new → Unlearned roots (take n (new ++ drop (length new) old))
+  forked mid old new roots n start len is u =
+      let f : Root A E → GateId A = λ (k : Root A E). k.gate in
+      let long : length new ≡ n = sym (length-map new f) ∙ (ap length u.gates ∙ (length-map mid f ∙ (ap length start ∙ len))) in
+      subst (λ (x : List (Root A E) × List (Root A E)). Unlearned x.0 x.1) (λ i. ((start ∙ is) i, sym (kept n new (drop (length new) old) long) i)) u
+
+  pub forked_kin : (mid old new roots s : List (Root A E)) (n : ℕ) → mid ≡ old → length old ≡ n → old ≡ roots → Unlearned mid new → Unlearned mid s × Forks (kin_at mid) (kin_at new) (kin_at s)
+      → Unlearned roots s × Forks (kin_at roots) (kin_at (take n (new ++ drop (length new) old))) (kin_at s)
+  forked_kin mid old new roots s n start len is u f =
+      let g : Root A E → GateId A = λ (k : Root A E). k.gate in
+      let long : length new ≡ n = sym (length-map new g) ∙ (ap length u.gates ∙ (length-map mid g ∙ (ap length start ∙ len))) in
+      subst (λ (x : List (Root A E) × List (Root A E)). Unlearned x.0 s × Forks (kin_at x.0) (kin_at x.1) (kin_at s)) (λ i. ((start ∙ is) i, sym (kept n new (drop (length new) old) long) i)) f
+
+  pub gathered_kin : (mid old new others roots gone : List (Root A E)) (n : ℕ) → mid ≡ old → length old ≡ n → old ≡ roots → others ≡ gone → Grown mid new → TakesAll (kin_at mid) (kin_at others) (kin_at new)
+      → TakesAll (kin_at roots) (kin_at gone) (kin_at (take n (new ++ drop (length new) old)))
+  gathered_kin mid old new others roots gone n start len is was grown takes =
+      let f : Root A E → GateId A = λ (k : Root A E). k.gate in
+      let long : length new ≡ n = sym (length-map new f) ∙ (ap length grown.gates ∙ (length-map mid f ∙ (ap length start ∙ len))) in
+      subst (λ (x : List (Root A E) × List (Root A E) × List (Root A E)). TakesAll (kin_at x.0) (kin_at x.1) (kin_at x.2)) (λ i. ((start ∙ is) i, was i, sym (kept n new (drop (length new) old) long) i)) takes

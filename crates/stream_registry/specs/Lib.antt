@@ -4,6 +4,7 @@ pub mod Names
 pub mod Told
 pub mod Sites
 pub mod Placed
+pub mod Splits
 pub mod Gates
 pub mod SharedState
 pub mod Books

@@ -3,8 +3,9 @@ use Rattle.std.specs.Prelude.{◌≡◌, ◌<◌, ◌^◌, List, [], ◌∷◌, 
 use Rattle.std.specs.declared.result.Result.TheVariants.{Err}
 use Rattle.av_unit.specs.declared.bytes.OutOfMemory.{OutOfMemory}
 use Rattle.stream_model.specs.declared.calls.Entry.{Entry}
-use Rattle.stream_model.specs.declared.calls.StreamLimits.{StreamLimits}
-use Rattle.stream_model.specs.Answer.{reply, IsSent}
+use Rattle.stream_model.specs.declared.calls.Shape.{Shape}
+use Rattle.stream_model.specs.Answer.{IsSent}
+use Rattle.stream_model.specs.Shape.{shape_reply}
 use Rattle.turn_gate.specs.Histories.{Begins}
 use Rattle.turn_gate.specs.Known.{PassKnown, met_once}
 use Rattle.stream_registry.specs.declared.desk.Site.{Site}
@@ -18,13 +19,13 @@ pub record IsRefusedMemory (v : PassKnown Site Attempt) (entry : Entry) (w : Pas
   pub before : List Attempt
   pub begins : Begins v.seen before
   pub room : length before < 2 ^ 62
-  pub sent : IsSent (reply v.gate.about.limits (past_of before) entry)
+  pub sent : IsSent (shape_reply v.gate.about.limits (past_of before) entry)
   pub refusal : OutOfMemory
   pub seen_is : w.seen ≡ before ++ (entry, Err refusal) ∷ []
 
--- A HISTORY THAT IS FULL: the stream has had as many calls as it can count, those for which there was no memory among them. The rules
+-- A HISTORY THAT IS FULL: the place has had as many calls as it can count, those for which there was no memory among them. The rules
 -- answer the others, and would have answered each of these with an item
-pub record IsFull (limits : StreamLimits) (attempts : List Attempt) : Type 0 where
+pub record IsFull (limits : Shape) (attempts : List Attempt) : Type 0 where
   pub all : length attempts ≡ 2 ^ 62
   pub lawful : IsLawfulAt limits attempts
 

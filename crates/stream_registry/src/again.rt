@@ -5,7 +5,7 @@ ghost use Rattle.stream_registry.specs.Wants.{taking, numbers_of};
 use av_unit::{OutOfMemory, Want};
 use stream_core::{Call, Entry};
 
-/// The same entry once more: its unit is shared, not copied.
+/// The same entry once more: its unit is shared, and its name copied.
 pub(crate) fn entry_again(entry: &Entry) -> Result<Entry, OutOfMemory>
     ensures { IfOk result (λ other. other ≡ entry.now) }
 {
@@ -35,6 +35,22 @@ pub(crate) fn entry_again(entry: &Entry) -> Result<Entry, OutOfMemory>
             at,
             call: Call::Join,
         }),
+        Call::BeginAs(name) => {
+            let name = name.again()?;
+            Ok(Entry {
+                who,
+                at,
+                call: Call::BeginAs(name),
+            })
+        }
+        Call::JoinAs(name) => {
+            let name = name.again()?;
+            Ok(Entry {
+                who,
+                at,
+                call: Call::JoinAs(name),
+            })
+        }
         Call::Take { player, want } => Ok(Entry {
             who,
             at,

@@ -1,30 +1,32 @@
-//! A stream behind a gate.
+//! What stands behind a gate: a stream or a pool.
 ghost use Rattle.std.specs.Prelude.{◌≡◌, ◌≤◌, List, [], ◌∷◌, ◌++◌, length, Result};
 ghost use Rattle.av_unit.specs.declared.bytes.OutOfMemory.{OutOfMemory};
 ghost use Rattle.stream_model.specs.declared.calls.Entry.{Entry};
 ghost use Rattle.stream_model.specs.declared.replies.Reply.{Reply};
 ghost use Rattle.turn_gate.specs.Histories.{Begins};
 ghost use Rattle.stream_registry.specs.Pasts.{Attempt, past_after, past_of, GoesOn, Stands, IsLawfulAt};
+ghost use Rattle.stream_core.specs.Table.{known};
+ghost use Rattle.stream_registry.specs.Names.{no_shape};
 ghost use Rattle.stream_registry.specs.Sites.{site};
 
 use av_unit::OutOfMemory;
-use stream_core::{Entry, Reply, Stream, StreamLimits};
+use stream_core::{Entry, Reply, Shape, Table};
 use turn_gate::Machine;
 
-/// What never changes of a stream at a place.
+/// What never changes of a place.
 #[derive(Clone, Copy, Debug, PartialEq, Eq)]
 pub struct Site {
     /// The place, by which the gates of a port are told apart.
     pub place: u32,
-    /// The limits of the stream.
-    pub limits: StreamLimits,
+    /// What the place has, and its limits.
+    pub limits: Shape,
 }
 
-/// The stream at a place, as the machine of a gate.
+/// The stream or the pool at a place, as the machine of a gate.
 #[derive(Drop)]
 pub struct Desk {
     pub place: u32,
-    pub stream: Stream,
+    pub table: Table,
 }
 
 impl Machine for Desk {
@@ -34,16 +36,16 @@ impl Machine for Desk {
 
     type About = Site;
 
-    ghost about = { λ d. site d.place d.stream.limits };
+    ghost about = { λ d. site d.place (known d.table).shape };
 
-    ghost any = { site 0 record { bytes = 0; items = 0; players = 0 } };
+    ghost any = { site 0 no_shape };
 
-    ghost stands = { λ d h. Stands d.stream h };
+    ghost stands = { λ d h. Stands (known d.table) h };
 
     ghost lawful = { λ s. IsLawfulAt s.limits };
 
     fn apply(&mut self, call: Entry) -> Result<Reply, OutOfMemory> {
-        self.stream.apply(call)
+        self.table.apply(call)
     }
 
     ghost legal = { λ d h s. s.1 };

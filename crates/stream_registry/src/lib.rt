@@ -1,8 +1,9 @@
-//! Ports: the ways of sessions, recorders and workers to the streams at some places.
+//! Ports: the ways of sessions, recorders and workers to the streams and pools at some places.
 //!
-//! A [`StreamPort`] answers calls at the stream of each place, and tells what was seen of that
-//! stream's one history. [`Sole`] serves one thread, and keeps a journal of each stream's calls.
-//! [`Shared`] puts each stream behind a gate, and many threads have one each.
+//! A [`StreamPort`] answers calls at each place, and tells what was seen of that place's one history.
+//! A place has a stream that was listed, or a pool, an open table, whose broadcasts have the names that
+//! their publishers give. [`Sole`] serves one thread, and keeps a journal of each place's calls.
+//! [`Shared`] puts each place behind a gate, and many threads have one each.
 #![tactic(auto)]
 
 mod again;
@@ -11,12 +12,14 @@ mod desk;
 mod names;
 mod place;
 mod port;
+mod shapes;
 mod shared;
 mod sole;
 mod ways;
 
 pub use desk::{Desk, Site, pasts_law};
-pub use names::{Name, NameList, NotFound};
+pub use names::{Name, NameList, NotFound, OpenList, OpenName};
 pub use port::{PortFail, StreamPort};
+pub use shapes::places_law;
 pub use shared::{Shared, shared_ports};
 pub use sole::{Sole, SolePass};

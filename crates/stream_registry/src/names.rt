@@ -1,10 +1,12 @@
-//! The names of streams.
-ghost use Rattle.std.specs.Prelude.{◌≡◌, ◌↔◌, ◌≤◌, ◌^◌, ◌++◌, ◌∷◌, [], length, IsTrue, OnOk, OnErr};
-ghost use Rattle.stream_registry.specs.Names.{IsNamed, IsPlaceOf};
+//! The names of streams and of open tables.
+ghost use Rattle.std.specs.Prelude.{◌≡◌, ◌↔◌, ◌≤◌, ◌<◌, ◌+◌, ◌^◌, ◌++◌, ◌∷◌, [], true, length, IsTrue, IfOk, IfSome, OnOk, OnErr};
+ghost use Rattle.stream_registry.specs.Names.{IsNamed, IsListedAt, IsOpenOf, IsPlaceOf};
 
 use av_unit::{Bytes, OutOfMemory};
 use std::alloc::Global;
 use std::marker::Model;
+use stream_core::ShortName;
+use stream_model::is_name;
 
 /// The name of a stream: that of its application, and its own.
 #[derive(Debug, Drop)]
@@ -12,18 +14,37 @@ pub struct Name {
     /// The application.
     pub app: Bytes,
     /// The stream in it.
-    pub name: Bytes,
+    pub name: ShortName,
 }
 
 impl Name {
     fn is(&self, app: &[u8], name: &[u8]) -> bool
-        ensures { IsTrue result ↔ IsNamed self.now app.now name.now }
+        ensures named { IsTrue result ↔ IsNamed self.now app.now name.now }
+        ensures few { IsTrue result → length name.now ≤ 64 }
     {
-        self.app.as_slice() == app && self.name.as_slice() == name
+        let own = self.name.as_slice();
+        self.app.as_slice() == app && own == name
     }
 }
 
-/// No place has a stream of that name.
+/// An open table: an application whose publishers give the names of their broadcasts themselves.
+#[derive(Debug, Drop)]
+pub struct OpenName {
+    /// The application.
+    pub app: Bytes,
+    /// How many names it has at a time.
+    pub slots: u32,
+}
+
+impl OpenName {
+    fn has_app(&self, app: &[u8]) -> bool
+        ensures { IsTrue result ↔ (self.now.app ≡ app.now) }
+    {
+        self.app.as_slice() == app
+    }
+}
+
+/// No place has a stream of that name, nor does an open table take it.
 #[derive(Clone, Copy, Debug, PartialEq, Eq)]
 pub struct NotFound;
 
@@ -70,16 +91,113 @@ impl NameList {
         self.list.len()
     }
 
-    /// The first place that has that pair. `NotFound` comes exactly where none has it.
-    pub fn find(&self, app: &[u8], name: &[u8]) -> Result<u32, NotFound>
+    /// The names, in the order of the places.
+    pub fn as_slice(&self) -> &[Name]
+        ensures { result.now ≡ self.now }
+    {
+        &self.list
+    }
+
+    /// The first place that has that pair, if one has it.
+    pub fn find(&self, app: &[u8], name: &[u8]) -> Option<u32>
         requires { length self.now ≤ 2 ^ 32 }
-        ensures { IsPlaceOf self.now app.now name.now result }
+        ensures place { IsListedAt self.now app.now name.now result }
+        ensures few { IfSome result (λ _. length name.now ≤ 64) }
     {
         for place in 0..self.list.len() {
             if self.list[place].is(app, name) {
-                return Ok(place as u32);
+                return Some(place as u32);
             }
         }
-        Err(NotFound)
+        None
+    }
+}
+
+/// The open tables, in the order of their places.
+#[derive(Debug, Drop)]
+pub struct OpenList {
+    list: Vec<OpenName>,
+}
+
+impl Model for OpenList {
+    ghost use Rattle.std.specs.Prelude.{List};
+    ghost use Rattle.stream_registry.specs.declared.names.OpenName.{OpenName};
+
+    ghost Value = { List OpenName };
+
+    ghost view = { λ o. o.list.items };
+}
+
+impl OpenList {
+    /// No open tables.
+    pub fn new(alloc: Global) -> OpenList
+        ensures { result ≡ [] }
+    {
+        OpenList {
+            list: Vec::new(alloc),
+        }
+    }
+
+    /// One open table more.
+    pub fn push(&mut self, table: OpenName) -> Result<(), OutOfMemory>
+        ensures ok { OnOk result (self.new ≡ self.old ++ table ∷ []) }
+        ensures err { OnErr result (self.new ≡ self.old) }
+    {
+        match self.list.push(table) {
+            Ok(()) => Ok(()),
+            Err(_) => Err(OutOfMemory),
+        }
+    }
+
+    /// How many open tables there are.
+    pub fn len(&self) -> usize
+        ensures { result ≡ length self.now }
+    {
+        self.list.len()
+    }
+
+    /// The open tables.
+    pub fn as_slice(&self) -> &[OpenName]
+        ensures { result.now ≡ self.now }
+    {
+        &self.list
+    }
+
+    /// The first open table that has that application, if one has it.
+    pub fn find(&self, app: &[u8]) -> Option<u32>
+        requires { length self.now ≤ 2 ^ 32 }
+        ensures { IsOpenOf self.now app.now result }
+    {
+        for table in 0..self.list.len() {
+            if self.list[table].has_app(app) {
+                return Some(table as u32);
+            }
+        }
+        None
+    }
+}
+
+/// The place of a pair of names: the first stream that has it, else the first open table of the application, where the name is
+/// one that a caller may give. The open tables have the places behind the streams.
+pub(crate) fn place_of(
+    names: &NameList,
+    opens: &OpenList,
+    app: &[u8],
+    name: &[u8],
+) -> Result<u32, NotFound>
+    requires { length names.now + length opens.now ≤ 2 ^ 32 }
+    ensures place { IsPlaceOf names.now opens.now app.now name.now result }
+    ensures there { IfOk result (λ place. place < length names.now + length opens.now) }
+    ensures few { IfOk result (λ _. length name.now ≤ 64) }
+{
+    if let Some(place) = names.find(app, name) {
+        return Ok(place);
+    }
+    if !is_name(name) {
+        return Err(NotFound);
+    }
+    match opens.find(app) {
+        Some(table) => Ok(names.len() as u32 + table),
+        None => Err(NotFound),
     }
 }

@@ -1,15 +1,17 @@
 //! One thread's way to one gate. It is generic in the machine, so that it is seen to cross threads.
-ghost use Rattle.std.specs.Prelude.{◌≡◌, [], IfOk, IfErr};
+ghost use Rattle.std.specs.Prelude.{◌≡◌, ◌++◌, [], IfOk, IfErr};
 ghost use Rattle.turn_gate.specs.Histories.{Begins, longer};
-ghost use Rattle.turn_gate.specs.Known.{newcomer, RepliedAfter, Failed};
-ghost use Rattle.stream_registry.specs.Roots.{Stays, Remembers};
+ghost use Rattle.turn_gate.specs.Branches.{trunk, cut_off, offshoot};
+ghost use Rattle.turn_gate.specs.Known.{newcomer, RepliedAfter, Failed, SplitOnce};
+ghost use Rattle.stream_registry.specs.Roots.{Stays, Remembers, root_with};
 
 use std::alloc::{AllocError, Global};
 use std::marker::Model;
 use std::sync::Arc;
 use turn_gate::{CallFail, Gate, Machine, Pass};
 
-/// A gate that other threads have too, and a pass of its own: the root. Contracts see the gate, and what the root has seen.
+/// A gate that other threads have too, and a pass of its own: the root. Contracts see the gate, what the root has
+/// seen, and its place among the passes.
 #[derive(Drop)]
 pub struct Place<T: Machine + Drop> {
     gate: Arc<Gate<T>, Global>,
@@ -23,7 +25,7 @@ impl<T: Machine + Drop> Model for Place<T> {
 
     ghost Value = { Root T.About (T.Call × T.Reply) };
 
-    ghost view = { λ p. record { gate = p.root.gate; seen = p.root.seen } };
+    ghost view = { λ p. record { gate = p.root.gate; seen = p.root.seen; kin = p.root.kin } };
 
     ghost invariant = { λ p. p.root.gate ≡ arc_value p.gate };
 }
@@ -32,7 +34,7 @@ impl<T: Machine + Drop> Place<T> {
     /// A gate with no calls yet.
     pub fn new(alloc: Global, machine: T, about: &T::About) -> Result<Place<T>, AllocError>
         requires { T.stands machine [] × (about.now ≡ T.about machine) }
-        ensures { IfOk result (λ p. (p.seen ≡ []) × (p.gate.about ≡ about.now)) }
+        ensures { IfOk result (λ p. (p.seen ≡ []) × (p.kin ≡ trunk) × (p.gate.about ≡ about.now)) }
     {
         let (gate, root) = Gate::new(alloc, machine, about)?;
         let Ok(gate) = Arc::new(alloc, gate) else {
@@ -43,8 +45,8 @@ impl<T: Machine + Drop> Place<T> {
 
     /// Another thread's way to the same gate.
     pub fn fork(&mut self) -> Result<Place<T>, AllocError>
-        ensures fork { IfOk result (λ p. p ≡ self.old) }
-        ensures same { self.new ≡ self.old }
+        ensures fork { IfOk result (λ p. (p ≡ root_with self.old (offshoot self.old.kin)) × (self.new.kin ≡ cut_off self.old.kin)) }
+        ensures same { self.new ≡ root_with self.old self.new.kin }
     {
         let Ok(gate) = Arc::try_clone(&self.gate) else {
             return Err(AllocError);
@@ -55,8 +57,8 @@ impl<T: Machine + Drop> Place<T> {
 
     /// A pass that has made no call, and has seen what the root has.
     pub fn attach(&mut self) -> Pass<T>
-        ensures new { result ≡ newcomer self.old.gate self.old.seen }
-        ensures same { self.new ≡ self.old }
+        ensures new { result ≡ newcomer self.old.gate (offshoot self.old.kin) self.old.seen }
+        ensures same { self.new ≡ root_with self.old (cut_off self.old.kin) }
     {
         self.gate.split(&mut self.root)
     }
@@ -66,6 +68,7 @@ impl<T: Machine + Drop> Place<T> {
         requires { pass.gate ≡ self.old.gate }
         ensures stays { Stays self.old self.new × Begins pass.seen self.new.seen }
         ensures longer { self.new.seen ≡ longer self.old.seen pass.seen }
+        ensures kin { self.new.kin ≡ self.old.kin ++ pass.kin }
     {
         self.gate.join(&mut self.root, pass);
     }
@@ -73,7 +76,8 @@ impl<T: Machine + Drop> Place<T> {
     /// What the other's root had seen is a beginning of what this one has then seen.
     pub fn gather(&mut self, other: Place<T>)
         requires { other.gate ≡ self.old.gate }
-        ensures { Stays self.old self.new × Begins other.seen self.new.seen }
+        ensures stays { Stays self.old self.new × Begins other.seen self.new.seen }
+        ensures kin { self.new.kin ≡ self.old.kin ++ other.kin }
     {
         let Place { gate, root } = other;
         drop(gate);
@@ -83,7 +87,8 @@ impl<T: Machine + Drop> Place<T> {
     /// Tries once. The calls before begin with all that the root and the pass had seen.
     pub fn call(&mut self, pass: &mut Pass<T>, call: T::Call) -> Result<T::Reply, CallFail<T::Call>>
         requires { pass.old.gate ≡ self.old.gate }
-        ensures port { self.new ≡ self.old }
+        ensures port { self.new ≡ root_with self.old self.new.kin }
+        ensures kin { SplitOnce self.old.kin pass.old.kin result self.new.kin pass.new.kin }
         ensures pass { Remembers pass.old pass.new }
         ensures reply { IfOk result (λ r. RepliedAfter (T.lawful self.old.gate.about) self.old.seen pass.old (call, r) pass.new) }
         ensures fails { IfErr result (λ e. Failed (T.lawful self.old.gate.about) pass.old call e pass.new) }

@@ -1,10 +1,13 @@
-//! A way to streams.
-ghost use Rattle.std.specs.Prelude.{◌≡◌, ◌≢◌, ◌<◌, ◌≤◌, ◌^◌, ℕ, List, [], length, IfOk, IfErr};
-ghost use Rattle.stream_model.specs.declared.calls.StreamLimits.{StreamLimits};
+//! A way to streams and pools.
+ghost use Rattle.std.specs.Prelude.{◌≡◌, ◌≢◌, ◌<◌, ◌≤◌, ◌^◌, ℕ, List, [], ◌++◌, length, IfOk, IfErr};
+ghost use Rattle.stream_model.specs.declared.calls.Shape.{Shape};
+ghost use Rattle.turn_gate.specs.declared.view.Branch.{Branch};
+ghost use Rattle.turn_gate.specs.Branches.{offshoot};
 ghost use Rattle.turn_gate.specs.Histories.{Begins, longer};
-ghost use Rattle.stream_registry.specs.Names.{PortRules, IsPlaceOf};
+ghost use Rattle.stream_registry.specs.Names.{PortRules, IsPlaceOf, places};
 ghost use Rattle.stream_registry.specs.Told.{Step, Histories, Keeps};
-ghost use Rattle.stream_registry.specs.Placed.{Placed, Failed, TriedOnce};
+ghost use Rattle.stream_registry.specs.Placed.{Placed, Failed, TriedOnce, answered};
+ghost use Rattle.stream_registry.specs.Splits.{Kin, SplitsOff, TakesIn, CallSplits};
 ghost use Rattle.stream_registry.specs.Wants.{IsWanted};
 ghost use Rattle.stream_model.specs.declared.calls.Entry.{Entry};
 
@@ -22,15 +25,15 @@ pub enum PortFail {
     OutOfMemory(Entry),
 }
 
-/// A way to the streams at some places. What it has seen of each is its root there.
+/// A way to the streams and pools at some places. What it has seen of each is its root there.
 pub trait StreamPort: Drop {
-    /// The right to call the stream at one place. It has seen a beginning of that stream's history.
+    /// The right to make calls at one place. It has seen a beginning of that place's history.
     type Pass: Drop;
 
     // How many calls were answered Busy; it never falls.
     ghost busies: { Self → ℕ };
 
-    // What never changes of it: the name and the limits of the stream at each place.
+    // What never changes of it: the names of its streams and open tables, and what each place has with its limits.
     ghost rules: { Self → PortRules };
 
     // What the root has seen at each place.
@@ -39,12 +42,21 @@ pub trait StreamPort: Drop {
     // The pass was attached at this place, to this port or to one made with it.
     ghost fits: { Self → ℕ → Self.Pass → Type 0 };
 
-    ghost limits: { Self.Pass → StreamLimits };
+    // What its place has, and its limits.
+    ghost limits: { Self.Pass → Shape };
 
     ghost seen: { Self.Pass → List Step };
 
     // The numbers of its own calls in what it has seen.
     ghost mine: { Self.Pass → List ℕ };
+
+    // Which passes were split off from which: the branches of the root at each place, and of a pass.
+    ghost kin: { Self → Kin };
+
+    ghost branches: { Self.Pass → List Branch };
+
+    // What calls add to the history of their place, which was the first and is the last. A port that shares its places tells nothing.
+    ghost adds: { List Step → List Step → List Step → Type 0 };
 
     // How many calls it has seen, those that were refused for memory as well.
     ghost count: { Self.Pass → ℕ };
@@ -52,29 +64,36 @@ pub trait StreamPort: Drop {
     // Whether there may be no memory for this call.
     ghost wants: { Entry → Type 0 };
 
-    /// The first place that has a stream of that name. `NotFound` comes exactly where none has it.
+    /// The first place that has a stream of that name, else the first open table of that application, where the name is one that a
+    /// caller may give. `NotFound` comes exactly where no stream has the pair, and no open table has the application or the name is
+    /// no such name.
     fn find(&self, app: &[u8], name: &[u8]) -> Result<u32, NotFound>
-        ensures { IsPlaceOf (rules self.now).names app.now name.now result };
+        ensures place { IsPlaceOf (rules self.now).names (rules self.now).opens app.now name.now result }
+        ensures there { IfOk result (λ place. place < places (rules self.now)) }
+        ensures few { IfOk result (λ _. length name.now ≤ 64) };
 
     /// A pass that has made no call, and has seen what the root has.
     fn attach(&mut self, place: u32) -> Self::Pass
-        requires { place < length (rules self.old).names }
+        requires { place < places (rules self.old) }
         ensures pass { fits self.new place result × (limits result ≡ (rules self.old).limits place) }
         ensures seen { (seen result ≡ root self.old place) × (mine result ≡ []) }
         ensures fixed { (rules self.new ≡ rules self.old) × (busies self.new ≡ busies self.old) }
         ensures root { (q : ℕ) → root self.new q ≡ root self.old q }
+        ensures split { SplitsOff (kin self.old) (kin self.new) place × (branches result ≡ offshoot (kin self.old place)) }
         ensures fits { (q : ℕ) (p : Self.Pass) → fits self.old q p → fits self.new q p };
 
     /// The root has then seen the longer of what it and the pass had seen.
     fn detach(&mut self, place: u32, pass: Self::Pass)
         requires { fits self.old place pass }
         ensures here { root self.new place ≡ longer (root self.old place) (seen pass) }
+        ensures taken { TakesIn (kin self.old) (branches pass) (kin self.new) place }
+        ensures adds { adds (root self.old place) [] (root self.new place) }
         ensures both { Begins (root self.old place) (root self.new place) × Begins (seen pass) (root self.new place) }
         ensures others { (q : ℕ) → q ≢ place → root self.new q ≡ root self.old q }
         ensures fixed { (rules self.new ≡ rules self.old) × (busies self.new ≡ busies self.old) }
         ensures fits { (q : ℕ) (p : Self.Pass) → fits self.old q p → fits self.new q p };
 
-    /// One call, answered after all that came before it. It tries the stream once, and never waits.
+    /// One call, answered after all that came before it. It tries the place once, and never waits.
     fn call(&mut self, place: u32, pass: &mut Self::Pass, entry: Entry) -> Result<Reply, PortFail>
         requires { fits self.old place pass.old }
         ensures pass { fits self.new place pass.new × (limits pass.new ≡ limits pass.old) × Begins (seen pass.old) (seen pass.new) }
@@ -88,10 +107,17 @@ pub trait StreamPort: Drop {
         ensures once { TriedOnce (busies self.old) (busies self.new) result }
         ensures busies { busies self.old ≤ busies self.new }
         ensures here { Begins (root self.old place) (root self.new place) }
+        ensures split { CallSplits (kin self.old) (branches pass.old) result (kin self.new) (branches pass.new) place }
+        ensures adds { adds (root self.old place) (answered entry result) (root self.new place) }
         ensures others { (q : ℕ) → q ≢ place → root self.new q ≡ root self.old q }
         ensures fixed { rules self.new ≡ rules self.old }
         ensures fits { (q : ℕ) (p : Self.Pass) → fits self.old q p → fits self.new q p };
 
-    // A pass that fits has the limits of the stream at its place.
+    // No call adds nothing, and what two runs of calls add is what both add together.
+    ghost adds_none: { (h : List Step) → adds h [] h };
+
+    ghost adds_both: { (h i j xs ys : List Step) → adds h xs i → adds i ys j → adds h (xs ++ ys) j };
+
+    // A pass that fits has the limits of its place.
     ghost ruled: { (x : Self) (q : ℕ) (p : Self.Pass) → fits x q p → limits p ≡ (rules x).limits q };
 }

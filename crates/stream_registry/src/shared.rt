@@ -1,58 +1,70 @@
-//! The port of one thread to streams that many serve.
-ghost use Rattle.std.specs.Prelude.{◌≡◌, ◌≤◌, length, IfOk, All};
-ghost use Rattle.stream_registry.specs.Roots.{Later, gates};
+//! The port of one thread to streams and pools that many serve.
+ghost use Rattle.std.specs.Prelude.{◌≡◌, ◌≤◌, ◌+◌, ℕ, [], length, IfOk, All};
+ghost use Rattle.turn_gate.specs.Branches.{trunk, cut_off};
+ghost use Rattle.stream_registry.specs.Roots.{Later, AreTrunks, kin_at, gates};
+ghost use Rattle.stream_registry.specs.Splits.{TakesAll, cut_times};
 ghost use Rattle.stream_registry.specs.Gates.{told_at};
-ghost use Rattle.stream_registry.specs.SharedState.{IsFork, IsNewPort, AreNewPorts, shared_rules};
-ghost use Rattle.stream_registry.specs.Sites.{AreNewRoots, AreSites};
+ghost use Rattle.stream_registry.specs.SharedState.{HasKin, IsFork, IsAsBefore, IsNewPort, AreNewPorts, shared_rules};
+ghost use Rattle.stream_registry.specs.Names.{AreFew, AreTables, shapes_of};
+ghost use Rattle.stream_registry.specs.Sites.{AreNewRoots, AreSites, site};
+ghost use Rattle.stream_model.specs.Shape.{AreFewSlots};
 
 use crate::again::TakeNumbers;
 use crate::desk::{Desk, Site};
-use crate::names::{NameList, NotFound};
+use crate::names::{NameList, NotFound, OpenList, place_of};
 use crate::place::Place;
 use crate::port::{PortFail, StreamPort};
+use crate::shapes::place_shapes;
 use crate::ways::Ways;
 use av_unit::OutOfMemory;
 use std::alloc::Global;
 use std::marker::Model;
 use std::sync::Arc;
-use stream_core::{Entry, Reply, Stream, StreamLimits};
-use stream_law::viewers_law;
+use stream_core::{Entry, Reply, Shape, StreamLimits, Table};
+use stream_law::{tables_law, takes_alone, takes_alone_at_pools};
 use turn_gate::{CallFail, Machine, Pass};
 
-/// A gate for each place, and what was seen there. The machine behind a gate is a [`Desk`], a stream. The type is generic in
+/// A gate for each place, and what was seen there. The machine behind a gate is a [`Desk`], a stream or a pool. The type is generic in
 /// it, so that it is seen to cross threads.
 #[derive(Drop)]
 pub struct Shared<T: Machine + Drop> {
     ways: Ways<T>,
     names: Arc<NameList, Global>,
+    opens: Arc<OpenList, Global>,
     busies: u64,
 }
 
 impl<T: Machine + Drop> Model for Shared<T> {
-    ghost use Rattle.std.specs.Prelude.{◌≡◌, ◌≤◌, length};
+    ghost use Rattle.std.specs.Prelude.{◌≡◌, ◌≤◌, ◌+◌, length};
     ghost use Rattle.std.specs.Arc.{arc_value};
     ghost use Rattle.stream_registry.specs.SharedState.{SharedState};
 
     ghost Value = { SharedState T.About (T.Call × T.Reply) };
 
-    ghost view = { λ s. record { names = arc_value s.names; roots = s.ways; busies = s.busies } };
+    ghost view = { λ s. record { names = arc_value s.names; opens = arc_value s.opens; roots = s.ways; busies = s.busies } };
 
-    ghost invariant = { λ s. (length s.ways ≡ length (arc_value s.names)) × (length (arc_value s.names) ≤ 64) };
+    ghost invariant = { λ s. (length s.ways ≡ length (arc_value s.names) + length (arc_value s.opens))
+        × (length (arc_value s.names) + length (arc_value s.opens) ≤ 64) };
 }
 
-/// Ports for so many threads to streams with these names, each of which has these limits. At each place all ports have the
-/// same gate, and at no two places.
+/// Ports for so many threads to streams with these names and to these open tables. Each stream and each slot has these limits.
+/// At each place all ports have the same gate, and at no two places. Each but the last was split off from the last.
 pub fn shared_ports(
     alloc: Global,
     names: NameList,
+    opens: OpenList,
     limits: StreamLimits,
     ports: usize,
 ) -> Result<Vec<Shared<Desk>>, OutOfMemory>
-    requires { length names ≤ 64 }
-    ensures { IfOk result (λ list. AreNewPorts names limits ports list.items) }
+    requires { AreFew names opens }
+    ensures { IfOk result (λ list. AreNewPorts names opens limits ports list.items) }
 {
-    let mut first = Shared::new(alloc, names, limits)?;
-    let list = fork_ports(alloc, &mut first, ports)?;
+    let mut first = Shared::new(alloc, names, opens, limits)?;
+    if ports == 0 {
+        return Ok(Vec::new(alloc));
+    }
+    let mut list = fork_ports(alloc, &mut first, ports - 1)?;
+    list.push(first)?;
     Ok(list)
 }
 
@@ -63,7 +75,8 @@ fn fork_ports(
     ports: usize,
 ) -> Result<Vec<Shared<Desk>>, OutOfMemory>
     ensures forks { IfOk result (λ list. (length list.items ≡ ports) × All (IsFork first.old) list.items) }
-    ensures same { first.new ≡ first.old }
+    ensures kin { IfOk result (λ _. (q : ℕ) → kin_at first.new.roots q ≡ cut_times ports (kin_at first.old.roots q)) }
+    ensures same { IsAsBefore first.old first.new }
 {
     let mut list = Vec::new(alloc);
     for _ in 0..ports {
@@ -73,36 +86,55 @@ fn fork_ports(
     Ok(list)
 }
 
-// Ways to as many new gates as there are places.
-fn new_ways(alloc: Global, limits: StreamLimits, places: u32) -> Result<Ways<Desk>, OutOfMemory>
-    ensures { IfOk result (λ w. (length w ≡ places) × AreNewRoots limits w) }
+// Ways to a new gate for each place, which has one of these.
+fn new_ways(alloc: Global, shapes: &[Shape]) -> Result<Ways<Desk>, OutOfMemory>
+    requires { AreTables shapes.now }
+    ensures { IfOk result (λ w. (length w ≡ length shapes.now) × AreNewRoots shapes.now w × AreTrunks w) }
 {
     let mut ways = Ways::new(alloc);
-    for place in 0..places {
-        let stream = Stream::new(alloc, limits)?;
-        let way = Place::new(alloc, Desk { place, stream }, &Site { place, limits })?;
+    for place in 0..shapes.len() {
+        let way = new_way(alloc, place as u32, shapes[place])?;
         ways.add(way)?;
     }
     Ok(ways)
+}
+
+// A new gate at that place, which has one of that shape.
+#[tactic(auto, using(crate::proofs::Wanting::stands_first))]
+fn new_way(alloc: Global, place: u32, limits: Shape) -> Result<Place<Desk>, OutOfMemory>
+    requires { AreFewSlots limits.slots }
+    ensures { IfOk result (λ p. (p.seen ≡ []) × (p.kin ≡ trunk) × (p.gate.about ≡ site place limits)) }
+{
+    let table = Table::new(alloc, limits)?;
+    let way = Place::new(alloc, Desk { place, table }, &Site { place, limits })?;
+    Ok(way)
 }
 
 impl Shared<Desk> {
     fn new(
         alloc: Global,
         names: NameList,
+        opens: OpenList,
         limits: StreamLimits,
     ) -> Result<Shared<Desk>, OutOfMemory>
-        requires { length names ≤ 64 }
-        ensures new { IfOk result (λ s. IsNewPort names (gates s.roots) s) }
-        ensures gates { IfOk result (λ s. AreSites limits (gates s.roots) × (length (gates s.roots) ≡ length names)) }
+        requires { AreFew names opens }
+        ensures new { IfOk result (λ s. IsNewPort names opens (gates s.roots) s) }
+        ensures gates { IfOk result (λ s. AreSites (shapes_of limits names opens) (gates s.roots)
+            × (length (gates s.roots) ≡ length names + length opens)) }
+        ensures kin { IfOk result (λ s. HasKin (length (gates s.roots)) trunk s) }
     {
-        let ways = new_ways(alloc, limits, names.len() as u32)?;
+        let shapes = place_shapes(alloc, &names, &opens, limits)?;
+        let ways = new_ways(alloc, &shapes)?;
         let Ok(names) = Arc::new(alloc, names) else {
+            return Err(OutOfMemory);
+        };
+        let Ok(opens) = Arc::new(alloc, opens) else {
             return Err(OutOfMemory);
         };
         Ok(Shared {
             ways,
             names,
+            opens,
             busies: 0,
         })
     }
@@ -110,15 +142,20 @@ impl Shared<Desk> {
     // A port for another thread, to the same gates.
     pub(crate) fn fork(&mut self, alloc: Global) -> Result<Shared<Desk>, OutOfMemory>
         ensures fork { IfOk result (IsFork self.old) }
-        ensures same { self.new ≡ self.old }
+        ensures kin { IfOk result (λ _. (q : ℕ) → kin_at self.new.roots q ≡ cut_off (kin_at self.old.roots q)) }
+        ensures same { IsAsBefore self.old self.new }
     {
         let Ok(names) = Arc::try_clone(&self.names) else {
+            return Err(OutOfMemory);
+        };
+        let Ok(opens) = Arc::try_clone(&self.opens) else {
             return Err(OutOfMemory);
         };
         let ways = self.ways.fork(alloc)?;
         Ok(Shared {
             ways,
             names,
+            opens,
             busies: 0,
         })
     }
@@ -130,10 +167,12 @@ impl Shared<Desk> {
         ensures same { (shared_rules self.new ≡ shared_rules self.old) × (self.new.busies ≡ self.old.busies) }
         ensures grown { Later (told_at self.old.roots) (told_at self.new.roots) }
         ensures later { Later (told_at other.roots) (told_at self.new.roots) }
+        ensures kin { TakesAll (kin_at self.old.roots) (kin_at other.roots) (kin_at self.new.roots) }
     {
         let Shared {
             ways,
             names: _,
+            opens: _,
             busies: _,
         } = other;
         self.ways.gather(ways);
@@ -148,11 +187,14 @@ impl StreamPort for Shared<Desk> {
     ghost use Rattle.turn_gate.specs.Known.{PassKnown};
     ghost use Rattle.stream_registry.specs.declared.desk.Site.{Site};
     ghost use Rattle.stream_registry.specs.Pasts.{Attempt};
+    ghost use Rattle.stream_registry.specs.Names.{places};
     ghost use Rattle.stream_registry.specs.Told.{Keeps};
     ghost use Rattle.stream_registry.specs.Placed.{Placed, Failed, TriedOnce};
     ghost use Rattle.stream_registry.specs.Refusals.{IsRefused};
     ghost use Rattle.stream_registry.specs.Gates.{told, told_at, numbers};
-    ghost use Rattle.stream_registry.specs.Roots.{gates, seen_at};
+    ghost use Rattle.turn_gate.specs.Branches.{offshoot};
+    ghost use Rattle.stream_registry.specs.Roots.{Unlearned, gates, seen_at, kin_at};
+    ghost use Rattle.stream_registry.specs.Splits.{SplitsOff, TakesIn, CallSplits};
     ghost use Rattle.stream_registry.specs.SharedState.{shared_rules, limits_at};
     ghost use Rattle.stream_registry.specs.Wants.{IsTake, IsWanted};
 
@@ -170,17 +212,25 @@ impl StreamPort for Shared<Desk> {
 
     ghost mine = { λ p. numbers p.seen p.mine };
 
+    ghost kin = { λ s. kin_at s.roots };
+
+    ghost branches = { λ p. p.kin };
+
+    ghost adds = { λ h xs i. Unit {0} };
+
     ghost count = { λ p. length p.seen };
 
     ghost wants = { λ e. IsTake e.call };
 
     fn find(&self, app: &[u8], name: &[u8]) -> Result<u32, NotFound> {
-        self.names.find(app, name)
+        let names: &NameList = &self.names;
+        let opens: &OpenList = &self.opens;
+        place_of(names, opens, app, name)
     }
 
     /// As the trait says. The calls that memory refused are among those that the pass has seen.
     fn attach(&mut self, place: u32) -> Pass<Desk>
-        requires { place < length (shared_rules self.old).names }
+        requires { place < places (shared_rules self.old) }
         ensures pass { (slice_get (gates self.new.roots) place ≡ Some result.gate)
             × (result.gate.about.limits ≡ (shared_rules self.old).limits place) }
         ensures seen { (told result.seen ≡ told_at self.old.roots place) × (numbers result.seen result.mine ≡ []) }
@@ -188,7 +238,8 @@ impl StreamPort for Shared<Desk> {
         ensures root { (q : ℕ) → told_at self.new.roots q ≡ told_at self.old.roots q }
         ensures fits { (q : ℕ) (p : PassKnown Site Attempt) → slice_get (gates self.old.roots) q ≡ Some p.gate
             → slice_get (gates self.new.roots) q ≡ Some p.gate }
-        ensures roots { self.new.roots ≡ self.old.roots }
+        ensures split { SplitsOff (kin_at self.old.roots) (kin_at self.new.roots) place × (result.kin ≡ offshoot (kin_at self.old.roots place)) }
+        ensures roots { Unlearned self.old.roots self.new.roots }
         ensures attempts { result.seen ≡ seen_at self.old.roots place }
     {
         let _ = &self.names;
@@ -205,6 +256,8 @@ impl StreamPort for Shared<Desk> {
         ensures fixed { (shared_rules self.new ≡ shared_rules self.old) × (self.new.busies ≡ self.old.busies) }
         ensures fits { (q : ℕ) (p : PassKnown Site Attempt) → slice_get (gates self.old.roots) q ≡ Some p.gate
             → slice_get (gates self.new.roots) q ≡ Some p.gate }
+        ensures taken { TakesIn (kin_at self.old.roots) pass.kin (kin_at self.new.roots) place }
+        ensures adds { Unit {0} }
         ensures attempts { seen_at self.new.roots place ≡ longer (seen_at self.old.roots place) pass.seen }
         ensures apart { (q : ℕ) → q ≢ place → seen_at self.new.roots q ≡ seen_at self.old.roots q }
     {
@@ -233,7 +286,9 @@ impl StreamPort for Shared<Desk> {
         ensures fixed { shared_rules self.new ≡ shared_rules self.old }
         ensures fits { (q : ℕ) (p : PassKnown Site Attempt) → slice_get (gates self.old.roots) q ≡ Some p.gate
             → slice_get (gates self.new.roots) q ≡ Some p.gate }
-        ensures roots { self.new.roots ≡ self.old.roots }
+        ensures split { CallSplits (kin_at self.old.roots) pass.old.kin result (kin_at self.new.roots) pass.new.kin place }
+        ensures adds { Unit {0} }
+        ensures roots { Unlearned self.old.roots self.new.roots }
         ensures attempts { Begins pass.old.seen pass.new.seen }
         ensures free { IfOk result (λ _. pass.new.met ≡ pass.old.met) }
         ensures refused { IfErr result (λ e. IsRefused pass.old entry e pass.new) }
@@ -242,7 +297,9 @@ impl StreamPort for Shared<Desk> {
         let numbers = TakeNumbers::of(&entry);
         match self.ways.call(place as usize, pass, entry) {
             Ok(Ok(reply)) => {
-                viewers_law();
+                tables_law();
+                takes_alone();
+                takes_alone_at_pools();
                 Ok(reply)
             }
             Ok(Err(OutOfMemory)) => Err(PortFail::OutOfMemory(numbers.unwrap().entry())),
@@ -253,6 +310,10 @@ impl StreamPort for Shared<Desk> {
             Err(CallFail::Worn(entry)) => Err(PortFail::Worn(entry)),
         }
     }
+
+    ghost adds_none = { λ h. tt };
+
+    ghost adds_both = { λ h i j xs ys a b. tt };
 
     ghost ruled = { λ x q p f. limits_at (slice_get (gates x.roots) q) p.gate f };
 }

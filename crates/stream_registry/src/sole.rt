@@ -1,39 +1,43 @@
-//! The port of one thread to streams that nobody else serves.
-ghost use Rattle.std.specs.Prelude.{◌≡◌, ◌+◌, ◌<◌, ◌≤◌, ◌^◌, ℕ, [], length, reverse, IfOk, IfErr, All};
-ghost use Rattle.stream_model.specs.Held.{held};
-ghost use Rattle.stream_model.specs.History.{items_of};
+//! The port of one thread to streams and pools that nobody else serves.
+ghost use Rattle.std.specs.Prelude.{◌≡◌, ◌+◌, ◌++◌, ◌<◌, ◌≤◌, ◌^◌, ℕ, [], length, map, reverse, IfOk, IfErr};
+ghost use Rattle.stream_model.specs.Shape.{shape_held, most_held};
 ghost use Rattle.turn_gate.specs.Histories.{Begins};
 ghost use Rattle.stream_registry.specs.Told.{Keeps};
-ghost use Rattle.stream_registry.specs.Placed.{Placed, Failed, TriedOnce};
-ghost use Rattle.stream_registry.specs.Books.{journal_at};
+ghost use Rattle.stream_registry.specs.Placed.{Placed, Failed, TriedOnce, answered};
+ghost use Rattle.stream_registry.specs.Names.{AreFew, AreTables, places, shape_at};
+ghost use Rattle.stream_registry.specs.Books.{journal_at, new_book, shapes_in, sole_rules};
 
 use crate::book::Book;
-use crate::names::{NameList, NotFound};
+use crate::names::{NameList, NotFound, OpenList, place_of};
 use crate::port::{PortFail, StreamPort};
+use crate::shapes::place_shapes;
 use av_unit::OutOfMemory;
 use past::Flow;
 use std::alloc::Global;
 use std::marker::Model;
 use std::snapshot::Snapshot;
-use stream_core::{Entry, Reply, StreamLimits};
+use stream_core::{Entry, Reply, Shape, StreamLimits};
 
-/// A stream with its journal for each place.
+/// A stream or a pool with its journal for each place.
 #[derive(Drop)]
 pub struct Sole {
     books: Vec<Book>,
     names: NameList,
+    opens: OpenList,
     limits: StreamLimits,
 }
 
 impl Model for Sole {
-    ghost use Rattle.std.specs.Prelude.{◌≡◌, ◌≤◌, All, length};
+    ghost use Rattle.std.specs.Prelude.{◌≡◌, ◌≤◌, ◌++◌, ◌+◌, map, length};
+    ghost use Rattle.stream_registry.specs.Names.{shapes_of};
     ghost use Rattle.stream_registry.specs.Books.{SoleState};
 
     ghost Value = { SoleState };
 
-    ghost view = { λ s. record { rules = record { names = s.names; limits = s.limits }; books = s.books.items } };
+    ghost view = { λ s. record { rules = record { names = s.names; opens = s.opens; limits = s.limits }; books = s.books.items } };
 
-    ghost invariant = { λ s. All (λ b. b.limits ≡ s.limits) s.books.items × (length s.books.items ≡ length s.names) × (length s.names ≤ 64) };
+    ghost invariant = { λ s. (map (λ b. b.limits) s.books.items ≡ shapes_of s.limits s.names s.opens)
+        × (length s.books.items ≡ length s.names + length s.opens) × (length s.names + length s.opens ≤ 64) };
 }
 
 /// A pass to a port of one thread, of no bytes.
@@ -52,33 +56,41 @@ impl Model for SolePass {
 }
 
 impl Sole {
-    /// A port to streams with these names, each of which has these limits.
-    pub fn new(alloc: Global, names: NameList, limits: StreamLimits) -> Result<Sole, OutOfMemory>
-        requires { length names ≤ 64 }
-        ensures { IfOk result (λ s. (s.rules ≡ record { names = names; limits = limits }) × ((q : ℕ) → journal_at s.books q ≡ [])) }
+    /// A port to streams with these names and to these open tables. Each stream and each slot has these limits.
+    pub fn new(
+        alloc: Global,
+        names: NameList,
+        opens: OpenList,
+        limits: StreamLimits,
+    ) -> Result<Sole, OutOfMemory>
+        requires { AreFew names opens }
+        ensures { IfOk result (λ s. (s.rules ≡ record { names = names; opens = opens; limits = limits }) × ((q : ℕ) → journal_at s.books q ≡ [])) }
     {
-        let books = new_books(alloc, limits, names.len())?;
+        let shapes = place_shapes(alloc, &names, &opens, limits)?;
+        let books = new_books(alloc, &shapes)?;
         Ok(Sole {
             books,
             names,
+            opens,
             limits,
         })
     }
 
-    /// What the stream at that place holds: the lengths of the bodies of the items in its window and of the configurations in
-    /// effect at its base, in bytes. The journal isn't counted.
+    /// What that place holds, in bytes: the lengths of the bodies of the items in its window and of the configurations in effect at
+    /// its base, or of a pool the same of each slot with the lengths of the names. The journal isn't counted.
     pub fn held(&self, place: u32) -> u64
-        requires { place < length self.now.rules.names }
-        ensures sum { result ≡ held self.now.rules.limits (items_of (reverse (journal_at self.now.books place))) }
-        ensures most { result ≤ self.now.rules.limits.bytes + 196608 }
+        requires { place < places (sole_rules self.now.rules) }
+        ensures sum { result ≡ shape_held (shape_at (shapes_in self.now.rules) place) (reverse (journal_at self.now.books place)) }
+        ensures most { result ≤ most_held (shape_at (shapes_in self.now.rules) place) }
     {
         let _ = &self.limits;
-        self.books[place as usize].held()
+        let book = &self.books[place as usize];
+        book.held()
     }
 
     /// The history of that place, the oldest call first.
     pub fn journal(&self, place: u32) -> &[(Entry, Reply)]
-        requires { place < length self.now.rules.names }
+        requires { place < places (sole_rules self.now.rules) }
         ensures { result.now ≡ journal_at self.now.books place }
     {
         let _ = &self.limits;
@@ -89,8 +101,8 @@ impl Sole {
 impl StreamPort for Sole {
     type Pass = SolePass;
 
-    ghost use Rattle.std.specs.Prelude.{length};
-    ghost use Rattle.stream_registry.specs.Books.{journal_at, sole_rules, FitsSole};
+    ghost use Rattle.std.specs.Prelude.{◌≡◌, [], ◌++◌, length};
+    ghost use Rattle.stream_registry.specs.Books.{adds_nothing, adds_together, journal_at, sole_rules, FitsSole};
 
     ghost busies = { λ s. 0 };
 
@@ -106,12 +118,19 @@ impl StreamPort for Sole {
 
     ghost mine = { λ p. p.mine };
 
+    ghost kin = { λ s q. [] };
+
+    ghost branches = { λ p. [] };
+
+    ghost adds = { λ h xs i. i ≡ h ++ xs };
+
     ghost count = { λ p. length p.seen };
 
     ghost wants = { λ _. Unit {0} };
 
     fn find(&self, app: &[u8], name: &[u8]) -> Result<u32, NotFound> {
-        self.names.find(app, name)
+        let _ = &self.limits;
+        place_of(&self.names, &self.opens, app, name)
     }
 
     fn attach(&mut self, place: u32) -> SolePass {
@@ -132,16 +151,21 @@ impl StreamPort for Sole {
         ask(&mut self.books[place as usize], pass, entry)
     }
 
+    ghost adds_none = { λ h. adds_nothing h };
+
+    ghost adds_both = { λ h i j xs ys a b. adds_together h i j xs ys a b };
+
     ghost ruled = { λ x q p f. f.limits };
 }
 
-// As many streams with no call as there are places.
-fn new_books(alloc: Global, limits: StreamLimits, places: usize) -> Result<Vec<Book>, OutOfMemory>
-    ensures { IfOk result (λ books. (length books.items ≡ places) × All (λ b. b ≡ record { limits = limits; journal = [] }) books.items) }
+// What these places have, with no call.
+fn new_books(alloc: Global, shapes: &[Shape]) -> Result<Vec<Book>, OutOfMemory>
+    requires { AreTables shapes.now }
+    ensures { IfOk result (λ books. books.items ≡ map new_book shapes.now) }
 {
     let mut books = Vec::new(alloc);
-    for _ in 0..places {
-        let book = Book::new(alloc, limits)?;
+    for shape in shapes {
+        let book = Book::new(alloc, *shape)?;
         books.push(book)?;
     }
     Ok(books)
@@ -153,6 +177,7 @@ fn ask(book: &mut Book, pass: &mut SolePass, entry: Entry) -> Result<Reply, Port
     ensures book { (book.new.limits ≡ book.old.limits) × Begins book.old.journal book.new.journal }
     ensures pass { (pass.new.limits ≡ pass.old.limits) × (pass.new.seen ≡ book.new.journal) }
     ensures reply { IfOk result (λ r. Placed pass.old.limits book.old.journal pass.old.seen pass.old.mine (entry, r) pass.new.seen pass.new.mine) }
+    ensures adds { book.new.journal ≡ book.old.journal ++ answered entry result }
     ensures laws { Keeps pass.new.limits pass.new.seen × (length pass.new.seen ≤ 2 ^ 62) }
     ensures fails { IfErr result (λ e. Failed entry 0 0 (length pass.new.seen) e) }
     ensures once { TriedOnce 0 0 result }

@@ -1,15 +1,17 @@
 //! One thread's ways to the gates at all places.
 ghost use Rattle.std.specs.Prelude.{◌≡◌, ◌≢◌, ℕ, ◌<◌, Some, [], ◌++◌, ◌∷◌, length, IfOk, IfErr, OnOk, OnErr, slice_get};
 ghost use Rattle.turn_gate.specs.Histories.{Begins, longer};
-ghost use Rattle.turn_gate.specs.Known.{newcomer, RepliedAfter, Failed};
-ghost use Rattle.stream_registry.specs.Roots.{Remembers, Grown, gates, seen_at, Later};
+ghost use Rattle.turn_gate.specs.Branches.{cut_off, offshoot};
+ghost use Rattle.turn_gate.specs.Known.{newcomer, RepliedAfter, Failed, SplitOnce};
+ghost use Rattle.stream_registry.specs.Roots.{Remembers, Grown, Unlearned, gates, seen_at, kin_at, Later};
+ghost use Rattle.stream_registry.specs.Splits.{SplitsOff, TakesIn, TakesAll, Forks};
 
 use crate::place::Place;
 use std::alloc::{AllocError, Global};
 use std::marker::Model;
 use turn_gate::{CallFail, Machine, Pass};
 
-/// Contracts see what its root has seen at each place.
+/// Contracts see what its root has seen at each place, and where it stands among the passes there.
 #[derive(Drop)]
 pub struct Ways<T: Machine + Drop> {
     places: Vec<Place<T>>,
@@ -47,8 +49,8 @@ impl<T: Machine + Drop> Ways<T> {
 
     /// Another thread's ways to the same places.
     pub fn fork(&mut self, alloc: Global) -> Result<Ways<T>, AllocError>
-        ensures fork { IfOk result (λ s. s ≡ self.old) }
-        ensures same { self.new ≡ self.old }
+        ensures fork { IfOk result (λ s. Unlearned self.old s × Forks (kin_at self.old) (kin_at self.new) (kin_at s)) }
+        ensures same { Unlearned self.old self.new }
     {
         let places = fork_all(alloc, self.places.as_mut_slice())?;
         Ok(Ways { places })
@@ -59,6 +61,7 @@ impl<T: Machine + Drop> Ways<T> {
         requires { gates other ≡ gates self.old }
         ensures grown { Grown self.old self.new }
         ensures later { Grown other self.new }
+        ensures kin { TakesAll (kin_at self.old) (kin_at other) (kin_at self.new) }
     {
         let Ways { places } = other;
         gather_all(self.places.as_mut_slice(), places);
@@ -68,8 +71,9 @@ impl<T: Machine + Drop> Ways<T> {
     pub fn attach(&mut self, place: usize) -> Pass<T>
         requires { place < length self.old }
         ensures gate { Some result.gate ≡ slice_get (gates self.old) place }
-        ensures new { result ≡ newcomer result.gate (seen_at self.old place) }
-        ensures same { self.new ≡ self.old }
+        ensures new { result ≡ newcomer result.gate (offshoot (kin_at self.old place)) (seen_at self.old place) }
+        ensures same { Unlearned self.old self.new }
+        ensures kin { SplitsOff (kin_at self.old) (kin_at self.new) place }
     {
         self.places[place].attach()
     }
@@ -81,6 +85,7 @@ impl<T: Machine + Drop> Ways<T> {
         ensures seen { Begins pass.seen (seen_at self.new place) }
         ensures longer { seen_at self.new place ≡ longer (seen_at self.old place) pass.seen }
         ensures others { (q : ℕ) → q ≢ place → seen_at self.new q ≡ seen_at self.old q }
+        ensures kin { TakesIn (kin_at self.old) pass.kin (kin_at self.new) place }
     {
         self.places[place].detach(pass);
     }
@@ -93,7 +98,9 @@ impl<T: Machine + Drop> Ways<T> {
         call: T::Call,
     ) -> Result<T::Reply, CallFail<T::Call>>
         requires { slice_get (gates self.old) place ≡ Some pass.old.gate }
-        ensures port { self.new ≡ self.old }
+        ensures port { Unlearned self.old self.new }
+        ensures kin { SplitOnce (kin_at self.old place) pass.old.kin result (kin_at self.new place) pass.new.kin }
+        ensures others { (q : ℕ) → q ≢ place → kin_at self.new q ≡ kin_at self.old q }
         ensures pass { Remembers pass.old pass.new }
         ensures reply { IfOk result (λ r. RepliedAfter (T.lawful pass.old.gate.about) (seen_at self.old place) pass.old (call, r) pass.new) }
         ensures fails { IfErr result (λ e. Failed (T.lawful pass.old.gate.about) pass.old call e pass.new) }
@@ -106,8 +113,8 @@ fn fork_all<T: Machine + Drop>(
     alloc: Global,
     places: &mut [Place<T>],
 ) -> Result<Vec<Place<T>>, AllocError>
-    ensures fork { IfOk result (λ s. s.items ≡ places.old) }
-    ensures same { places.new ≡ places.old }
+    ensures fork { IfOk result (λ s. Unlearned places.old s.items × Forks (kin_at places.old) (kin_at places.new) (kin_at s.items)) }
+    ensures same { Unlearned places.old places.new }
 {
     let mut list = Vec::new(alloc);
     for i in 0..places.len() {
@@ -123,6 +130,7 @@ fn gather_all<T: Machine + Drop>(places: &mut [Place<T>], mut others: Vec<Place<
     requires { gates others.items ≡ gates places.old }
     ensures grown { Grown places.old places.new }
     ensures later { Later (seen_at others.items) (seen_at places.new) }
+    ensures kin { TakesAll (kin_at places.old) (kin_at others.items) (kin_at places.new) }
 {
     while let Some(other) = others.pop() {
         places[others.len()].gather(other);

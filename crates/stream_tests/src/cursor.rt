@@ -17,11 +17,14 @@ fn a_chain_is_whole_until_a_frame_is_passed_over(rt: HostRuntime) -> Result<(), 
     let mut cursor = Cursor::at(5);
     cursor.pass(Head::Begin, true);
     cursor.config(Slot::Audio, 3);
-    assert!(rt; !cursor.look(Head::Unit(Kind::Inter), BOTH));
+    assert!(rt; !cursor.look(Head::Unit(Kind::Inter), BOTH, false));
     cursor.pass(Head::Unit(Kind::Key), true);
-    assert!(rt; cursor.whole() && cursor.look(Head::Unit(Kind::Inter), BOTH));
-    assert!(rt; !cursor.look(Head::Unit(Kind::Inter), SOUND));
+    assert!(rt; cursor.whole() && cursor.look(Head::Unit(Kind::Inter), BOTH, true));
+    assert!(rt; cursor.look(Head::Unit(Kind::Spare), BOTH, false));
+    assert!(rt; !cursor.look(Head::Unit(Kind::Spare), BOTH, true));
+    assert!(rt; !cursor.look(Head::Unit(Kind::Inter), SOUND, false));
     cursor.pass(Head::Unit(Kind::VConfig), true);
+    cursor.pass(Head::Unit(Kind::Spare), false);
     cursor.skip(12, Some(6));
     assert!(rt; cursor.whole());
     assert_eq!(rt; cursor.next(), 12);

@@ -5,7 +5,7 @@ use Rattle.std.proofs.lemmas.Bool.Decides.{nat_tests}
 use Rattle.relay_base.specs.Numbers.{be24_of, be16_of}
 use Rattle.av_unit.specs.Classes.{high, low, second_is}
 use Rattle.av_unit.specs.declared.unit.Kind.{Kind}
-use Rattle.av_unit.specs.declared.unit.Kind.TheVariants.{Meta, VConfig, AConfig, Key, Inter, Audio, Data}
+use Rattle.av_unit.specs.declared.unit.Kind.TheVariants.{Meta, VConfig, AConfig, Key, Inter, Spare, Audio, Data}
 use Rattle.av_unit.specs.declared.item.Item.{Item}
 use Rattle.av_unit.specs.declared.item.Item.TheVariants.{Begin, Unit as AUnit, End}
 use Rattle.avc_annexb.specs.declared.fail.AvcFail.{AvcFail}
@@ -272,6 +272,8 @@ frame_listed s Key time body f a e =
     let h = video_good s.video true time body f a.video (frame_found (video_frame s.video true time body) f e) in listed_by true s f h.0 h.1
 frame_listed s Inter time body f a e =
     let h = video_good s.video false time body f a.video (frame_found (video_frame s.video false time body) f e) in listed_by true s f h.0 h.1
+frame_listed s Spare time body f a e =
+    let h = video_good s.video false time body f a.video (frame_found (video_frame s.video false time body) f e) in listed_by true s f h.0 h.1
 frame_listed s Audio time body f a e =
     let h = audio_good s.audio time body f a.audio (frame_found (audio_frame s.audio time body) f e) in listed_by false s f h.0 h.1
 
@@ -307,6 +309,7 @@ video_by_good o Meta body c h e = h e
 video_by_good o AConfig body c h e = h e
 video_by_good o Key body c h e = h e
 video_by_good o Inter body c h e = h e
+video_by_good o Spare body c h e = h e
 video_by_good o Audio body c h e = h e
 video_by_good o Data body c h e = h e
 
@@ -321,6 +324,7 @@ audio_by_good o Meta body a h e = h e
 audio_by_good o VConfig body a h e = h e
 audio_by_good o Key body a h e = h e
 audio_by_good o Inter body a h e = h e
+audio_by_good o Spare body a h e = h e
 audio_by_good o Audio body a h e = h e
 audio_by_good o Data body a h e = h e
 

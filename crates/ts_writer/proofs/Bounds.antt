@@ -5,7 +5,7 @@ use Rattle.std.proofs.lemmas.Bool.Decides.{nat_tests}
 use Rattle.std.proofs.lemmas.List.{length-replicate}
 use Rattle.av_unit.specs.Classes.{high, low, second_is}
 use Rattle.av_unit.specs.declared.unit.Kind.{Kind}
-use Rattle.av_unit.specs.declared.unit.Kind.TheVariants.{Meta, VConfig, AConfig, Key, Inter, Audio, Data}
+use Rattle.av_unit.specs.declared.unit.Kind.TheVariants.{Meta, VConfig, AConfig, Key, Inter, Spare, Audio, Data}
 use Rattle.av_unit.specs.declared.item.Item.{Item}
 use Rattle.av_unit.specs.declared.item.Item.TheVariants.{Begin, Unit as AUnit, End}
 use Rattle.avc_annexb.specs.declared.fail.AvcFail.{AvcFail}
@@ -315,6 +315,7 @@ kind_most s VConfig time body f w e = nothing_found (video_config body) f _ e
 kind_most s AConfig time body f w e = nothing_found (audio_config body) f _ e
 kind_most s Key time body f w e = video_short s.video true time body f w (frame_found (video_frame s.video true time body) f e)
 kind_most s Inter time body f w e = video_short s.video false time body f w (frame_found (video_frame s.video false time body) f e)
+kind_most s Spare time body f w e = video_short s.video false time body f w (frame_found (video_frame s.video false time body) f e)
 kind_most s Audio time body f w e = let h = audio_short s.audio time body f (frame_found (audio_frame s.audio time body) f e) in omega (arith, h)
 
 pub item_most : (s : InForce) (item : Item) (ps : List Part) → IsSmall s → length (text_behind ps (added s item ps)) ≤ most_added item

@@ -1,7 +1,7 @@
 -- The transport stream of items. Lists of items have the newest first.
 use Rattle.std.specs.Prelude.{ℕ, true, false, is_some, if◌then◌else◌, List, [], ◌∷◌, ◌++◌, Option, Some, None, Result, Ok, Err}
 use Rattle.av_unit.specs.declared.unit.Kind.{Kind}
-use Rattle.av_unit.specs.declared.unit.Kind.TheVariants.{Meta, VConfig, AConfig, Key, Inter, Audio, Data}
+use Rattle.av_unit.specs.declared.unit.Kind.TheVariants.{Meta, VConfig, AConfig, Key, Inter, Spare, Audio, Data}
 use Rattle.av_unit.specs.declared.item.Item.{Item}
 use Rattle.av_unit.specs.declared.item.Item.TheVariants.{Begin, Unit as AUnit, End}
 use Rattle.avc_annexb.specs.Record.{Config as AvcConfig}
@@ -29,6 +29,7 @@ video_by before Meta body = before
 video_by before AConfig body = before
 video_by before Key body = before
 video_by before Inter body = before
+video_by before Spare body = before
 video_by before Audio body = before
 video_by before Data body = before
 
@@ -44,6 +45,7 @@ audio_by before Meta body = before
 audio_by before VConfig body = before
 audio_by before Key body = before
 audio_by before Inter body = before
+audio_by before Spare body = before
 audio_by before Audio body = before
 audio_by before Data body = before
 
@@ -85,6 +87,7 @@ reading_of s VConfig time body = nothing_of (video_config body)
 reading_of s AConfig time body = nothing_of (audio_config body)
 reading_of s Key time body = frame_in (video_frame s.video true time body)
 reading_of s Inter time body = frame_in (video_frame s.video false time body)
+reading_of s Spare time body = frame_in (video_frame s.video false time body)
 reading_of s Audio time body = frame_in (audio_frame s.audio time body)
 reading_of s Data time body = Ok None
 

@@ -78,7 +78,13 @@ impl InForce {
             Kind::VConfig => self.set_video(alloc, body),
             Kind::AConfig => self.set_audio(body),
             Kind::Key => Ok(Some(make_picture(alloc, &self.video, true, time, body)?)),
-            Kind::Inter => Ok(Some(make_picture(alloc, &self.video, false, time, body)?)),
+            Kind::Inter | Kind::Spare => Ok(Some(make_picture(
+                alloc,
+                &self.video,
+                false,
+                time,
+                body,
+            )?)),
             Kind::Audio => Ok(Some(make_sound(alloc, &self.audio, time, body)?)),
         }
     }

@@ -5,6 +5,7 @@ use Rattle.atomic_table.specs.Seated.{TableId}
 use Rattle.turn_gate.specs.declared.gate.CallFail.{CallFail}
 use Rattle.turn_gate.specs.declared.gate.CallFail.TheVariants.{Busy, Worn}
 use Rattle.turn_gate.specs.declared.view.View.{View}
+use Rattle.turn_gate.specs.declared.view.Branch.{Branch}
 use Rattle.turn_gate.specs.Histories.{Begins, AreOwn}
 use Rattle.turn_gate.specs.TurnTable.{Seized, seizing, noting}
 use Rattle.turn_gate.specs.Serving.{ServingAt, Gave, Served}
@@ -15,24 +16,24 @@ own_wider : (places : List ℕ) (n m : ℕ) → AreOwn places n → n ≤ m → 
 own_wider places n m own l p = ((own p).0, λ some_own. let x = (own p).1 some_own in omega arith)
 
 module _ {C R A : Type 0} where
-  -- the turn is had, at the history h, by a seat that had this view
-  pub record Has (v : View C R A) (h : List (C × R)) (n : View C R A) : Type 0 where
+  -- the turn is had, at the history h, by a seat that had this view, and has these branches now
+  pub record Has (v : View C R A) (h : List (C × R)) (k : List Branch) (n : View C R A) : Type 0 where
     pub whole : n.whole ≡ h
     pub mine : n.mine ≡ v.mine
     pub of : n.of ≡ v.of
     pub met : n.met ≡ v.met
-    pub cut : n.cut ≡ v.cut
+    pub kin : n.kin ≡ k
 
-  pub has : (v n : View C R A) (h : List (C × R)) → n ≡ seizing v h → Has v h n
-  has v n h e = record { whole = ap (λ (x : View C R A). x.whole) e; mine = ap (λ (x : View C R A). x.mine) e; of = ap (λ (x : View C R A). x.of) e; met = ap (λ (x : View C R A). x.met) e; cut = ap (λ (x : View C R A). x.cut) e }
+  pub has : (v n : View C R A) (h : List (C × R)) → n ≡ seizing v h → Has v h v.kin n
+  has v n h e = record { whole = ap (λ (x : View C R A). x.whole) e; mine = ap (λ (x : View C R A). x.mine) e; of = ap (λ (x : View C R A). x.of) e; met = ap (λ (x : View C R A). x.met) e; kin = ap (λ (x : View C R A). x.kin) e }
 
-  pub has_noted : (v n k u : View C R A) (h : List (C × R)) → Has v h n → k ≡ noting n u → Has v h k
+  pub has_noted : (v n k u : View C R A) (h : List (C × R)) → Has v h v.kin n → k ≡ noting n u → Has v h (v.kin ++ u.kin) k
   has_noted v n k u h x e = record {
     whole = ap (λ (x : View C R A). x.whole) e ∙ x.whole;
     mine = ap (λ (x : View C R A). x.mine) e ∙ x.mine;
     of = ap (λ (x : View C R A). x.of) e ∙ x.of;
     met = ap (λ (x : View C R A). x.met) e ∙ x.met;
-    cut = ap (λ (x : View C R A). x.cut) e ∙ x.cut;
+    kin = ap (λ (x : View C R A). x.kin) e ∙ ap (λ (l : List Branch). l ++ u.kin) x.kin;
   }
 
 module _ {C R A H : Type 0} where
@@ -55,27 +56,28 @@ module _ {C R A H : Type 0} where
       fits = subst (λ (x : View C R A). inside key s.value x.whole) (sym d) s.fits;
     }
 
-  module _ (lawful : List (C × R) → Type 0) (key : A) (call : C) (v : View C R A) (n f : Me (Option H) (View C R A)) (h : List (C × R)) (count : ℕ) where
-    mine_after : (r : R) → Has v h n.0 → Gave (Some (call, r)) n f → f.0.mine ≡ v.mine ++ length h ∷ []
+  module _ (lawful : List (C × R) → Type 0) (key : A) (call : C) (v : View C R A) (n f : Me (Option H) (View C R A)) (h : List (C × R)) (k : List Branch) (count : ℕ) where
+    mine_after : (r : R) → Has v h k n.0 → Gave (Some (call, r)) n f → f.0.mine ≡ v.mine ++ length h ∷ []
     mine_after r x g = ap (λ (y : View C R A). y.mine) g.view_is ∙ (λ i. x.mine i ++ length (x.whole i) ∷ [])
 
-    seen_after : (r : R) → Has v h n.0 → Gave (Some (call, r)) n f → f.0.seen ≡ h ++ (call, r) ∷ []
+    seen_after : (r : R) → Has v h k n.0 → Gave (Some (call, r)) n f → f.0.seen ≡ h ++ (call, r) ∷ []
     seen_after r x g = ap (λ (y : View C R A). y.seen) g.view_is ∙ (λ i. x.whole i ++ (call, r) ∷ [])
 
-    own_after : (r : R) → Has v h n.0 → Gave (Some (call, r)) n f → AreOwn v.mine (length v.seen) → Begins v.seen h → AreOwn f.0.mine (length f.0.seen)
+    own_after : (r : R) → Has v h k n.0 → Gave (Some (call, r)) n f → AreOwn v.mine (length v.seen) → Begins v.seen h → AreOwn f.0.mine (length f.0.seen)
     own_after r x g own b =
         let e : C × R = (call, r) in
         let mine = mine_after r x g in
         let long : length f.0.seen ≡ length h + 1 = ap length (seen_after r x g) ∙ length-append h (e ∷ []) in
         subst (λ (y : List ℕ × ℕ). AreOwn y.0 y.1) (λ i. (sym mine i, sym long i)) (own_more v.mine (length v.seen) (length h) own (begins_less v.seen h b))
 
-    pub keeps_pass : (result : Result R (CallFail C)) → Has v h n.0 → v.of ≡ Some key → AreOwn v.mine (length v.seen) → Begins v.seen h → Served lawful n call result count f
-        → (f.1 ≡ []) × (f.0.holds ≡ false) × (f.0.of ≡ Some key) × (count ≡ length f.0.seen) × AreOwn f.0.mine (length f.0.seen) × lawful f.0.seen
+    pub keeps_pass : (result : Result R (CallFail C)) → Has v h k n.0 → v.of ≡ Some key → AreOwn v.mine (length v.seen) → Begins v.seen h → Served lawful n call result count f
+        → (f.1 ≡ []) × (f.0.holds ≡ false) × (f.0.kin ≡ k) × (f.0.of ≡ Some key) × (count ≡ length f.0.seen) × AreOwn f.0.mine (length f.0.seen) × lawful f.0.seen
     keeps_pass (Ok r) x of own b s =
         let e : C × R = (call, r) in
         let seen : f.0.seen ≡ n.0.whole ++ e ∷ [] = ap (λ (y : View C R A). y.seen) s.0.view_is in (
           s.0.slot,
           ap (λ (y : View C R A). y.holds) s.0.view_is,
+          ap (λ (y : View C R A). y.kin) s.0.view_is ∙ x.kin,
           ap (λ (y : View C R A). y.of) s.0.view_is ∙ (x.of ∙ of),
           s.4 ∙ sym (ap length seen ∙ length-append n.0.whole (e ∷ [])),
           own_after r x s.0 own b,
@@ -87,6 +89,7 @@ module _ {C R A H : Type 0} where
         let long : length f.0.seen ≡ length h = ap length seen ∙ ap length x.whole in (
           s.1.slot,
           ap (λ (y : View C R A). y.holds) s.1.view_is,
+          ap (λ (y : View C R A). y.kin) s.1.view_is ∙ x.kin,
           ap (λ (y : View C R A). y.of) s.1.view_is ∙ (x.of ∙ of),
           s.4 ∙ sym (ap length seen),
           subst (λ (y : List ℕ × ℕ). AreOwn y.0 y.1) (λ i. (sym mine i, sym long i)) (own_wider v.mine (length v.seen) (length h) own (begins_less v.seen h b)),
@@ -95,9 +98,9 @@ module _ {C R A H : Type 0} where
     keeps_pass (Err (Busy c)) x of own b s = absurd s
 
     abbrev pub known : TableId → A → View C R A → PassKnown A (C × R)
-    known table about y = record { gate = record { table = table; about = about }; holds = y.holds; met = y.met; cut = y.cut; seen = y.seen; mine = y.mine }
+    known table about y = record { gate = record { table = table; about = about }; holds = y.holds; met = y.met; kin = y.kin; seen = y.seen; mine = y.mine }
 
-    pub replied : (r : R) (table table' : TableId) (about about' : A) → table' ≡ table → about' ≡ about → Has v h n.0 → AreOwn v.mine (length v.seen) → Begins v.seen h → Served lawful n call (Ok r) count f
+    pub replied : (r : R) (table table' : TableId) (about about' : A) → table' ≡ table → about' ≡ about → Has v h k n.0 → AreOwn v.mine (length v.seen) → Begins v.seen h → Served lawful n call (Ok r) count f
         → Replied lawful (known table about v) (call, r) (known table' about' f.0)
     replied r table table' about about' same told x own b s =
         let e : C × R = (call, r) in
@@ -115,16 +118,15 @@ module _ {C R A H : Type 0} where
             gate = λ i. record { table = same i; about = told i };
             idle = ap (λ (y : View C R A). y.holds) s.0.view_is;
             met = ap (λ (y : View C R A). y.met) s.0.view_is ∙ x.met;
-            cut = ap (λ (y : View C R A). y.cut) s.0.view_is ∙ x.cut;
           };
         }
 
-    pub replies : (result : Result R (CallFail C)) (table table' : TableId) (about about' : A) → table' ≡ table → about' ≡ about → Has v h n.0 → AreOwn v.mine (length v.seen) → Begins v.seen h → Served lawful n call result count f
+    pub replies : (result : Result R (CallFail C)) (table table' : TableId) (about about' : A) → table' ≡ table → about' ≡ about → Has v h k n.0 → AreOwn v.mine (length v.seen) → Begins v.seen h → Served lawful n call result count f
         → IfOk result (λ r. Replied lawful (known table about v) (call, r) (known table' about' f.0))
     replies (Ok r) table table' about about' same told x own b s = replied r table table' about about' same told x own b s
     replies (Err e) table table' about about' same told x own b s = tt
 
-    pub replies_after : (result : Result R (CallFail C)) (table table' : TableId) (about about' : A) (root : List (C × R)) → table' ≡ table → about' ≡ about → Has v h n.0 → AreOwn v.mine (length v.seen) → Begins v.seen h
+    pub replies_after : (result : Result R (CallFail C)) (table table' : TableId) (about about' : A) (root : List (C × R)) → table' ≡ table → about' ≡ about → Has v h k n.0 → AreOwn v.mine (length v.seen) → Begins v.seen h
         → n.0.noted ≡ root → Served lawful n call result count f
         → IfOk result (λ r. RepliedAfter lawful root (known table about v) (call, r) (known table' about' f.0))
     unfolding replied

@@ -41,6 +41,9 @@ times-append p (x ∷ xs) ys = omega (arith, times-append p xs ys)
 pub times_other : (p q : ℕ) → p ≢ q → times p (q ∷ []) ≡ 0
 times_other p q n = ap (λ b. cond b 1 0 + 0) (ne_eqb q p (λ e. n (sym e)))
 
+pub times_self : (p q : ℕ) → p ≡ q → times p (q ∷ []) ≡ 1
+times_self p q e = ap (λ b. cond b 1 0 + 0) (eq-eqb q p (sym e))
+
 pub times_single : (p q : ℕ) → times p (q ∷ []) ≤ 1
 times_single p q = dite (ℕ_discrete q p) (λ e. let t = ap (λ b. cond b 1 0 + 0) (eq-eqb q p e) in omega arith) (λ n. let t = ap (λ b. cond b 1 0 + 0) (ne_eqb q p n) in omega arith)
 

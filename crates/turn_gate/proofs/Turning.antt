@@ -1,5 +1,5 @@
 -- Each step on the turn word keeps the rule
-use Rattle.std.proofs.Common.{◌≡◌, ◌≢◌, ℕ, zero, suc, ◌+◌, ◌<◌, ◌≤◌, List, [], ◌∷◌, ◌++◌, length, get_or, set, Option, Some, None, true, false, refl, sym, ap, ◌∙◌, subst, ⊎_elim, arith, length-set, length-append, get_or-set_same}
+use Rattle.std.proofs.Common.{◌≡◌, ◌≢◌, ℕ, zero, suc, ◌+◌, ◌<◌, ◌≤◌, List, [], ◌∷◌, ◌++◌, length, get_or, set, Option, Some, None, true, false, refl, sym, ap, ◌∙◌, subst, ⊎_elim, arith, lt_of_not-le, length-set, length-append, get_or-set_same}
 use mathlib.Core.Logic.{dite}
 use mathlib.Core.Option.{some, some-injective, some-ne-none}
 use native.Mathlib.Decide.{ℕ_discrete, dec_le}
@@ -8,9 +8,10 @@ use Rattle.atomic_table.specs.Table.{State, Me, keeps, takes, gives, Allows, Spl
 use Rattle.atomic_table.proofs.Lists.{at_set, set_here, set_else}
 use Rattle.turn_gate.specs.declared.view.View.{View}
 use Rattle.turn_gate.specs.Histories.{Begins, grown, placed, total, times}
-use Rattle.turn_gate.specs.TurnTable.{opener, newcomer, cutting, handed, handing, spent, taking, noting, seizing, meeting, freeing, claims, Fits, Cuts, OneHolds, NoneHolds, TurnRule, Seizes, Frees, Learns}
-use Rattle.turn_gate.proofs.Places.{begins_less, begins_more, begins_both, longer_begins, longer_length, times-append, times_other, times_single, total-append, total-set, total_zero, term_le}
-use Rattle.turn_gate.proofs.Views.{off, bool_un, within, fits_set, fits_more, spent_fits, one_set, one_more, none_set, none_more, cuts_set, cuts_more}
+use Rattle.turn_gate.specs.TurnTable.{opener, newcomer, cutting, spent, taking, noting, seizing, meeting, freeing, claims, Fits, Cuts, OneHolds, NoneHolds, TurnRule, Seizes, Frees, Learns}
+use Rattle.turn_gate.proofs.Places.{begins_less, begins_more, begins_both, longer_begins, longer_length, times-append, times_other, times_self, total-append, total-set, total_zero, term_le}
+use Rattle.turn_gate.proofs.Views.{off, bool_un, within, fits_set, fits_more, spent_fits, one_set, one_more, none_set, none_more, cuts_set, cuts_more, cuts_joined}
+use Rattle.turn_gate.proofs.Branching.{cut_grows, length_more, trunk_deep, trunk_uncut}
 
 module _ {C R : Type 0} where
   -- a history with a call more, or with none more
@@ -30,21 +31,21 @@ module _ {H C R A : Type 0} (inside : A → H → List (C × R) → Type 0) (key
 
   -- the views change, and the word, the slot and the history don't
   changed : (s : St) (o : TurnRule inside key s) (ws : List ℕ) (vs : List (View C R A)) → length ws ≡ length s.words → get_or ws 0 0 ≡ get_or s.words 0 0
-      → ((j : ℕ) (u : View C R A) → get_elem? vs j ≡ some u → Fits key o.whole u) → ((p : ℕ) → total (claims p) vs ≤ 1) → Cuts vs → (NoneHolds s.views → NoneHolds vs) → (OneHolds s.views → OneHolds vs)
+      → ((j : ℕ) (u : View C R A) → get_elem? vs j ≡ some u → Fits key o.whole u) → ((p : ℕ) → total (claims p) vs ≡ total (claims p) s.views) → Cuts vs → (NoneHolds s.views → NoneHolds vs) → (OneHolds s.views → OneHolds vs)
       → TurnRule inside key record { words = ws; homes = s.homes; views = vs }
   changed s o ws vs long word each once cuts nobody one = record {
     one_word = long ∙ o.one_word;
     one_slot = o.one_slot;
     whole = o.whole;
     each = each;
-    once = once;
+    once = λ p l. once p ∙ o.once p l;
     cuts = cuts;
     free = λ e. let f = o.free (sym word ∙ e) in (f.0, nobody f.1);
     held = λ n. let h = o.held (λ e. n (word ∙ e)) in (word ∙ h.0, one h.1);
   }
 
-  pub seizes : (n id : ℕ) (m : Me (Option H) (View C R A)) → m.1 ≡ [] → m.0.holds ≡ false → Allows (TurnRule inside key) n id m 0 (λ _. 1) (λ r n. Seizes inside m r n)
-  seizes n id m none_held outside s o wide me _ =
+  pub seizes : (n id : ℕ) (m : Me (Option H) (View C R A)) → m.1 ≡ [] → m.0.holds ≡ false → 0 < length m.0.kin → Allows (TurnRule inside key) n id m 0 (λ _. 1) (λ r n. Seizes inside m r n)
+  seizes n id m none_held outside alive s o wide me _ =
       let f = o.each id m.0 me in
       let one : get_or (set s.words 0 1) 0 0 ≡ 1 = get_or-set_same s.words 0 1 0 (let w = o.one_word in omega arith) in
       let long : length (set s.words 0 1) ≡ 1 = length-set s.words 0 1 ∙ o.one_word in
@@ -57,8 +58,8 @@ module _ {H C R A : Type 0} (inside : A → H → List (C × R) → Type 0) (key
           one_word = long;
           one_slot = length-set s.homes 0 _ ∙ o.one_slot;
           whole = o.whole;
-          each = fits_set key o.whole s.views id w (λ j u _ e. o.each j u e) record { named = f.named; holding = λ _. refl; seen_begins = f.seen_begins; noted_begins = f.noted_begins; own = f.own };
-          once = λ p. let moved = total-set (claims p) s.views id m.0 w me in let b = o.once p in omega arith;
+          each = fits_set key o.whole s.views id w (λ j u _ e. o.each j u e) record { named = f.named; holding = λ _. refl; grows = λ _. alive; seen_begins = f.seen_begins; noted_begins = f.noted_begins; own = f.own };
+          once = λ p l. let moved = total-set (claims p) s.views id m.0 w me in let b = o.once p l in omega arith;
           cuts = cuts_set s.views id m.0 w me refl o.cuts;
           free = λ e. absurd (omega arith);
           held = λ _. (
@@ -92,8 +93,8 @@ module _ {H C R A : Type 0} (inside : A → H → List (C × R) → Type 0) (key
           one_word = long;
           one_slot = o.one_slot;
           whole = o.whole;
-          each = fits_set key o.whole s.views id w (λ j u _ e. o.each j u e) record { named = f.named; holding = λ e. absurd (off refl e); seen_begins = f.seen_begins; noted_begins = f.noted_begins; own = f.own };
-          once = λ p. let moved = total-set (claims p) s.views id m.0 w me in let b = o.once p in omega arith;
+          each = fits_set key o.whole s.views id w (λ j u _ e. o.each j u e) record { named = f.named; holding = λ e. absurd (off refl e); grows = λ e. absurd (off refl e); seen_begins = f.seen_begins; noted_begins = f.noted_begins; own = f.own };
+          once = λ p l. let moved = total-set (claims p) s.views id m.0 w me in let b = o.once p l in omega arith;
           cuts = cuts_set s.views id m.0 w me refl o.cuts;
           free = λ e. absurd (omega arith);
           held = λ _. (one, one_set s.views id m.0 w me (sym outside) h.1);
@@ -104,22 +105,26 @@ module _ {H C R A : Type 0} (inside : A → H → List (C × R) → Type 0) (key
   not_other : (s : St) (o : TurnRule inside key s) (id : ℕ) (v : View C R A) → OneHolds s.views → get_elem? s.views id ≡ some v → v.holds ≡ true → (j : ℕ) (u : View C R A) → j ≢ id → get_elem? s.views j ≡ some u → u.holds ≡ false
   not_other s o id v h me holds j u apart at = bool_un u.holds (λ so. apart (h.4 j u at so ∙ sym (h.4 id v me holds)))
 
-  -- nobody claims the next place
-  unclaimed : (s : St) (o : TurnRule inside key s) → total (claims (length o.whole)) s.views ≡ 0
-  unclaimed s o = let p : ℕ = length o.whole in total_zero (claims p) s.views (λ j v e. let f = o.each j v e in let l = begins_less v.seen o.whole f.seen_begins in
+  -- nobody claims a place behind the history
+  unclaimed : (s : St) (o : TurnRule inside key s) (p : ℕ) → length o.whole ≤ p → total (claims p) s.views ≡ 0
+  unclaimed s o p far = total_zero (claims p) s.views (λ j v e. let f = o.each j v e in let l = begins_less v.seen o.whole f.seen_begins in
       zero_of (times p v.mine) (λ h. let x = f.own p h in omega arith))
     where
       zero_of : (k : ℕ) → (0 < k → ⊥) → k ≡ 0
       zero_of zero h = refl
       zero_of (suc k) h = absurd (h (omega arith))
 
-  once_grown : (s : St) (o : TurnRule inside key s) (id : ℕ) (v : View C R A) (said : Option (C × R)) → get_elem? s.views id ≡ some v → v.whole ≡ o.whole → (p : ℕ) → total (claims p) (set s.views id (freeing said v)) ≤ 1
-  once_grown s o id v None me same p = let moved = total-set (claims p) s.views id v (freeing None v) me in let b = o.once p in omega arith
-  once_grown s o id v (Some e) me same p =
+  at_most_once : (s : St) (o : TurnRule inside key s) (p : ℕ) → total (claims p) s.views ≤ 1
+  at_most_once s o p = dite (dec_le (length o.whole) p) (λ far. let z = unclaimed s o p far in omega arith) (λ n. let x = o.once p (lt_of_not-le n) in omega arith)
+
+  once_grown : (s : St) (o : TurnRule inside key s) (id : ℕ) (v : View C R A) (said : Option (C × R)) → get_elem? s.views id ≡ some v → v.whole ≡ o.whole → (p : ℕ) → p < length (grown o.whole said) → total (claims p) (set s.views id (freeing said v)) ≡ 1
+  once_grown s o id v None me same p within = let moved = total-set (claims p) s.views id v (freeing None v) me in let b = o.once p within in omega arith
+  once_grown s o id v (Some e) me same p within =
       let moved = total-set (claims p) s.views id v (freeing (Some e) v) me in let t = times-append p v.mine (length v.whole ∷ []) in let long : length v.whole ≡ length o.whole = ap length same in
+      let longer = length-append o.whole (e ∷ []) in
       dite (ℕ_discrete p (length o.whole))
-      (λ (x : p ≡ length o.whole). let z : total (claims p) s.views ≡ 0 = subst (λ (q : ℕ). total (claims q) s.views ≡ 0) (sym x) (unclaimed s o) in let one = times_single p (length v.whole) in omega arith)
-      (λ x. let other = times_other p (length v.whole) (λ y. x (y ∙ long)) in let b = o.once p in omega arith)
+      (λ (x : p ≡ length o.whole). let z = unclaimed s o p (omega arith) in let one = times_self p (length v.whole) (x ∙ sym long) in omega arith)
+      (λ x. let other = times_other p (length v.whole) (λ y. x (y ∙ long)) in let b = o.once p (omega arith) in omega arith)
 
   frees_known : (n id : ℕ) (v : View C R A) (value : H) (said : Option (C × R)) → v.holds ≡ true → v.of ≡ Some key → inside key value (grown v.whole said)
       → Allows (TurnRule inside key) n id (v, (0, Some value) ∷ []) 0 (λ _. 0) (λ _ n. Frees said (v, (0, Some value) ∷ []) n)
@@ -141,6 +146,7 @@ module _ {H C R A : Type 0} (inside : A → H → List (C × R) → Type 0) (key
               (λ j u apart e. let g = o.each j u e in record {
                 named = g.named;
                 holding = λ so. absurd (off (not_other s o id v h me holds j u apart e) so);
+                grows = g.grows;
                 seen_begins = begins_grown u.seen o.whole said g.seen_begins;
                 noted_begins = begins_grown u.noted o.whole said g.noted_begins;
                 own = g.own;
@@ -148,6 +154,7 @@ module _ {H C R A : Type 0} (inside : A → H → List (C × R) → Type 0) (key
               record {
                 named = f.named;
                 holding = λ e. absurd (off refl e);
+                grows = λ e. absurd (off refl e);
                 seen_begins = ([], nil_right (grown v.whole said) ∙ more);
                 noted_begins = (grown o.whole said, refl);
                 own = own_grown v.mine (length v.seen) v.whole said f.own (let l = ap length same in omega arith);
@@ -178,76 +185,64 @@ module _ {H C R A : Type 0} (inside : A → H → List (C × R) → Type 0) (key
     keeps,
     tt,
     changed s o (set s.words 0 (get_or s.words 0 0)) (set s.views id m.0) (length-set s.words 0 _) (get_or-set_same s.words 0 (get_or s.words 0 0) 0 (let l = o.one_word in omega arith))
-        (fits_set key o.whole s.views id m.0 (λ j u _ e. o.each j u e) f) (λ p. let moved = total-set (claims p) s.views id m.0 m.0 me in let b = o.once p in omega arith)
+        (fits_set key o.whole s.views id m.0 (λ j u _ e. o.each j u e) f) (λ p. let moved = total-set (claims p) s.views id m.0 m.0 me in omega arith)
         (cuts_set s.views id m.0 m.0 me refl o.cuts) (none_set s.views id m.0 m.0 me refl) (one_set s.views id m.0 m.0 me refl),
-    (refl, (λ l. begins_both m.0.noted m.0.seen o.whole f.noted_begins f.seen_begins l), λ p. (let b = o.once p in let part = term_le (claims p) s.views id m.0 me in omega arith, f.own p)),
+    (refl, (λ l. begins_both m.0.noted m.0.seen o.whole f.noted_begins f.seen_begins l), λ p. (let b = at_most_once s o p in let part = term_le (claims p) s.views id m.0 me in omega arith, f.own p)),
   )
 
-  -- a seat is cut in two, of which the first stays
-  cut : (id : ℕ) (v left right : View C R A) → left.holds ≡ v.holds → right.holds ≡ false → left.cut ≡ v.cut + 1 → right.cut ≡ 0
-      → ((whole : List (C × R)) → Fits key whole v → Fits key whole left × Fits key whole right) → ((p : ℕ) → claims p left + claims p right ≤ claims p v) → Splits (TurnRule inside key) id v left right
-  cut id v left right same un more zero_cut fit less s o me = let f = fit o.whole (o.each id v me) in
-      changed s o s.words (set s.views id left ++ right ∷ []) refl refl
-      (fits_more key o.whole (set s.views id left) right (fits_set key o.whole s.views id left (λ j u _ e. o.each j u e) f.0) f.1)
-      (λ p. omega (arith, o.once p, less p, total-append (claims p) (set s.views id left) (right ∷ []), total-set (claims p) s.views id v left me))
-      (cuts_more s.views id v left right me more zero_cut o.cuts)
-      (λ n. none_more (set s.views id left) right un (none_set s.views id v left me same n))
-      (λ h. one_more (set s.views id left) right un (one_set s.views id v left me same h))
-
+  -- a new seat is cut off from one
   pub new_pass : (id : ℕ) (v : View C R A) → Splits (TurnRule inside key) id v (cutting v) (newcomer v)
-  new_pass id v = cut id v (cutting v) (newcomer v) refl refl refl refl
-      (λ whole f. (
-        record { named = f.named; holding = f.holding; seen_begins = f.seen_begins; noted_begins = f.noted_begins; own = f.own },
-        record { named = f.named; holding = λ e. absurd (off refl e); seen_begins = f.seen_begins; noted_begins = (whole, refl); own = λ p h. absurd (omega arith) },
-      ))
-      (λ p. omega arith)
+  new_pass id v s o me = let f = o.each id v me in let left = cutting v in let right = newcomer v in
+      changed s o s.words (set s.views id left ++ right ∷ []) refl refl
+      (fits_more key o.whole (set s.views id left) right
+      (fits_set key o.whole s.views id left (λ j u _ e. o.each j u e)
+      record { named = f.named; holding = f.holding; grows = λ so. cut_grows v.kin (f.grows so); seen_begins = f.seen_begins; noted_begins = f.noted_begins; own = f.own })
+      record { named = f.named; holding = λ e. absurd (off refl e); grows = λ e. absurd (off refl e); seen_begins = f.seen_begins; noted_begins = (o.whole, refl); own = λ p h. absurd (omega arith) })
+      (λ p. omega (arith, total-append (claims p) (set s.views id left) (right ∷ []), total-set (claims p) s.views id v left me))
+      (cuts_more s.views id v left right me refl refl o.cuts)
+      (λ n. none_more (set s.views id left) right refl (none_set s.views id v left me refl n))
+      (λ h. one_more (set s.views id left) right refl (one_set s.views id v left me refl h))
 
-  pub hands : (id : ℕ) (v : View C R A) → Splits (TurnRule inside key) id v (handing v) (handed v)
-  hands id v = cut id v (handing v) (handed v) refl refl refl refl
-      (λ whole f. (
-        record { named = f.named; holding = f.holding; seen_begins = f.seen_begins; noted_begins = f.noted_begins; own = λ p h. absurd (omega arith) },
-        record { named = f.named; holding = λ e. absurd (off refl e); seen_begins = f.seen_begins; noted_begins = (whole, refl); own = f.own },
-      ))
-      (λ p. omega arith)
-
-  -- a seat takes in another, which doesn't hold the turn, and from which none was cut off
-  unites : (id : ℕ) (v : View C R A) (other : ℕ) (u w : View C R A) → w.holds ≡ v.holds → u.holds ≡ false → w.cut ≡ v.cut → u.cut ≡ 0
-      → ((whole : List (C × R)) → Fits key whole v → Fits key whole u → Fits key whole w) → ((p : ℕ) → claims p w ≤ claims p v + claims p u) → Joins (TurnRule inside key) id v other u w spent
-  unites id v other u w same un cut_same none_cut fit less s o me apart there =
+  -- a seat takes in another, which doesn't hold the turn
+  unites : (id : ℕ) (v : View C R A) (other : ℕ) (u w : View C R A) → w.holds ≡ v.holds → u.holds ≡ false → w.kin ≡ v.kin ++ u.kin
+      → ((whole : List (C × R)) → Fits key whole v → Fits key whole u → Fits key whole w) → ((p : ℕ) → claims p w ≡ claims p v + claims p u) → Joins (TurnRule inside key) id v other u w spent
+  unites id v other u w same un both fit all s o me apart there =
       let g = o.each other u (sym (set_else s.views id other w apart) ∙ there) in
       let f = fit o.whole (o.each id v me) g in
       changed s o s.words (set (set s.views id w) other spent) refl refl
       (fits_set key o.whole (set s.views id w) other spent (λ j x _ e. fits_set key o.whole s.views id w (λ i y _ d. o.each i y d) f j x e) (spent_fits key o.whole))
-      (λ p. omega (arith, o.once p, less p, total-set (claims p) s.views id v w me, total-set (claims p) (set s.views id w) other u spent there))
-      (cuts_set (set s.views id w) other u spent there (sym none_cut) (cuts_set s.views id v w me cut_same o.cuts))
+      (λ p. omega (arith, all p, total-set (claims p) s.views id v w me, total-set (claims p) (set s.views id w) other u spent there))
+      (cuts_joined s.views id v w other u me there both o.cuts)
       (λ n. none_set (set s.views id w) other u spent there (sym un) (none_set s.views id v w me same n))
       (λ h. one_set (set s.views id w) other u spent there (sym un) (one_set s.views id v w me same h))
 
-  pub takes_in : (id : ℕ) (v : View C R A) (other : ℕ) (u : View C R A) → u.holds ≡ false → u.cut ≡ 0 → Joins (TurnRule inside key) id v other u (taking v u) spent
-  takes_in id v other u un none_cut = unites id v other u (taking v u) refl un refl none_cut
+  pub takes_in : (id : ℕ) (v : View C R A) (other : ℕ) (u : View C R A) → u.holds ≡ false → Joins (TurnRule inside key) id v other u (taking v u) spent
+  takes_in id v other u un = unites id v other u (taking v u) refl un refl
       (λ whole f g. let b = longer_begins v.seen u.seen whole f.seen_begins g.seen_begins in let l = longer_length v.seen u.seen in record {
         named = f.named;
         holding = f.holding;
+        grows = λ so. length_more v.kin u.kin (f.grows so);
         seen_begins = b.0;
         noted_begins = b.1;
         own = λ p h. let t = times-append p v.mine u.mine in dite (dec_le (times p v.mine) 0)
             (λ z. let x = g.own p (omega arith) in let l' = l.1 in omega arith) (λ z. let x = f.own p (omega arith) in let l' = l.0 in omega arith);
       })
-      (λ p. let t = times-append p v.mine u.mine in omega arith)
+      (λ p. times-append p v.mine u.mine)
 
-  pub notes : (id : ℕ) (v : View C R A) (other : ℕ) (u : View C R A) → u.holds ≡ false → u.cut ≡ 0 → Joins (TurnRule inside key) id v other u (noting v u) spent
-  notes id v other u un none_cut = unites id v other u (noting v u) refl un refl none_cut
-      (λ whole f g. record { named = f.named; holding = f.holding; seen_begins = f.seen_begins; noted_begins = g.seen_begins; own = f.own })
-      (λ p. omega arith)
+  -- the other has made no call
+  pub notes : (id : ℕ) (v : View C R A) (other : ℕ) (u : View C R A) → u.holds ≡ false → u.mine ≡ [] → Joins (TurnRule inside key) id v other u (noting v u) spent
+  notes id v other u un unmade = unites id v other u (noting v u) refl un refl
+      (λ whole f g. record { named = f.named; holding = f.holding; grows = λ so. length_more v.kin u.kin (f.grows so); seen_begins = f.seen_begins; noted_begins = g.seen_begins; own = f.own })
+      (λ p. let e = ap (times p) unmade in omega arith)
 
   starts : (value : H) → inside key value [] → TurnRule inside key (opening (0 ∷ []) (Some value ∷ []) (opener key))
   starts value ok = record {
     one_word = refl;
     one_slot = refl;
     whole = [];
-    each = λ j v e. subst (λ (u : View C R A). Fits key [] u) (first j v e) record { named = λ a e. sym (some_is a e); holding = λ e. absurd (off refl e); seen_begins = ([], refl); noted_begins = ([], refl); own = λ p h. absurd (omega arith) };
-    once = λ p. omega arith;
-    cuts = record { all = refl; newest = λ j v e last. ap (λ (y : View C R A). y.cut) (sym (first j v e)) };
+    each = λ j v e. subst (λ (u : View C R A). Fits key [] u) (first j v e) record { named = λ a e. sym (some_is a e); holding = λ e. absurd (off refl e); grows = λ e. absurd (off refl e); seen_begins = ([], refl); noted_begins = ([], refl); own = λ p h. absurd (omega arith) };
+    once = λ p l. absurd (omega arith);
+    cuts = record { one_first = refl; each_counted = λ d. let deep = trunk_deep d in let uncut = trunk_uncut d in omega arith };
     free = λ _. ((value, refl, ok), λ j v e. ap (λ (y : View C R A). y.holds) (sym (first j v e)));
     held = λ n. absurd (n refl);
   }

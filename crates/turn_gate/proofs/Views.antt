@@ -1,13 +1,15 @@
 -- What the rule says of all views, where one changes or one more comes
-use Rattle.std.proofs.Common.{◌≡◌, ◌≢◌, ℕ, zero, suc, ◌+◌, ◌<◌, List, [], ◌∷◌, ◌++◌, length, set, Bool, true, false, true≢false, Option, Some, None, refl, sym, ap, ◌∙◌, subst, ⊎_elim, arith, length-set, length-append}
+use Rattle.std.proofs.Common.{◌≡◌, ◌≢◌, ℕ, zero, suc, ◌+◌, ◌<◌, List, [], ◌∷◌, ◌++◌, length, set, Bool, true, false, true≢false, Option, Some, None, refl, sym, ap, ◌∙◌, subst, ⊎_elim, arith}
 use mathlib.Core.Logic.{dite}
 use mathlib.Core.Option.{some, some-injective, some-ne-none}
 use native.Mathlib.Decide.{ℕ_discrete}
 use lib.ListN.{get_elem?}
 use Rattle.atomic_table.proofs.Lists.{at_set, set_here, set_else, at_snoc, at_longer}
 use Rattle.turn_gate.specs.declared.view.View.{View}
-use Rattle.turn_gate.specs.TurnTable.{spent, Fits, Cuts, OneHolds, NoneHolds}
+use Rattle.turn_gate.specs.Branches.{cut_off, offshoot, at_depth, cut_at}
+use Rattle.turn_gate.specs.TurnTable.{spent, Fits, branches_at, cuts_at, Cuts, OneHolds, NoneHolds}
 use Rattle.turn_gate.proofs.Places.{total-append, total-set}
+use Rattle.turn_gate.proofs.Branching.{depth_cut, shoot_first, shoot_uncut, cut_counted, depth_both, cut_both}
 
 pub off : {b : Bool} → b ≡ false → b ≡ true → ⊥
 off un so = true≢false (sym so ∙ un)
@@ -35,7 +37,7 @@ module _ {C R A : Type 0} where
   fits_more key whole views w others here j u e = ⊎_elim (λ x. others j u x) (λ (x : w ≡ u). subst (λ (y : View C R A). Fits key whole y) x here) (at_snoc views w u j e)
 
   pub spent_fits : (key : A) (whole : List (C × R)) → Fits key whole spent
-  spent_fits key whole = record { named = λ a e. absurd (none_some a e); holding = λ e. absurd (off refl e); seen_begins = (whole, refl); noted_begins = (whole, refl); own = λ p h. absurd (omega arith) }
+  spent_fits key whole = record { named = λ a e. absurd (none_some a e); holding = λ e. absurd (off refl e); grows = λ e. absurd (off refl e); seen_begins = (whole, refl); noted_begins = (whole, refl); own = λ p h. absurd (omega arith) }
     where
       none_some : (a : A) → None ≡ Some a → ⊥
       none_some a e = true≢false (ap (λ (x : Option A). is_none x) e)
@@ -70,22 +72,37 @@ module _ {C R A : Type 0} where
   pub none_more : (views : List (View C R A)) (w : View C R A) → w.holds ≡ false → NoneHolds views → NoneHolds (views ++ w ∷ [])
   none_more views w un n j u at = ⊎_elim (λ x. n j u x) (λ (x : w ≡ u). ap (λ (y : View C R A). y.holds) (sym x) ∙ un) (at_snoc views w u j at)
 
-  abbrev cut_of : View C R A → ℕ
-  cut_of v = v.cut
-
-  pub cuts_set : (views : List (View C R A)) (id : ℕ) (v w : View C R A) → get_elem? views id ≡ some v → w.cut ≡ v.cut → Cuts views → Cuts (set views id w)
-  cuts_set views id v w me same c = let l = length-set views id w in record {
-    all = let t = total-set cut_of views id v w me in let a = c.all in omega arith;
-    newest = λ j u at last. ⊎_elim
-        (λ (x : (j ≡ id) × (w ≡ u)). ap cut_of (sym x.1) ∙ (same ∙ c.newest id v me (ap (λ k. k + 1) (sym x.0) ∙ (last ∙ l))))
-        (λ (x : (j ≢ id) × (get_elem? views j ≡ some u)). c.newest j u x.1 (last ∙ l)) (at_set views id j w u at);
+  -- one view changes, and its branches don't
+  pub cuts_set : (views : List (View C R A)) (id : ℕ) (v w : View C R A) → get_elem? views id ≡ some v → w.kin ≡ v.kin → Cuts views → Cuts (set views id w)
+  cuts_set views id v w me same c = record {
+    one_first = let t = total-set (branches_at 0) views id v w me in let e = ap (at_depth 0) same in let o = c.one_first in omega arith;
+    each_counted = λ d.
+        let t = total-set (branches_at (d + 1)) views id v w me in let u = total-set (cuts_at d) views id v w me in
+        let e = ap (at_depth (d + 1)) same in let f = ap (cut_at d) same in let o = c.each_counted d in omega arith;
   }
 
   -- one seat more, cut off from the one at id
-  pub cuts_more : (views : List (View C R A)) (id : ℕ) (v w new : View C R A) → get_elem? views id ≡ some v → w.cut ≡ v.cut + 1 → new.cut ≡ 0 → Cuts views → Cuts (set views id w ++ new ∷ [])
-  cuts_more views id v w new me more none c = let l = length-set views id w in let k = length-append (set views id w) (new ∷ []) in record {
-    all = let t = total-set cut_of views id v w me in let s = total-append cut_of (set views id w) (new ∷ []) in let a = c.all in omega arith;
-    newest = λ j u at last. ⊎_elim
-        (λ (x : get_elem? (set views id w) j ≡ some u). absurd (let h = within (set views id w) j u x in omega arith))
-        (λ (x : new ≡ u). ap cut_of (sym x) ∙ none) (at_snoc (set views id w) new u j at);
+  pub cuts_more : (views : List (View C R A)) (id : ℕ) (v w new : View C R A) → get_elem? views id ≡ some v → w.kin ≡ cut_off v.kin → new.kin ≡ offshoot v.kin → Cuts views → Cuts (set views id w ++ new ∷ [])
+  cuts_more views id v w new me more shoot c = record {
+    one_first =
+        let t = total-set (branches_at 0) views id v w me in let s = total-append (branches_at 0) (set views id w) (new ∷ []) in
+        let e = ap (at_depth 0) more ∙ depth_cut 0 v.kin in let f = ap (at_depth 0) shoot ∙ shoot_first v.kin in let o = c.one_first in omega arith;
+    each_counted = λ d.
+        let t = total-set (branches_at (d + 1)) views id v w me in let s = total-append (branches_at (d + 1)) (set views id w) (new ∷ []) in
+        let u = total-set (cuts_at d) views id v w me in let r = total-append (cuts_at d) (set views id w) (new ∷ []) in
+        let e = ap (at_depth (d + 1)) more ∙ depth_cut (d + 1) v.kin in let f = ap (at_depth (d + 1)) shoot in
+        let g = ap (cut_at d) more in let h = ap (cut_at d) shoot ∙ shoot_uncut d v.kin in let k = cut_counted d v.kin in let o = c.each_counted d in omega arith;
+  }
+
+  -- one seat takes in the branches of another
+  pub cuts_joined : (views : List (View C R A)) (id : ℕ) (v w : View C R A) (other : ℕ) (u : View C R A) → get_elem? views id ≡ some v → get_elem? (set views id w) other ≡ some u → w.kin ≡ v.kin ++ u.kin
+      → Cuts views → Cuts (set (set views id w) other spent)
+  cuts_joined views id v w other u me there both c = record {
+    one_first =
+        let t = total-set (branches_at 0) views id v w me in let s = total-set (branches_at 0) (set views id w) other u spent there in
+        let e = ap (at_depth 0) both ∙ depth_both 0 v.kin u.kin in let o = c.one_first in omega arith;
+    each_counted = λ d.
+        let t = total-set (branches_at (d + 1)) views id v w me in let s = total-set (branches_at (d + 1)) (set views id w) other u spent there in
+        let p = total-set (cuts_at d) views id v w me in let r = total-set (cuts_at d) (set views id w) other u spent there in
+        let e = ap (at_depth (d + 1)) both ∙ depth_both (d + 1) v.kin u.kin in let f = ap (cut_at d) both ∙ cut_both d v.kin u.kin in let o = c.each_counted d in omega arith;
   }

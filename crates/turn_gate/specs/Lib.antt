@@ -1,4 +1,5 @@
 pub mod Histories
+pub mod Branches
 pub mod TurnTable
 pub mod InSlot
 pub mod Known

@@ -1,4 +1,4 @@
--- Only proofs and private functions use it.
+-- Only proofs and private functions use it; but that Busy means that another pass held the turn is read here (`Seizes`) and in src/rule.rt.
 -- The gate's table. It has one word, the turn word, and one slot, where the machine lies with the number of its calls.
 -- Each pass has a seat of it. What such a seat knows is its view.
 use Rattle.std.specs.Prelude.{◌≡◌, ◌≢◌, ℕ, ◌+◌, ◌<◌, ◌≤◌, Bool, true, false, List, [], ◌∷◌, ◌++◌, length, slice_index, Option, Some, None}
@@ -6,6 +6,8 @@ use mathlib.Core.Option.{some}
 use lib.ListN.{get_elem?}
 use Rattle.atomic_table.specs.Table.{State, Me}
 use Rattle.turn_gate.specs.declared.view.View.{View}
+use Rattle.turn_gate.specs.declared.view.Branch.{Branch}
+use Rattle.turn_gate.specs.Branches.{trunk, cut_off, offshoot, at_depth, cut_at}
 use Rattle.turn_gate.specs.Histories.{Begins, longer, shorter, grown, placed, total, times, AreOwn}
 
 -- what never changes of the machine, as a seat of the gate knows it
@@ -14,53 +16,45 @@ about_of any None = any
 about_of any (Some a) = a
 
 module _ {C R A : Type 0} where
-  abbrev pub view : Bool → ℕ → ℕ → Option A → List (C × R) → List (C × R) → List (C × R) → List ℕ → View C R A
-  view holds met cut of whole noted seen mine =
-      record { holds = holds; met = met; cut = cut; of = of; whole = whole; noted = noted; seen = seen; mine = mine }
+  abbrev pub view : Bool → ℕ → List Branch → Option A → List (C × R) → List (C × R) → List (C × R) → List ℕ → View C R A
+  view holds met kin of whole noted seen mine =
+      record { holds = holds; met = met; kin = kin; of = of; whole = whole; noted = noted; seen = seen; mine = mine }
 
   -- the first pass, before any call
   abbrev pub opener : A → View C R A
-  opener of = view false 0 0 (Some of) [] [] [] []
+  opener of = view false 0 trunk (Some of) [] [] [] []
 
   -- a new pass has seen what the old one had
   abbrev pub newcomer : View C R A → View C R A
-  newcomer v = view false 0 0 v.of [] [] v.seen []
+  newcomer v = view false 0 (offshoot v.kin) v.of [] [] v.seen []
 
   -- and one seat more was cut off from the old one
   abbrev pub cutting : View C R A → View C R A
-  cutting v = view v.holds v.met (v.cut + 1) v.of v.whole v.noted v.seen v.mine
+  cutting v = view v.holds v.met (cut_off v.kin) v.of v.whole v.noted v.seen v.mine
 
-  -- a seat hands out all that it has, its own calls too
-  abbrev pub handed : View C R A → View C R A
-  handed v = view false 0 0 v.of [] [] v.seen v.mine
-
-  -- and is left with what it has seen
-  abbrev pub handing : View C R A → View C R A
-  handing v = view v.holds v.met (v.cut + 1) v.of v.whole v.noted v.seen []
-
-  -- what a seat knows that was joined into another
+  -- what is left of a seat that was joined into another: it has no branch any more, and can't take the turn again
   abbrev pub spent : View C R A
-  spent = view false 0 0 None [] [] [] []
+  spent = view false 0 [] None [] [] [] []
 
-  -- a seat takes in another, from which none was cut off: the longer of both is seen, the other one noted
+  -- a seat takes in another, with its branches and its own calls: the longer of both is seen, the other one noted
   abbrev pub taking : View C R A → View C R A → View C R A
-  taking v w = view v.holds v.met v.cut v.of v.whole (shorter v.seen w.seen) (longer v.seen w.seen) (v.mine ++ w.mine)
+  taking v w = view v.holds v.met (v.kin ++ w.kin) v.of v.whole (shorter v.seen w.seen) (longer v.seen w.seen) (v.mine ++ w.mine)
 
-  -- a seat notes what another has seen
+  -- a seat takes in another, that has made no call, with its branches, and notes what it has seen
   abbrev pub noting : View C R A → View C R A → View C R A
-  noting v w = view v.holds v.met v.cut v.of v.whole w.seen v.seen v.mine
+  noting v w = view v.holds v.met (v.kin ++ w.kin) v.of v.whole w.seen v.seen v.mine
 
   -- it takes the turn, at this history
   abbrev pub seizing : View C R A → List (C × R) → View C R A
-  seizing v h = view true v.met v.cut v.of h v.noted v.seen v.mine
+  seizing v h = view true v.met v.kin v.of h v.noted v.seen v.mine
 
   -- it has met another that holds the turn
   abbrev pub meeting : View C R A → View C R A
-  meeting v = view false (v.met + 1) v.cut v.of v.whole v.noted v.seen v.mine
+  meeting v = view false (v.met + 1) v.kin v.of v.whole v.noted v.seen v.mine
 
   -- it gives the turn back, and has seen the whole history, with the call that it made
   abbrev pub freeing : Option (C × R) → View C R A → View C R A
-  freeing said v = view false v.met v.cut v.of [] [] (grown v.whole said) (placed v.mine (length v.whole) said)
+  freeing said v = view false v.met v.kin v.of [] [] (grown v.whole said) (placed v.mine (length v.whole) said)
 
   -- how often a view claims a place
   abbrev pub claims : ℕ → View C R A → ℕ
@@ -70,18 +64,27 @@ module _ {C R A : Type 0} where
   pub record Fits (key : A) (whole : List (C × R)) (v : View C R A) : Type 0 where
     -- it is of this gate
     pub named : (a : A) → v.of ≡ Some a → a ≡ key
-    -- where it holds the turn it has the whole history
+    -- where it holds the turn it has the whole history, and a branch of its own
     pub holding : v.holds ≡ true → v.whole ≡ whole
+    pub grows : v.holds ≡ true → 0 < length v.kin
     -- what is seen, and what is noted, is a beginning of it
     pub seen_begins : Begins v.seen whole
     pub noted_begins : Begins v.noted whole
     -- own calls have places in what is seen
     pub own : (p : ℕ) → 0 < times p v.mine → p < length v.seen
 
-  -- Every seat but the first was cut off from one, and none yet from the newest
+  -- how many branches of a view have that depth, and how many seats were cut off from these
+  abbrev pub branches_at : ℕ → View C R A → ℕ
+  branches_at d v = at_depth d v.kin
+
+  abbrev pub cuts_at : ℕ → View C R A → ℕ
+  cuts_at d v = cut_at d v.kin
+
+  -- EVERY SEAT BUT THE FIRST WAS CUT OFF FROM ONE, which counts it: there is one branch of no depth, and of each further depth there are
+  -- as many as were cut off from those of one less. So no seat comes that none counts, and what is counted stays counted
   pub record Cuts (views : List (View C R A)) : Type 0 where
-    pub all : length views ≡ 1 + total (λ v. v.cut) views
-    pub newest : (j : ℕ) (v : View C R A) → get_elem? views j ≡ some v → j + 1 ≡ length views → v.cut ≡ 0
+    pub one_first : total (branches_at 0) views ≡ 1
+    pub each_counted : (d : ℕ) → total (branches_at (d + 1)) views ≡ total (cuts_at d) views
 
   -- just one view holds the turn
   abbrev pub OneHolds : List (View C R A) → Type 0
@@ -101,8 +104,8 @@ module _ {C R A : Type 0} where
       -- the history of all calls
       pub whole : List (C × R)
       pub each : (j : ℕ) (v : View C R A) → get_elem? s.views j ≡ some v → Fits key whole v
-      -- no place stands in the own calls of two, or twice in those of one
-      pub once : (p : ℕ) → total (claims p) s.views ≤ 1
+      -- each place of it stands in the own calls of just one seat, once
+      pub once : (p : ℕ) → p < length whole → total (claims p) s.views ≡ 1
       pub cuts : Cuts s.views
       -- where the word is 0 the slot is at home, and nobody holds the turn
       pub free : slice_index s.words 0 ≡ 0 → ((x : H) × (get_elem? s.homes 0 ≡ some (some (Some x))) × inside key x whole) × NoneHolds s.views

@@ -1,11 +1,12 @@
 //! A machine behind a turn word. The pass that has the turn has the machine.
-ghost use Rattle.std.specs.Prelude.{◌≡◌, ◌⊎◌, ◌++◌, [], length, IfOk, IfErr};
+ghost use Rattle.std.specs.Prelude.{◌≡◌, ◌++◌, [], length, IfOk, IfErr};
+ghost use Rattle.turn_gate.specs.Branches.{trunk, cut_off, offshoot};
 ghost use Rattle.turn_gate.specs.Histories.{Begins, longer, AreOwn};
-ghost use Rattle.turn_gate.specs.Known.{newcomer, cut_once, Replied, RepliedAfter, Failed, NotedRoot, Settled, Same};
+ghost use Rattle.turn_gate.specs.Known.{newcomer, with_kin, Replied, RepliedAfter, Failed, SplitOnce, Settled, Same};
 
 use crate::machine::Machine;
 use crate::pass::Pass;
-use crate::rule::{Handed, Learn, Newcomer, Noted, Seize, Taken, Turns};
+use crate::rule::{Learn, Newcomer, Noted, Seize, Taken, Turns};
 use crate::serve::serve;
 use crate::view::{Kept, View};
 use atomic_table::{Refused, Table};
@@ -48,7 +49,7 @@ impl<T: Machine + Drop> Gate<T> {
         about: &T::About,
     ) -> Result<(Gate<T>, Pass<T>), AllocError>
         requires { T.stands machine [] × (about.now ≡ T.about machine) }
-        ensures first { IfOk result (λ r. r.1 ≡ newcomer r.0 []) }
+        ensures first { IfOk result (λ r. r.1 ≡ newcomer r.0 trunk []) }
         ensures about { IfOk result (λ r. r.0.about ≡ about.now) }
     {
         let mut slots = Vec::with_capacity(alloc, 1)?;
@@ -71,6 +72,8 @@ impl<T: Machine + Drop> Gate<T> {
         ensures fails { IfErr result (λ e. Failed (T.lawful self.now.about) pass.old call e pass.new) }
         // the turn was found free where `met` stays
         ensures free { pass.new.met ≡ pass.old.met → Settled pass.old call result pass.new }
+        // no other pass was split off or taken in
+        ensures kin { pass.new.kin ≡ pass.old.kin }
     {
         let turns = &self.turns.shared;
         if turns.swap::<Seize<T>>(&mut pass.seat, 0, 1) != 0 {
@@ -91,7 +94,8 @@ impl<T: Machine + Drop> Gate<T> {
         ensures fails { IfErr result (λ e. Failed (T.lawful self.now.about) pass.old call e pass.new) }
         // the turn was found free where `met` stays
         ensures free { pass.new.met ≡ pass.old.met → Settled pass.old call result pass.new }
-        ensures root { NotedRoot root.old result root.new }
+        ensures root { root.new ≡ with_kin root.old root.new.kin }
+        ensures kin { SplitOnce root.old.kin pass.old.kin result root.new.kin pass.new.kin }
     {
         let turns = &self.turns.shared;
         let found = turns.swap::<Seize<T>>(&mut pass.seat, 0, 1);
@@ -106,8 +110,8 @@ impl<T: Machine + Drop> Gate<T> {
     /// A new pass, which has seen what the old one has, and made no call.
     pub fn split(&self, pass: &mut Pass<T>) -> Pass<T>
         requires { pass.old.gate ≡ self.now }
-        ensures new { result ≡ newcomer self.now pass.old.seen }
-        ensures same { pass.new ≡ cut_once pass.old }
+        ensures new { result ≡ newcomer self.now (offshoot pass.old.kin) pass.old.seen }
+        ensures same { pass.new ≡ with_kin pass.old (cut_off pass.old.kin) }
     {
         let seat = self.turns.shared.split_seat::<Newcomer>(&mut pass.seat);
         Pass {
@@ -116,35 +120,22 @@ impl<T: Machine + Drop> Gate<T> {
         }
     }
 
-    /// `into` has then seen the longer of what both have seen, which both begin, and has the own calls of both.
+    /// `into` has then seen the longer of what both have seen, which both begin, and has the own calls of both. The other is taken
+    /// in whole: nothing of it is left that could take the turn.
     pub fn join(&self, into: &mut Pass<T>, other: Pass<T>)
         requires { (into.old.gate ≡ self.now) × (other.gate ≡ self.now) }
         ensures same { Same into.old into.new }
+        ensures kin { into.new.kin ≡ into.old.kin ++ other.kin }
         ensures seen { into.new.seen ≡ longer into.old.seen other.seen }
         ensures both { Begins into.old.seen into.new.seen × Begins other.seen into.new.seen }
         ensures mine { (into.new.mine ≡ into.old.mine ++ other.mine) × AreOwn into.new.mine (length into.new.seen) }
     {
-        let Pass { mut seat, calls } = other;
+        let Pass { seat, calls } = other;
         let turns = &self.turns.shared;
-        let given = turns.split_seat::<Handed>(&mut seat);
-        turns.join_seat::<Taken>(&mut into.seat, given);
+        turns.join_seat::<Taken>(&mut into.seat, seat);
         if into.calls < calls {
             into.calls = calls;
         }
         turns.load::<Learn>(&mut into.seat, 0);
-    }
-
-    /// All passes of one gate have seen beginnings of one history: of any two, what the one has seen begins what the other
-    /// has. Both stay as they are.
-    pub fn agree(&self, one: &mut Pass<T>, other: &mut Pass<T>)
-        requires { (one.old.gate ≡ self.now) × (other.old.gate ≡ self.now) }
-        ensures same { (one.new ≡ cut_once one.old) × (other.new ≡ cut_once other.old) }
-        ensures agree { Begins one.old.seen other.old.seen ⊎ Begins other.old.seen one.old.seen }
-    {
-        let turns = &self.turns.shared;
-        let mut both = turns.split_seat::<Newcomer>(&mut one.seat);
-        let copy = turns.split_seat::<Newcomer>(&mut other.seat);
-        turns.join_seat::<Taken>(&mut both, copy);
-        turns.load::<Learn>(&mut both, 0);
     }
 }

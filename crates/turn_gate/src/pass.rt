@@ -15,7 +15,7 @@ pub struct Pass<T: Machine> {
 }
 
 impl<T: Machine> Model for Pass<T> {
-    ghost use Rattle.std.specs.Prelude.{◌≡◌, false, length, [], Some};
+    ghost use Rattle.std.specs.Prelude.{◌≡◌, ◌<◌, false, length, [], Some};
     ghost use Rattle.turn_gate.specs.Histories.{AreOwn};
     ghost use Rattle.turn_gate.specs.TurnTable.{about_of};
     ghost use Rattle.turn_gate.specs.Known.{PassKnown};
@@ -26,12 +26,12 @@ impl<T: Machine> Model for Pass<T> {
       gate = record { table = p.seat.table_id; about = about_of T.any p.seat.me.0.of };
       holds = p.seat.me.0.holds;
       met = p.seat.me.0.met;
-      cut = p.seat.me.0.cut;
+      kin = p.seat.me.0.kin;
       seen = p.seat.me.0.seen;
       mine = p.seat.me.0.mine;
     } };
 
-    ghost invariant = { λ p. (p.seat.me.1 ≡ []) × (p.seat.me.0.holds ≡ false) × (p.seat.me.0.of ≡ Some (about_of T.any p.seat.me.0.of))
+    ghost invariant = { λ p. (p.seat.me.1 ≡ []) × (p.seat.me.0.holds ≡ false) × (0 < length p.seat.me.0.kin) × (p.seat.me.0.of ≡ Some (about_of T.any p.seat.me.0.of))
         × (p.calls ≡ length p.seat.me.0.seen) × AreOwn p.seat.me.0.mine (length p.seat.me.0.seen)
         × T.lawful (about_of T.any p.seat.me.0.of) p.seat.me.0.seen };
 }

@@ -1,6 +1,6 @@
 //! The rule of the table, and what its steps tell.
 ghost use Rattle.std.specs.Prelude.{Option, None};
-ghost use Rattle.turn_gate.specs.TurnTable.{TurnRule, opener, newcomer, cutting, handed, handing, spent, taking, noting, Seizes, Frees, Learns};
+ghost use Rattle.turn_gate.specs.TurnTable.{TurnRule, opener, newcomer, cutting, spent, taking, noting, Seizes, Frees, Learns};
 ghost use Rattle.turn_gate.specs.InSlot.{InSlot};
 
 use crate::machine::Machine;
@@ -63,16 +63,7 @@ impl<C, R, A> Split<View<C, R, A>> for Newcomer {
     ghost right = { newcomer };
 }
 
-/// A pass hands out all that it has, before it is dropped.
-pub struct Handed;
-
-impl<C, R, A> Split<View<C, R, A>> for Handed {
-    ghost left = { handing };
-
-    ghost right = { handed };
-}
-
-/// A pass takes in what another handed out.
+/// A pass takes in another.
 pub struct Taken;
 
 impl<C, R, A> Join<View<C, R, A>> for Taken {
@@ -81,7 +72,7 @@ impl<C, R, A> Join<View<C, R, A>> for Taken {
     ghost spent = { spent };
 }
 
-/// A pass notes what another has seen.
+/// A pass takes in another, that has made no call, and notes what it has seen.
 pub struct Noted;
 
 impl<C, R, A> Join<View<C, R, A>> for Noted {

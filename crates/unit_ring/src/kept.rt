@@ -60,7 +60,7 @@ impl KeptConfigs {
             Kind::Meta => self.meta = Some(Kept { number, unit }),
             Kind::VConfig => self.video = Some(Kept { number, unit }),
             Kind::AConfig => self.audio = Some(Kept { number, unit }),
-            Kind::Key | Kind::Inter | Kind::Audio | Kind::Data => {}
+            Kind::Key | Kind::Inter | Kind::Spare | Kind::Audio | Kind::Data => {}
         }
     }
 

@@ -53,7 +53,7 @@ impl Marks {
                     audio: Some(n),
                     ..self
                 },
-                Kind::Key | Kind::Inter | Kind::Audio | Kind::Data => self,
+                Kind::Key | Kind::Inter | Kind::Spare | Kind::Audio | Kind::Data => self,
             },
         }
     }

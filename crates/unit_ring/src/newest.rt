@@ -51,7 +51,8 @@ impl Newest {
                     self.video = Some(n);
                 }
                 Kind::Inter => self.video = Some(n),
-                Kind::Meta | Kind::VConfig | Kind::AConfig | Kind::Audio | Kind::Data => {}
+                Kind::Meta | Kind::VConfig | Kind::AConfig => {}
+                Kind::Spare | Kind::Audio | Kind::Data => {}
             },
             Item::End => self.live = false,
         }

@@ -2,7 +2,7 @@ ghost use Rattle.std.specs.Prelude.{◌≡◌, ◌+◌, ◌*◌, ◌<◌, ◌≤
 ghost use Rattle.std.specs.Option.{IfSome};
 ghost use Rattle.std.specs.List.{slice_get};
 ghost use Rattle.stream_model.specs.Items.{config_at, last_where};
-ghost use Rattle.stream_model.specs.Window.{base, join, newest_key, number_or};
+ghost use Rattle.stream_model.specs.Window.{base, join, lags, newest_key, number_or};
 ghost use Rattle.stream_model.specs.Slots.{slot_kind, is_video};
 ghost use Rattle.stream_model.specs.Held.{held};
 
@@ -75,6 +75,7 @@ impl Ring {
     pub fn held(&self) -> u64
         ensures sum { result ≡ held self.now.limits self.now.items }
         ensures most { result ≤ self.now.limits.bytes + 196608 }
+        ensures fits { result < 2 ^ 55 }
     {
         self.window.held()
     }
@@ -113,6 +114,16 @@ impl Ring {
         } else {
             self.newest.marks.of(slot)
         }
+    }
+
+    /// Whether a player at number `n` lags: more than half as many items as the window may have, rounded down, are there from
+    /// it on.
+    #[tactic(auto, using(std::proofs::lemmas::Bool::Decides::nat_tests))]
+    pub fn lags(&self, n: u64) -> bool
+        ensures { result ≡ lags self.now.limits self.now.items n }
+    {
+        let half = (self.limits.items / 2) as u64;
+        half < self.newest.end.saturating_sub(n)
     }
 
     /// The keyframe at which a player joins, if there is one: the newest that lies in the window and after the last Begin,

@@ -7,8 +7,8 @@ use std::alloc::Global;
 use std::test::Fail;
 use stream_model::Reply;
 
-// A step begins with its letter: c, a, v, d, s and u for a message of type 20, 8, 9, 18, 1 and 4, and B, U, J and F for
-// the replies Began, InUse, Joined and Full. A message has the digit of its message stream behind it, and its body.
+// A step begins with its letter: c, a, v, d, s and u for a message of type 20, 8, 9, 18, 1 and 4, and B, U, J, F and N for
+// the replies Began, InUse, Joined, Full and NoSlot. A message has the digit of its message stream behind it, and its body.
 
 /// What ffmpeg 5.1.9 sends to publish, with a key frame and a sound of few bytes.
 const FFMPEG_PUBLISHES: [&[u8]; 13] = [
@@ -80,6 +80,30 @@ const REFUSALS: [&[u8]; 14] = [
     b"c0",
 ];
 
+/// Pictures that no other picture needs, before and behind configurations with lengths of 4 bytes and of 1 byte, and
+/// in the next publish.
+const SPARES: [&[u8]; 11] = [
+    b"v1\x27\x01\x00\x00\x00\x00\x00\x00\x01\x01",
+    b"v1\x17\x00\x00\x00\x00\x01\x64\x00\x1F\xFF",
+    b"v1\x27\x01\x00\x00\x00\x00\x00\x00\x01\x01",
+    b"v1\x17\x00\x00\x00\x00\x01\x64\x00\x1F\xFC",
+    b"v1\x27\x01\x00\x00\x00\x00\x00\x00\x01\x01",
+    b"v1\x27\x01\x00\x00\x00\x01\x01",
+    b"c0\x02\x00\x0CdeleteStream\x00\x40\x1C\x00\x00\x00\x00\x00\x00\x05\x00\x3F\xF0\x00\x00\x00\x00\x00\x00",
+    b"c0\x02\x00\x0CcreateStream\x00\x40\x10\x00\x00\x00\x00\x00\x00\x05",
+    b"c1\x02\x00\x07publish\x00\x40\x14\x00\x00\x00\x00\x00\x00\x05\x02\x00\x03cam",
+    b"B",
+    b"v1\x27\x01\x00\x00\x00\x01\x01",
+];
+
+/// A publish and a play of a name for which an open table has no slot.
+const NO_SLOT: [&[u8]; 4] = [
+    b"c1\x02\x00\x07publish\x00\x40\x14\x00\x00\x00\x00\x00\x00\x05\x02\x00\x03cam",
+    b"N",
+    b"c1\x02\x00\x04play\x00\x40\x10\x00\x00\x00\x00\x00\x00\x05\x02\x00\x03cam",
+    b"N",
+];
+
 /// The type of the message that a letter stands for.
 fn kind_of(letter: u8) -> u8 {
     match letter {
@@ -126,8 +150,14 @@ fn add_acts(alloc: Global, acts: &Acts, out: &mut String) -> Result<(), Fail> {
     add_messages(alloc, &acts.says, out)?;
     let text = match &acts.makes {
         None => return Ok(()),
-        Some(Act::Begin(place)) => format!(in alloc; " begin {place}")?,
-        Some(Act::Join(place)) => format!(in alloc; " join {place}")?,
+        Some(Act::Begin { place, name }) => {
+            let name = str::from_utf8(name.as_slice())?;
+            format!(in alloc; " begin {place} {name}")?
+        }
+        Some(Act::Join { place, name }) => {
+            let name = str::from_utf8(name.as_slice())?;
+            format!(in alloc; " join {place} {name}")?
+        }
         Some(Act::Push(unit)) => {
             let kind = unit.kind;
             let len = unit.body.len();
@@ -197,6 +227,7 @@ fn take_step(
         [b'U'] => hear_reply(alloc, dialog, &Reply::InUse { by: 9 }, out),
         [b'J'] => hear_reply(alloc, dialog, &Reply::Joined { player: 7, from: 2 }, out),
         [b'F'] => hear_reply(alloc, dialog, &Reply::Full, out),
+        [b'N'] => hear_reply(alloc, dialog, &Reply::NoSlot { slots: 1 }, out),
         [letter, digit, text @ ..] => {
             let mut body = Bytes::new(alloc);
             body.append(text)?;
@@ -228,13 +259,13 @@ fn encoders_publish(rt: HostRuntime) -> Result<(), Fail> {
     let mut dialog = Dialog::new(alloc, 2_500_000);
     let out = told(alloc, &mut dialog, &FFMPEG_PUBLISHES)?;
     let want =
-        " 5.0.4 6.0.5 1.0.4 20.0.190;;;; 20.0.29; begin 3; 20.1.100; Meta 21; VConfig 6; Key 5; Audio 2;; end;";
+        " 5.0.4 6.0.5 1.0.4 20.0.190;;;; 20.0.29; begin 3 cam; 20.1.100; Meta 21; VConfig 6; Key 5; Audio 2;; end;";
     assert_eq!(rt; out.as_str(), want);
     assert_eq!(rt; dialog.held(), 4);
     let mut dialog = Dialog::new(alloc, 2_500_000);
     let out = told(alloc, &mut dialog, &GSTREAMER_PUBLISHES)?;
     let want =
-        " 5.0.4 6.0.5 1.0.4 20.0.190;; 20.0.29; begin 3; 20.1.100; Meta 21; Meta 21;; Meta 21;";
+        " 5.0.4 6.0.5 1.0.4 20.0.190;; 20.0.29; begin 3 cam; 20.1.100; Meta 21; Meta 21;; Meta 21;";
     assert_eq!(rt; out.as_str(), want);
     Ok(())
 }
@@ -244,7 +275,7 @@ fn players_play(rt: HostRuntime) -> Result<(), Fail> {
     let alloc = rt.alloc();
     let mut dialog = Dialog::new(alloc, 2_500_000);
     let out = told(alloc, &mut dialog, &FFMPEG_PLAYS)?;
-    let want = " 5.0.4 6.0.5 1.0.4 20.0.190; 20.0.29;; join 3; 4.0.6 20.1.94;;;;;; leave 7;";
+    let want = " 5.0.4 6.0.5 1.0.4 20.0.190; 20.0.29;; join 3 cam; 4.0.6 20.1.94;;;;;; leave 7;";
     assert_eq!(rt; out.as_str(), want);
     let mut out = String::new(alloc);
     add_messages(alloc, &begin_messages(alloc, 1)?, &mut out)?;
@@ -275,9 +306,31 @@ fn the_first_cause_is_told(rt: HostRuntime) -> Result<(), Fail> {
     let mut dialog = Dialog::new(alloc, 2_500_000);
     let out = told(alloc, &mut dialog, &REFUSALS)?;
     let want =
-        ";; 5.0.4 6.0.5 1.0.4 20.0.190;; 20.0.29;; 20.1.103; 20.1.98; begin 3; 20.1.97; join 3; 20.1.99; \
+        ";; 5.0.4 6.0.5 1.0.4 20.0.190;; 20.0.29;; 20.1.103; 20.1.98; begin 3 cam; 20.1.97; join 3 cam; 20.1.99; \
         refused at 1; refused at 0;";
     assert_eq!(rt; out.as_str(), want);
+    Ok(())
+}
+
+#[test]
+fn a_spare_is_told_by_the_last_configuration_of_its_publish(rt: HostRuntime) -> Result<(), Fail> {
+    let alloc = rt.alloc();
+    let mut dialog = Dialog::new(alloc, 2_500_000);
+    told(alloc, &mut dialog, &FFMPEG_PUBLISHES[..7])?;
+    let out = told(alloc, &mut dialog, &SPARES)?;
+    let want =
+        " Inter 10; VConfig 10; Spare 10; VConfig 10; Inter 10; Spare 7; end; 20.0.29; begin 3 cam; 20.1.100; Inter 7;";
+    assert_eq!(rt; out.as_str(), want);
+    Ok(())
+}
+
+#[test]
+fn a_name_without_a_slot_is_refused(rt: HostRuntime) -> Result<(), Fail> {
+    let alloc = rt.alloc();
+    let mut dialog = Dialog::new(alloc, 2_500_000);
+    told(alloc, &mut dialog, &FFMPEG_PUBLISHES[..5])?;
+    let out = told(alloc, &mut dialog, &NO_SLOT)?;
+    assert_eq!(rt; out.as_str(), " begin 3 cam; 20.1.95; join 3 cam; 20.1.99;");
     Ok(())
 }
 

@@ -1,90 +1,156 @@
 use av_unit::*;
+use std::alloc::Global;
 use std::test::Fail;
 
 fn some(kind: Kind, from: usize) -> Option<Class> {
     Some(Class { kind, from })
 }
 
-// The AVC bodies and the metadata are the first bytes of those that ffmpeg 5.1.9 publishes; `12 10`
-// is the AudioSpecificConfig of AAC LC at 44,100 Hz in stereo, and `2f ff fb` begins MP3.
-#[test]
-fn a_message_has_the_class_of_the_first_row_that_fits(rt: HostRuntime) {
-    let table: [(u8, &[u8], Option<Class>); 40] = [
-        // Empty bodies.
-        (8, b"", None),
-        (9, b"", None),
-        (18, b"", None),
-        // Audio.
-        (8, b"\xaf\x00\x12\x10", some(Kind::AConfig, 0)),
-        (8, b"\xa0\x00", some(Kind::AConfig, 0)),
-        (8, b"\xaf\x01\x21\x1b\x8f", some(Kind::Audio, 0)),
-        (8, b"\xaf", some(Kind::Audio, 0)),
-        (8, b"\x2f\xff\xfb\x90", some(Kind::Audio, 0)),
-        (8, b"\x2f\x00", some(Kind::Audio, 0)),
-        // Video of a frame type that isn't a picture's.
-        (9, b"\x07\x01", None),
-        (9, b"\x57\x01", None),
-        (9, b"\x52\x00", None),
-        (9, b"\xf2\x00", None),
-        // AVC.
-        (9, b"\x17", None),
-        (
-            9,
-            b"\x17\x00\x00\x00\x00\x01\x4d\x40\x0d\xff\xe1",
-            some(Kind::VConfig, 0),
-        ),
-        (9, b"\x27\x00", some(Kind::VConfig, 0)),
-        (
-            9,
-            b"\x17\x01\x00\x00\x50\x00\x00\x02\xba\x06",
-            some(Kind::Key, 0),
-        ),
-        (9, b"\x47\x01", some(Kind::Key, 0)),
-        (
-            9,
-            b"\x27\x01\x00\x00\xc8\x00\x00\x05\x09\x41",
-            some(Kind::Inter, 0),
-        ),
-        (9, b"\x37\x01", some(Kind::Inter, 0)),
-        (9, b"\x17\x02\x00\x00\x00", None),
-        (9, b"\x27\x03", None),
-        // Other codecs.
-        (9, b"\x12", some(Kind::Key, 0)),
-        (9, b"\x14\x00", some(Kind::Key, 0)),
-        (9, b"\x42\x02", some(Kind::Key, 0)),
-        (9, b"\x22\x00", some(Kind::Inter, 0)),
-        (9, b"\x32\x02", some(Kind::Inter, 0)),
-        // Data.
-        (
-            18,
-            b"\x02\x00\x0d@setDataFrame\x02\x00\x0aonMetaData\x08\x00\x00",
-            some(Kind::Meta, 16),
-        ),
-        (
-            18,
-            b"\x02\x00\x0d@setDataFrame\x02\x00\x0bonTextData\x08\x00\x00",
-            some(Kind::Data, 16),
-        ),
-        (18, b"\x02\x00\x0d@setDataFrame", None),
-        (
-            18,
-            b"\x02\x00\x0d@setDataFrame\x02\x00\x0d@setDataFrame",
-            some(Kind::Data, 16),
-        ),
-        (18, b"\x02\x00\x0d@setDataFram", some(Kind::Data, 0)),
-        (18, b"\x02\x00\x0aonMetaData", some(Kind::Meta, 0)),
-        (18, b"\x02\x00\x0aonMetaDat", some(Kind::Data, 0)),
-        (18, b"\x02\x00\x0aonCuePoint\x03", some(Kind::Data, 0)),
-        (18, b"\x02", some(Kind::Data, 0)),
-        // Other types.
-        (1, b"\xaf\x00\x12\x10", None),
-        (15, b"\x02\x00\x0aonMetaData", None),
-        (20, b"\x02\x00\x0d@setDataFrame\x02\x00\x0aonMetaData", None),
-        (22, b"\x17\x01\x00\x00\x50", None),
-    ];
-    for (message, body, want) in table {
-        assert_eq!(rt; class(message, body), want, "type {message}, body {body:?}");
+// A row is a message with `|` behind it: a letter for its type, a digit for how many bytes the lengths of NAL units have, and its
+// body. The AVC bodies and the metadata are the first bytes of those that ffmpeg 5.1.9 publishes; `12 10` is the
+// AudioSpecificConfig of AAC LC at 44,100 Hz in stereo, and `2f ff fb` begins MP3.
+
+/// Nothing, AAC and MP3.
+const SOUND: &[u8] =
+    b"a4|a4\xaf\x00\x12\x10|a4\xa0\x00|a4\xaf\x01\x21\x1b\x8f|a4\xaf|a4\x2f\xff\xfb\x90|a4\x2f\x00|";
+
+/// Nothing, frame types that aren't a picture's, AVC, and other codecs.
+const VIDEO: &[u8] = b"v4|v4\x07\x01|v4\x57\x01|v4\x52\x00|v4\xf2\x00|\
+v4\x17|v4\x17\x00\x00\x00\x00\x01\x4d\x40\x0d\xff\xe1|v4\x27\x00|v4\x17\x01\x00\x00\x50\x00\x00\x02\xba\x06|v4\x47\x01|\
+v4\x27\x01\x00\x00\xc8\x00\x00\x05\x09\x41|v4\x37\x01|v4\x17\x02\x00\x00\x00|v4\x27\x03|\
+v4\x12|v4\x14\x00|v4\x42\x02|v4\x22\x00|v4\x32\x02|";
+
+/// Nothing, data behind `@setDataFrame`, data without it, and messages of other types.
+const DATA: &[u8] = b"d4|\
+d4\x02\x00\x0d@setDataFrame\x02\x00\x0aonMetaData\x08\x00\x00|d4\x02\x00\x0d@setDataFrame\x02\x00\x0bonTextData\x08\x00\x00|\
+d4\x02\x00\x0d@setDataFrame|d4\x02\x00\x0d@setDataFrame\x02\x00\x0d@setDataFrame|d4\x02\x00\x0d@setDataFram|\
+d4\x02\x00\x0aonMetaData|d4\x02\x00\x0aonMetaDat|d4\x02\x00\x0aonCuePoint\x03|d4\x02|\
+s4\xaf\x00\x12\x10|k4\x02\x00\x0aonMetaData|c4\x02\x00\x0d@setDataFrame\x02\x00\x0aonMetaData|x4\x17\x01\x00\x00\x50|";
+
+/// A slice that no other picture refers to, with lengths of 4, 2 and 1 byte, and with sizes of which there are no lengths; two of
+/// them; one behind a delimiter and SEI, then one that others refer to; an empty unit behind one.
+const SLICES: &[u8] =
+    b"v4\x27\x01\x00\x00\x00\x00\x00\x00\x02\x01\xaa|v2\x27\x01\x00\x00\x00\x00\x02\x01\xaa|v1\x27\x01\x00\x00\x00\x02\x01\xaa|\
+v3\x27\x01\x00\x00\x00\x00\x00\x01\x01|v0\x27\x01\x00\x00\x00\x00\x00\x00\x02\x01\xaa|v8\x27\x01\x00\x00\x00\x00\x00\x00\x02\x01\xaa|\
+v4\x27\x01\x00\x00\x00\x00\x00\x00\x01\x01\x00\x00\x00\x01\x05|\
+v4\x27\x01\x00\x00\x00\x00\x00\x00\x02\x09\x10\x00\x00\x00\x02\x06\x80\x00\x00\x00\x02\x01\xaa\x00\x00\x00\x01\x41|\
+v4\x27\x01\x00\x00\x00\x00\x00\x00\x01\x01\x00\x00\x00\x00|";
+
+/// NAL units of types 2, 3, 4 and 5 and with the forbidden bit; those that are referred to, by bit 5, bit 6 and both; no slices,
+/// of types 0, 6, 7, 9 and 20. What a publisher calls disposable, which isn't believed; a keyframe; another codec's picture.
+const OTHERS: &[u8] = b"v1\x27\x01\x00\x00\x00\x01\x02\x01\x03\x01\x04\x01\x05\x01\x81|\
+v1\x27\x01\x00\x00\x00\x01\x21\x01\x01|v1\x27\x01\x00\x00\x00\x01\x41\x01\x01|v1\x27\x01\x00\x00\x00\x01\x65\x01\x01|\
+v1\x27\x01\x00\x00\x00\x01\x00\x01\x06\x01\x67\x01\x09\x01\x14|\
+v4\x37\x01\x00\x00\x00\x00\x00\x00\x01\x41|v4\x37\x01\x00\x00\x00\x00\x00\x00\x01\x01|\
+v4\x17\x01\x00\x00\x00\x00\x00\x00\x01\x01|v4\x22\x01\x00\x00\x00\x00\x00\x00\x01\x01|";
+
+/// Sequence headers, of which `l` asks how many bytes lengths have.
+const HEADERS: &[u8] =
+    b"l4\x17\x00\x00\x00\x00\x01\x64\x00\x1f\xff\xe1|l4\x17\x00\x00\x00\x00\x01\x64\x00\x1f\x03|\
+l4\x17\x00\x00\x00\x00\x01\x64\x00\x1f\xfe|l4\x17\x00\x00\x00\x00\x01\x64\x00\x1f\xfd|l4\x17\x00\x00\x00\x00\x01\x64\x00\x1f\xfc|\
+l4\x17\x00\x00\x00\x00\x02\x64\x00\x1f\xff|l4\x17\x00\x00\x00\x00\x01\x64\x00\x1f|l4|";
+
+fn message_of(letter: u8) -> u8 {
+    match letter {
+        b'a' => 8,
+        b'v' => 9,
+        b'd' => 18,
+        b's' => 1,
+        b'k' => 15,
+        b'c' => 20,
+        _ => 22,
     }
+}
+
+// A class as a letter, a small one where the unit begins behind `@setDataFrame`.
+fn letter(class: Option<Class>) -> u8 {
+    let Some(Class { kind, from }) = class else {
+        return b'-';
+    };
+    let letter = match kind {
+        Kind::AConfig => b'C',
+        Kind::Audio => b'A',
+        Kind::VConfig => b'V',
+        Kind::Key => b'K',
+        Kind::Inter => b'I',
+        Kind::Spare => b'S',
+        Kind::Meta => b'M',
+        Kind::Data => b'D',
+    };
+    match from {
+        0 => letter,
+        16 => letter.to_ascii_lowercase(),
+        _ => b'?',
+    }
+}
+
+// What is told of a row, in one byte.
+fn told(row: &[u8]) -> u8 {
+    match row {
+        [b'l', _, body @ ..] => b'0'.wrapping_add(length_size(body)),
+        [of, size, body @ ..] => letter(class(message_of(*of), body, size.wrapping_sub(b'0'))),
+        _ => b'?',
+    }
+}
+
+// What is told of each row; with `begins` of each beginning of its body, the empty one first, in a line for each row.
+fn told_rows(alloc: Global, rows: &[u8], begins: bool) -> Result<Bytes, OutOfMemory> {
+    let mut text = Bytes::new(alloc);
+    let mut row = Bytes::new(alloc);
+    for byte in rows {
+        if *byte == b'|' {
+            let last = if begins { b'\n' } else { told(row.as_slice()) };
+            text.append(&[last])?;
+            row = Bytes::new(alloc);
+        } else {
+            row.append(&[*byte])?;
+            if begins && row.len() > 1 {
+                text.append(&[told(row.as_slice())])?;
+            }
+        }
+    }
+    Ok(text)
+}
+
+#[test]
+fn a_message_has_the_class_of_the_first_row_that_fits(rt: HostRuntime) -> Result<(), Fail> {
+    let alloc = rt.alloc();
+    assert_eq!(rt;
+        told_rows(alloc, SOUND, false)?.as_slice(),
+        b"-CCAAAA".as_slice()
+    );
+    let video = told_rows(alloc, VIDEO, false)?;
+    assert_eq!(rt; video.as_slice(), b"------VVKKII--KKKII".as_slice());
+    assert_eq!(rt;
+        told_rows(alloc, DATA, false)?.as_slice(),
+        b"-md-dDMDDD----".as_slice()
+    );
+    Ok(())
+}
+
+#[test]
+fn a_picture_that_no_other_needs_is_told_apart(rt: HostRuntime) -> Result<(), Fail> {
+    let alloc = rt.alloc();
+    let slices = b"--IIIIIIIIIS\n--IIIIIIIS\n--IIIIIIS\n--IIIIIIII\n--IIIIIIIIII\n--IIIIIIIIII\n\
+--IIIIIIIISIIIIS\n--IIIIIIIIIIIIIIIIIIIIISIIIII\n--IIIIIIIISIIII\n";
+    assert_eq!(rt;
+        told_rows(alloc, SLICES, true)?.as_slice(),
+        slices.as_slice()
+    );
+    let others = b"--IIIIISISISISIS\n--IIIIIIII\n--IIIIIIII\n--IIIIIIII\n--IIIIIIIIIIIIII\n\
+--IIIIIIIII\n--IIIIIIIIS\n--KKKKKKKKK\n-IIIIIIIIII\n";
+    assert_eq!(rt;
+        told_rows(alloc, OTHERS, true)?.as_slice(),
+        others.as_slice()
+    );
+    Ok(())
+}
+
+#[test]
+fn a_configuration_tells_the_size_of_lengths(rt: HostRuntime) -> Result<(), Fail> {
+    let told = told_rows(rt.alloc(), HEADERS, false)?;
+    assert_eq!(rt; told.as_slice(), b"44021000".as_slice());
+    Ok(())
 }
 
 #[test]
@@ -128,7 +194,7 @@ fn a_configuration_has_at_most_65_536_bytes(rt: HostRuntime) -> Result<(), Fail>
         body.append(begin)?;
         body.append(vec![in alloc; 0; more]?.as_slice())?;
         assert_eq!(rt;
-            class(message, body.as_slice()),
+            class(message, body.as_slice(), 4),
             want,
             "type {message}, {more} more"
         );
@@ -155,7 +221,7 @@ fn a_unit_is_what_follows_set_data_frame(rt: HostRuntime) -> Result<(), Fail> {
     for (message, body, want) in table {
         let mut given = Bytes::new(alloc);
         given.append(body)?;
-        let Some(unit) = unit_of(message, 4_294_967_295, given) else {
+        let Some(unit) = unit_of(message, 4_294_967_295, given, 4) else {
             assert!(rt; want.is_none());
             continue;
         };

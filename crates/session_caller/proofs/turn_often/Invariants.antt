@@ -1,4 +1,5 @@
-use Rattle.std.proofs.Common.{◌≡◌, ◌≤◌, length}
+use Rattle.std.proofs.Common.{◌≡◌, ◌≤◌}
+use Rattle.stream_registry.specs.Names.{places}
 use Rattle.relay_session.specs.Places.{Asked, IsAt}
 use Rattle.relay_session.specs.SessionState.{StandsFor}
 use Rattle.session_caller.specs.Often.{Goes}
@@ -6,7 +7,7 @@ use Rattle.session_caller.proofs.turn_often.Given as goal
 
 abbrev pub invariant-loop : goal.invariant-loop
 invariant-loop g l = record {
-  at : IsAt (g.P.StreamPort.fits l.port) (length (g.P.StreamPort.rules l.port).names) l.session.parts l.session.seat;
+  at : IsAt (g.P.StreamPort.fits l.port) (places (g.P.StreamPort.rules l.port)) l.session.parts l.session.seat;
   fixed : g.P.StreamPort.rules l.port ≡ g.P.StreamPort.rules l.initial.port;
   stands : StandsFor (g.D.Desk.grants l.fn.desk) l.initial.session → StandsFor (g.D.Desk.grants l.fn.desk) l.session;
   few : l.moved ≤ l.counter;

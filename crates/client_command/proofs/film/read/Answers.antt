@@ -1,6 +1,6 @@
 use Rattle.std.proofs.Common.{List, rules, subst, ℕ}
 use Rattle.flv_tags.specs.Feeds.{IsRefused}
-use Rattle.client_command.proofs.Filming.{feed_stops, goes_on, read_on}
+use Rattle.client_command.proofs.Filming.{feed_stops}
 use Rattle.client_command.proofs.film.read.Goals as goal
 
 pub returns-in_err-used-clause-err : goal.returns-in_err-used-clause-err

@@ -1,4 +1,3 @@
-use Rattle.client_command.specs.Pulls.{pull_seen}
 use Rattle.client_command.proofs.Pulled.{turn_goes, turn_stops}
 use Rattle.client_command.proofs.pulling.step.Goals as goal
 

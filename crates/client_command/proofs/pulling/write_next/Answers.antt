@@ -1,4 +1,4 @@
-use Rattle.std.proofs.Common.{◌≡◌, ◌∙◌, Bool, None, Ok, Option, Some, ap, rules, subst, sym, true}
+use Rattle.std.proofs.Common.{◌∙◌, Bool, Ok, ap, rules, subst, sym, true}
 use Rattle.client_command.specs.Pulls.{pull_seen}
 use Rattle.client_command.specs.Telling.{PullSteps, step_by}
 use Rattle.client_command.specs.declared.stop.Step.{Step}

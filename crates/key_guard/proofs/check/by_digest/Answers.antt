@@ -4,4 +4,4 @@ use Rattle.key_guard.proofs.Found.{allowed_is}
 use Rattle.key_guard.proofs.check.by_digest.Goals as goal
 
 pub returns-clause-allowed : goal.returns-clause-allowed
-returns-clause-allowed c = allowed_is _ Digest _ _ (search rules)
+returns-clause-allowed c = allowed_is _ Digest _ c.args.name.now _ (search rules)

@@ -2,4 +2,4 @@ use Rattle.media_recorder.proofs.Viewing.{viewed}
 use Rattle.media_recorder.proofs.laws.viewer_law.Goals as goal
 
 pub returns : goal.returns
-returns c = λ limits place who from entry newer before. viewed limits place who from entry newer before
+returns c = λ shape place who from entry newer before. viewed shape place who from entry newer before

@@ -7,6 +7,7 @@ use Rattle.stream_registry.specs.Gates.{told_at}
 use Rattle.stream_registry.specs.Roots.{seen_at}
 use Rattle.stream_registry.specs.SharedState.{shared_rules}
 use Rattle.relay_serve.specs.Ends.{Reports, seen}
+use Rattle.relay_serve.specs.Places.{places_in}
 use Rattle.relay_serve.specs.Lasts.{AllEnd, IsWorn}
 use Rattle.relay_serve.specs.Recorded.{IsRecorded}
 use Rattle.relay_serve.specs.Recordings.{recordings_upto}
@@ -46,7 +47,7 @@ returns-in-Ok-put_all g c = λ before_asked all before_named names.
     let full = Contains c.end_all-whole.new.full.items in
     let kept = subst (λ (q : PortRules). TellsMore (IsRecorded q.limits joined h full config.places) (recordings_upto config c.in-Ok.left.list.len) before.kept now.kept) same
     (c.end_all-whole.ensures.kept c.if-whole.true) in
-    let each : length c.in-Ok-count_all.counts.items ≡ length config.places = search rules in
+    let each : length c.in-Ok-count_all.counts.items ≡ places_in config = search rules in
     let slice : c.as_slice.result.now ≡ c.end_all-whole.new.full.items = search rules in
     let reports : Reports config attempts (seen (g.K.Sink.holds c.args.out.now) (g.K.Sink.faults c.args.out.now) before before_asked before_named)
     (seen (g.K.Sink.holds c.put_all.new.out) (g.K.Sink.faults c.put_all.new.out) now (g.H.House.asked c.end_all-whole.new.house) (g.H.House.named c.end_all-whole.new.house)) = record {
@@ -54,7 +55,7 @@ returns-in-Ok-put_all g c = λ before_asked all before_named names.
       each = each;
       written = search rules;
       streams = streams;
-      limited = c.requires.limits;
+      shaped = c.requires.shaped;
       last = subst (λ (q : PortRules). AllEnd q.limits c.in-Ok-count_all.counts.items attempts) (c.end_all-whole.ensures.rules ∙ same) c.in-Ok-count_all.ensures.last;
       asked = subst (λ (o : Option (List Asked)). TellsMore (AsksFor config) (range_with_len 0 config.workers) before_asked o) (sym c.end_all-whole.ensures.asked) all;
       joined = joined;

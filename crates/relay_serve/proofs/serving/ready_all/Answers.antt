@@ -26,7 +26,7 @@ loop-worker-preserved g c =
             number_is = ap (λ (t : Terms). t.number) k.terms ∙ o.number_is;
             limited = ap (λ (t : Terms). t.limits) k.terms ∙ o.limited;
             links_are = ap (λ (t : Terms). t.links) k.terms ∙ o.links_are;
-            books = e.books (granted_from 0 c.args.config.now.places) o.books;
+            books = e.books (granted_from 0 c.args.config.now.places c.args.config.now.opens) o.books;
             labels = k.labels ∙ o.labels;
             tallies = e.tallies o.tallies;
           });

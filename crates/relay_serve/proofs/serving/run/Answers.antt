@@ -6,6 +6,7 @@ use Rattle.relay_serve.specs.Ends.{RunsAs, seen}
 use Rattle.relay_serve.specs.Recordings.{names_upto, with_names}
 use Rattle.relay_serve.specs.Settling.{AsksFor, TellsMore}
 use Rattle.relay_serve.proofs.Ends.{runs_unopened}
+use Rattle.relay_serve.proofs.Opened.{few_places}
 use Rattle.relay_serve.proofs.serving.run.Goals as goal
 
 pub returns-in-Ok : goal.returns-in-Ok
@@ -25,3 +26,9 @@ returns-in-Err g c =
     let r = runs_unopened c.args.config.now (λ q. []) (g.K.Sink.holds c.args.out.now) (g.K.Sink.faults c.args.out.now) (g.H.House.told c.args.house.now)
     (g.H.House.told c.make_ready.new.house) (g.H.House.asked c.args.house.now) (g.H.House.asked c.make_ready.new.house) (g.H.House.named c.args.house.now) (g.H.House.named c.make_ready.new.house) c.in-Err.fail c.in-Err.ensures.house in
     (λ q. [], search (rules, r))
+
+pub run_workers-workers-requires-clause-total : goal.run_workers-workers-requires-clause-total
+run_workers-workers-requires-clause-total g c κs within = few_places c.args.config.now c.requires.lawful
+
+pub conclude-requires-clause-total : goal.conclude-requires-clause-total
+conclude-requires-clause-total g c κs within = few_places c.args.config.now c.requires.lawful

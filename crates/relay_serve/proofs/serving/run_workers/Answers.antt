@@ -8,13 +8,13 @@ use Rattle.relay_serve.specs.Settling.{IsServing}
 use Rattle.stream_registry.specs.Gates.{told, told_at}
 use denote.Exit.{yes}
 use denote.Param.Send.{arg_send, param_send}
-use Rattle.stream_registry.specs.Names.{PortRules}
+use Rattle.stream_registry.specs.Names.{PortRules, places}
 use Rattle.stream_registry.specs.SharedState.{shared_rules}
 use Rattle.relay_worker.specs.Running.{EachAt, HasRun}
 use Rattle.relay_serve.specs.Starts.{HasRules}
 use Rattle.relay_session.specs.Grants.{granted_from}
 use Rattle.relay_session.specs.Places.{IsGrantThere}
-use Rattle.relay_serve.proofs.Crossing.{pass_send, port_send}
+use Rattle.stream_registry.proofs.Crossing.{pass_send, port_send}
 use Rattle.relay_serve.proofs.Offering.{offered_from}
 use Rattle.relay_serve.proofs.Ruled.{kept_all}
 use Rattle.relay_serve.proofs.serving.run_workers.Goals as goal
@@ -31,8 +31,10 @@ run_all-requires-clause-offered g c κs within =
     let old = subst (All (λ x. HasRules (shared_rules c.args.port.now) x.bench.port)) (sym same) c.requires.rules in
     λ i x l e a.
     let r = subst (λ y. HasRules (shared_rules c.args.port.now) y.bench.port) (sym e) (old i x l) in
-    subst (λ (q : PortRules). IsGrantThere (length q.names) (granted_from 0 c.new-desk.result.list.now a)) (sym r)
-    (offered_from 0 (length (shared_rules c.args.port.now).names) c.new-desk.result.list.now a (omega (arith, ap length c.new-desk.ensures, c.requires.places)))
+    let q = c.requires.places in
+    subst (λ (q : PortRules). IsGrantThere (places q) (granted_from 0 c.new-desk.result.list.now c.new-desk.result.opens.now a)) (sym r)
+    (offered_from 0 (places (shared_rules c.args.port.now)) c.new-desk.result.list.now c.new-desk.result.opens.now a
+    (omega (arith, ap length c.new-desk.ensures.0, ap length c.new-desk.ensures.1, q.streams, q.opens)))
 
 pub returns-clause-run : goal.returns-clause-run
 returns-clause-run g c =
@@ -56,7 +58,8 @@ returns-clause-serving g c =
     let long : length xs ≡ c.args.workers.len = search rules in
     let same : c.as_mut_slice.result.now ≡ c.args.workers.items = search rules in
     let P = IsServing c.args.config.now g.D.Link.Link.told g.D.Link.Link.counts g.D.Door.told g.K.Sink.holds g.K.Sink.faults in
-    let desk : granted_from 0 c.new-desk.result.list.now ≡ granted_from 0 c.args.config.now.places = ap (granted_from 0) c.new-desk.ensures in
+    let desk : granted_from 0 c.new-desk.result.list.now c.new-desk.result.opens.now ≡ granted_from 0 c.args.config.now.places c.args.config.now.opens =
+    ap (λ l. granted_from 0 l c.new-desk.result.opens.now) c.new-desk.ensures.0 ∙ ap (granted_from 0 c.args.config.now.places) c.new-desk.ensures.1 in
     let old = subst (EachAt P) (sym same) c.requires.serving in
     let kept : EachAt P xs = λ i d l.
     let m : i < length c.as_mut_slice.result.now = omega (arith, long, ap length same, c.args.workers.ok.0, l) in

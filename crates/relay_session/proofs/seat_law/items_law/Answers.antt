@@ -1,4 +1,4 @@
-use Rattle.relay_session.proofs.SeatOwn.{brings_so}
+use Rattle.relay_session.proofs.OwnCalls.{brings_so}
 use Rattle.relay_session.proofs.seat_law.items_law.Goals as goal
 
 pub returns : goal.returns

@@ -1,4 +1,5 @@
-use Rattle.std.proofs.Common.{◌∙◌, ap, refl, subst, Bool, length}
+use Rattle.std.proofs.Common.{◌∙◌, ap, refl, subst, Bool}
+use Rattle.stream_registry.specs.Names.{places}
 use Rattle.relay_session.specs.Feeding.{Hears}
 use Rattle.relay_session.specs.Places.{Asked}
 use Rattle.relay_session.specs.Turns.{Taken, is_nil, life}
@@ -12,7 +13,7 @@ make_on-requires-clause-at g c =
     let P = g.P.StreamPort in
     let b = c.args.body.now in
     let e = c.in-Ok-true.ensures in
-    at_heard (P.fits c.args.port.now) (length (P.rules c.args.port.now).names) (g.D.Desk.grants c.args.desk.now) b.core c.feed.new.core b.seat c.in-Ok-true.field-0 c.requires.at c.requires.offered c.in-Ok-true.field-0-test e.heard e.fed.fixed
+    at_heard (P.fits c.args.port.now) (places (P.rules c.args.port.now)) (g.D.Desk.grants c.args.desk.now) b.core c.feed.new.core b.seat c.in-Ok-true.field-0 c.requires.at c.requires.offered c.in-Ok-true.field-0-test e.heard e.fed.fixed
 
 pub returns-in-Ok-true-clause-turn : goal.returns-in-Ok-true-clause-turn
 returns-in-Ok-true-clause-turn g c =

@@ -4,8 +4,11 @@ use Rattle.relay_session.specs.Places.{Asked}
 use Rattle.relay_session.specs.Turns.{life}
 use Rattle.relay_session.specs.declared.end.End.TheVariants as end
 use Rattle.relay_session.specs.declared.turn.Turn.TheVariants.{Ended}
-use Rattle.relay_session.proofs.Rounds.{first_pending, sent_some, sent_within, some_pending}
+use Rattle.relay_session.proofs.Rounds.{first_pending, sent_some, sent_something, sent_within, some_pending}
 use Rattle.relay_session.proofs.six_steps.send_on.Goals as goal
+
+pub send-requires : goal.send-requires
+send-requires g c = sent_something c.fill.new.core.outgoing.ready c.first.result.now (search rules) (search rules)
 
 pub note_sent-requires-clause-within : goal.note_sent-requires-clause-within
 note_sent-requires-clause-within g c = sent_within c.fill.new.core.outgoing.ready c.first.result.now 16384 c.in-Took.count (search rules) c.in-Took.ensures.count.1

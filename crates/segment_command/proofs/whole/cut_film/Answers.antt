@@ -1,6 +1,4 @@
 use Rattle.std.proofs.Common.{rules}
-use Rattle.std.specs.Option.{option_map}
-use Rattle.segment_command.specs.Shelves.{FileSeen, file_seen}
 use Rattle.segment_command.specs.Parts.{list_of}
 use Rattle.segment_command.proofs.Reading.{last_fails, read_fails}
 use Rattle.segment_command.proofs.whole.cut_film.Goals as goal

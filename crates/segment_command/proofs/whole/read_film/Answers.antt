@@ -1,6 +1,5 @@
 use Rattle.std.specs.Option.{option_map}
 use Rattle.segment_command.specs.Shelves.{FileSeen, file_seen}
-use Rattle.segment_command.specs.Parts.{IsEndedSo, IsPartRead}
 use Rattle.segment_command.proofs.Reading.{ended_film, nothing_read}
 use Rattle.segment_command.proofs.whole.read_film.Goals as goal
 

@@ -4,7 +4,7 @@ use Rattle.session_caller.proofs.tests.two_ports.Goals as goal
 
 pub returns : goal.returns
 returns c =
-    let a = alike _ _ _ _ c.in_ok-list.ensures in
+    let a = alike _ _ _ _ _ c.in_ok-list.ensures in
     let one = c.in-Some.ensures a.0 a.1 in
     let other = c.in-Some-next_port.ensures a.0 one.0 in
     other.1 ∙ sym one.1

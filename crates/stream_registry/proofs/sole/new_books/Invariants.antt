@@ -1,6 +1,6 @@
-use Rattle.std.proofs.Common.{◌≡◌, [], All, vec_len}
-use Rattle.stream_registry.specs.Books.{BookState}
+use Rattle.std.proofs.Common.{◌≡◌, map, take}
+use Rattle.stream_registry.specs.Books.{new_book}
 use Rattle.stream_registry.proofs.sole.new_books.Given as goal
 
-abbrev pub invariant-loop : goal.invariant-loop
-invariant-loop l = record { empty : All (λ (b : BookState). b ≡ record { limits = l.limits; journal = [] }) l.books.items; count : vec_len l.books ≡ l.counter }
+abbrev pub invariant-loop-shape : goal.invariant-loop-shape
+invariant-loop-shape l = l.books.items ≡ map new_book (take l.shape-index l.shapes)

@@ -13,4 +13,7 @@ gather-requires g c =
 pub loop-other-preserved : goal.loop-other-preserved
 loop-other-preserved g c =
     gathers_more_at c.args.others.items c.loop-other.others.items c.pop.new.self.items c.args.places.now c.loop-other.places c.in-Some.other c.index-places-len.result c.gather.new.self c.len.result
-    c.loop-other.invariant c.requires c.in-Some.ensures.items (search rules) c.gather.ensures.0 c.gather.ensures.1
+    c.loop-other.invariant c.requires c.in-Some.ensures.items (search rules) c.gather.ensures.stays.0 c.gather.ensures.stays.1 c.gather.ensures.kin
+
+pub returns-clause-kin : goal.returns-clause-kin
+returns-clause-kin g c = record { at_each = λ q. c.loop-other.invariant.taken q (search rules) }

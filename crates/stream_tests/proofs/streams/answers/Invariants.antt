@@ -1,6 +1,6 @@
 use Rattle.std.proofs.Common.{◌≤◌, length}
-use Rattle.stream_model.specs.History.{items_of}
+use Rattle.stream_core.specs.Table.{known}
 use Rattle.stream_tests.proofs.streams.answers.Given as goal
 
 abbrev pub invariant-loop-step : goal.invariant-loop-step
-invariant-loop-step g l = length (items_of l.stream.past) ≤ l.step-index
+invariant-loop-step l = length (known l.table).past ≤ l.made

@@ -1,9 +1,9 @@
 use Rattle.std.proofs.Common.{length, ap}
-use Rattle.stream_registry.specs.Names.{PortRules}
+use Rattle.stream_registry.specs.Names.{PortRules, places}
 use Rattle.http_flv.proofs.Standing.{others_at}
 use Rattle.http_flv.proofs.player.HttpPlayer.others_law.Goals as goal
 
 pub returns : goal.returns
 returns g c =
     let P = g.P.StreamPort in
-    λ x y s same more a. others_at (P.fits x) (P.fits y) (length (P.rules x).names) (length (P.rules y).names) s.parts s.seat (ap (λ (r : PortRules). length r.names) same) more a
+    λ x y s same more a. others_at (P.fits x) (P.fits y) (places (P.rules x)) (places (P.rules y)) s.parts s.seat (ap (λ (r : PortRules). places r) same) more a

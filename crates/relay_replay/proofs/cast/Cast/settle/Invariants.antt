@@ -7,8 +7,8 @@ use Rattle.relay_replay.proofs.cast.Cast.settle.Given as goal
 
 abbrev pub invariant-loop : goal.invariant-loop
 invariant-loop g l = record {
-  sits : Sits (length l.desk.list.now) (length l.fn.self.recorders) l.self;
+  sits : Sits l.desk.list.now l.desk.opens.now (length l.fn.self.recorders) l.self;
   count : length l.self.sessions ≡ length l.fn.self.sessions;
   files : length l.self.recorders ≡ length l.fn.self.recorders;
-  moves : Times l.counter (AnsweredTurn (granted_from 0 l.desk.list.now) l.n (Some Moved)) l.fn.self l.self;
+  moves : Times l.counter (AnsweredTurn (granted_from 0 l.desk.list.now l.desk.opens.now) l.n (Some Moved)) l.fn.self l.self;
 }

@@ -6,8 +6,8 @@ use Rattle.relay_replay.proofs.cast.Cast.turns.Given as goal
 
 abbrev pub invariant-loop : goal.invariant-loop
 invariant-loop g l = record {
-  sits : Sits (length l.desk.list.now) (length l.fn.self.recorders) l.self;
+  sits : Sits l.desk.list.now l.desk.opens.now (length l.fn.self.recorders) l.self;
   count : length l.self.sessions ≡ length l.fn.self.sessions;
   files : length l.self.recorders ≡ length l.fn.self.recorders;
-  turns : Times l.counter (TurnOf (granted_from 0 l.desk.list.now) l.n) l.fn.self l.self;
+  turns : Times l.counter (TurnOf (granted_from 0 l.desk.list.now l.desk.opens.now) l.n) l.fn.self l.self;
 }

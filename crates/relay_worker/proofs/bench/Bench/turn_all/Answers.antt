@@ -1,5 +1,5 @@
-use Rattle.std.proofs.Common.{ap, arith, length, refl}
-use Rattle.stream_registry.specs.Names.{PortRules}
+use Rattle.std.proofs.Common.{ap, arith, refl}
+use Rattle.stream_registry.specs.Names.{places}
 use Rattle.relay_worker.proofs.Slabs.{past_end}
 use Rattle.relay_worker.proofs.Sounding.{ahead_refl, ahead_trans, offered_on, walks_more}
 use Rattle.relay_worker.proofs.bench.Bench.turn_all.Goals as goal
@@ -14,7 +14,7 @@ loop-key-preserved g c =
     record {
       sound = e.sound;
       ahead = ahead_trans g.P.StreamPort.fits g.P.StreamPort.rules g.P.StreamPort.root c.args.self.now.port c.loop-key.self.port c.turn_at.new.self.port i.ahead e.ahead;
-      offered = offered_on (g.G.Desk.grants c.args.desk.now) (length (g.P.StreamPort.rules c.loop-key.self.port).names) (length (g.P.StreamPort.rules c.turn_at.new.self.port).names) (ap (λ (r : PortRules). length r.names) e.ahead.fixed) i.offered;
+      offered = offered_on (g.G.Desk.grants c.args.desk.now) (places (g.P.StreamPort.rules c.loop-key.self.port)) (places (g.P.StreamPort.rules c.turn_at.new.self.port)) (ap places e.ahead.fixed) i.offered;
       walk = walks_more _ c.loop-key.key c.args.self.now c.loop-key.self c.turn_at.new.self i.walk e.turns;
     }
 

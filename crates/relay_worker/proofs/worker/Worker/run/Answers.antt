@@ -1,6 +1,6 @@
-use Rattle.std.proofs.Common.{ap, length, subst, sym}
+use Rattle.std.proofs.Common.{ap, subst, sym}
 use Rattle.std.specs.Prelude.{All}
-use Rattle.stream_registry.specs.Names.{PortRules}
+use Rattle.stream_registry.specs.Names.{places}
 use Rattle.relay_worker.specs.Books.{HasBooks}
 use Rattle.relay_worker.specs.Filed.{Tallies}
 use Rattle.relay_worker.specs.Running.{KeepsOn}
@@ -18,7 +18,7 @@ pub loop-preserved : goal.loop-preserved
 loop-preserved g c =
     let e = c.round-round.ensures.keeps in
     record {
-      offered = offered_on (g.G.Desk.grants c.args.desk.now) (length (g.P.StreamPort.rules c.loop.self.bench.port).names) (length (g.P.StreamPort.rules c.round-round.new.self.bench.port).names) (ap (λ (r : PortRules). length r.names) e.port.fixed) c.loop.invariant.offered;
+      offered = offered_on (g.G.Desk.grants c.args.desk.now) (places (g.P.StreamPort.rules c.loop.self.bench.port)) (places (g.P.StreamPort.rules c.round-round.new.self.bench.port)) (ap places e.port.fixed) c.loop.invariant.offered;
       keeps = keeps_trans g.P.StreamPort.fits g.P.StreamPort.rules g.P.StreamPort.root c.args.self.now c.loop.self c.round-round.new.self c.loop.invariant.keeps e;
       tallies = λ t. c.round-round.ensures.tallies (c.loop.invariant.tallies t);
       books = λ b. c.round-round.ensures.books (c.loop.invariant.books b);
@@ -28,8 +28,8 @@ pub loop-preserved-then-not-round : goal.loop-preserved-then-not-round
 loop-preserved-then-not-round g c =
     let e = c.round-round.ensures.keeps in
     record {
-      offered = offered_on (g.G.Desk.grants c.args.desk.now) (length (g.P.StreamPort.rules c.round-round.new.self.bench.port).names) (length (g.P.StreamPort.rules c.pause.new.self.bench.port).names) (ap (λ w. length (g.P.StreamPort.rules w.bench.port).names) c.pause.ensures)
-          (offered_on (g.G.Desk.grants c.args.desk.now) (length (g.P.StreamPort.rules c.loop.self.bench.port).names) (length (g.P.StreamPort.rules c.round-round.new.self.bench.port).names) (ap (λ (r : PortRules). length r.names) e.port.fixed) c.loop.invariant.offered);
+      offered = offered_on (g.G.Desk.grants c.args.desk.now) (places (g.P.StreamPort.rules c.round-round.new.self.bench.port)) (places (g.P.StreamPort.rules c.pause.new.self.bench.port)) (ap (λ w. places (g.P.StreamPort.rules w.bench.port)) c.pause.ensures)
+          (offered_on (g.G.Desk.grants c.args.desk.now) (places (g.P.StreamPort.rules c.loop.self.bench.port)) (places (g.P.StreamPort.rules c.round-round.new.self.bench.port)) (ap places e.port.fixed) c.loop.invariant.offered);
       keeps = subst (λ w. KeepsOn g.P.StreamPort.fits g.P.StreamPort.rules g.P.StreamPort.root c.args.self.now w) (sym c.pause.ensures)
           (keeps_trans g.P.StreamPort.fits g.P.StreamPort.rules g.P.StreamPort.root c.args.self.now c.loop.self c.round-round.new.self c.loop.invariant.keeps e);
       tallies = λ t. subst (λ w. All (Tallies g.P.StreamPort.count g.K.Sink.holds g.K.Sink.faults) w.recorders) (sym c.pause.ensures) (c.round-round.ensures.tallies (c.loop.invariant.tallies t));

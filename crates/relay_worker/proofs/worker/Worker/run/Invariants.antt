@@ -1,6 +1,6 @@
 use Rattle.relay_session.specs.Places.{IsOffered}
-use Rattle.std.proofs.Common.{length}
 use Rattle.std.specs.Prelude.{All}
+use Rattle.stream_registry.specs.Names.{places}
 use Rattle.relay_worker.specs.Books.{HasBooks}
 use Rattle.relay_worker.specs.Filed.{Tallies}
 use Rattle.relay_worker.specs.Running.{KeepsOn}
@@ -8,7 +8,7 @@ use Rattle.relay_worker.proofs.worker.Worker.run.Given as goal
 
 abbrev pub invariant-loop : goal.invariant-loop
 invariant-loop g l = record {
-  offered : IsOffered (g.G.Desk.grants l.desk) (length (g.P.StreamPort.rules l.self.bench.port).names);
+  offered : IsOffered (g.G.Desk.grants l.desk) (places (g.P.StreamPort.rules l.self.bench.port));
   keeps : KeepsOn g.P.StreamPort.fits g.P.StreamPort.rules g.P.StreamPort.root l.fn.self l.self;
   tallies : All (Tallies g.P.StreamPort.count g.K.Sink.holds g.K.Sink.faults) l.fn.self.recorders → All (Tallies g.P.StreamPort.count g.K.Sink.holds g.K.Sink.faults) l.self.recorders;
   books : HasBooks g.P.StreamPort.rules g.P.StreamPort.root g.P.StreamPort.seen g.D.Link.Link.told g.D.Link.Link.counts g.D.Door.told (g.G.Desk.grants l.desk) l.fn.self

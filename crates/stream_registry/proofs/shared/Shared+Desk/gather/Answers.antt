@@ -2,7 +2,8 @@ use Rattle.std.proofs.Common.{◌∙◌, List, ap, sym, subst}
 use Rattle.stream_registry.specs.declared.desk.Site.{Site}
 use Rattle.stream_registry.specs.Pasts.{Attempt}
 use Rattle.stream_registry.specs.Names.{PortRules}
-use Rattle.stream_registry.specs.Roots.{Root, Grown, gates}
+use Rattle.stream_registry.specs.Roots.{Root, Grown, gates, kin_at}
+use Rattle.stream_registry.specs.Splits.{TakesAll}
 use Rattle.stream_registry.specs.SharedState.{Streams}
 use Rattle.stream_registry.proofs.Placing.{later_told}
 use Rattle.stream_registry.proofs.shared.Shared+Desk.gather.Goals as goal
@@ -21,3 +22,8 @@ pub returns-clause-later : goal.returns-clause-later
 returns-clause-later c =
     let grown : Grown c.args.other.roots c.gather.new.self = subst (λ (l : List (Root Site Attempt)). Grown l c.gather.new.self) (ap (λ (x : Streams). x.roots) c.other.view_is) c.gather.ensures.later in
     later_told _ _ grown.seen
+
+pub returns-clause-kin : goal.returns-clause-kin
+returns-clause-kin c =
+    subst (λ (x : List (Root Site Attempt) × List (Root Site Attempt)). TakesAll (kin_at x.0) (kin_at x.1) (kin_at c.gather.new.self))
+    (λ i. (ap (λ (x : Streams). x.roots) c.self.view_is i, ap (λ (x : Streams). x.roots) c.other.view_is i)) c.gather.ensures.kin

@@ -1,10 +1,10 @@
-use Rattle.std.proofs.Common.{rules, ◌≡◌, List, Some, Ok, refl, sym, ap, ◌∙◌, subst}
-use Rattle.stream_model.specs.declared.calls.StreamLimits.{StreamLimits}
+use Rattle.std.proofs.Common.{rules, ◌≡◌, Some, Ok, refl, sym, ap, ◌∙◌, subst}
+use Rattle.stream_model.specs.declared.calls.Shape.{Shape}
 use Rattle.turn_gate.specs.Known.{IsWorn, RepliedAfter}
 use Rattle.stream_registry.specs.declared.desk.Site.{Site}
 use Rattle.turn_gate.specs.Known.{GateId}
-use Rattle.stream_registry.specs.Pasts.{Attempt, IsLawfulAt}
-use Rattle.stream_registry.specs.Roots.{Root, gates, seen_at}
+use Rattle.stream_registry.specs.Pasts.{IsLawfulAt}
+use Rattle.stream_registry.specs.Roots.{gates, seen_at}
 use Rattle.stream_registry.specs.SharedState.{Streams}
 use Rattle.stream_registry.specs.Told.{Keeps}
 use Rattle.stream_registry.specs.Gates.{told}
@@ -14,20 +14,20 @@ use Rattle.std.specs.Option.{IsSome}
 use Rattle.stream_registry.proofs.shared.SharedDeskStreamPort.call.Goals as goal
 
 pub returns-in-Ok-Ok-clause-pass : goal.returns-in-Ok-Ok-clause-pass
-returns-in-Ok-Ok-clause-pass c = passes (gates c.args.self.now.roots) (gates c.call.new.self) c.args.place c.args.pass.now c.call.new.pass (ap (λ (l : List (Root Site Attempt)). gates l) c.call.ensures.port ∙ ap (λ (x : Streams). gates x.roots) c.self.view_is) c.requires c.call.ensures.pass
+returns-in-Ok-Ok-clause-pass c = passes (gates c.args.self.now.roots) (gates c.call.new.self) c.args.place c.args.pass.now c.call.new.pass (c.call.ensures.port.gates ∙ ap (λ (x : Streams). gates x.roots) c.self.view_is) c.requires c.call.ensures.pass
 
 pub returns-in-Ok-Ok-clause-reply : goal.returns-in-Ok-Ok-clause-reply
 returns-in-Ok-Ok-clause-reply c =
     let is : c.in-Ok-Ok.field-0 ≡ Ok c.in-Ok-Ok.reply = search rules in
     let a : RepliedAfter (IsLawfulAt c.args.pass.now.gate.about.limits) (seen_at c.args.self.now.roots c.args.place) c.args.pass.now (c.args.entry, c.in-Ok-Ok.field-0) c.call.new.pass = search rules in
-    placed _ _ _ _ _ _ _ is a c.seen.ensures.own
+    placed c.takes_alone.ensures c.takes_alone_at_pools.ensures _ _ _ _ _ _ _ is a c.seen.ensures.own
 
 pub returns-in-Ok-Ok-clause-laws : goal.returns-in-Ok-Ok-clause-laws
 returns-in-Ok-Ok-clause-laws c =
     let about = c.args.pass.now.gate.about.limits in
     let a : RepliedAfter (IsLawfulAt about) (seen_at c.args.self.now.roots c.args.place) c.args.pass.now (c.args.entry, c.in-Ok-Ok.field-0) c.call.new.pass = search rules in
     let law = a.replied.lawful_seen in
-    subst (λ (l : StreamLimits). Keeps l (told c.call.new.pass.seen)) (sym (ap (λ (g : GateId Site). g.about.limits) c.call.ensures.pass.0)) (keeps about c.call.new.pass.seen law (λ player. c.viewers_law.ensures about _ law.0 player))
+    subst (λ (l : Shape). Keeps l (told c.call.new.pass.seen)) (sym (ap (λ (g : GateId Site). g.about.limits) c.call.ensures.pass.0)) (keeps about c.call.new.pass.seen law (λ slot player. c.tables_law.ensures about _ law.0 slot player))
 
 pub returns-in-Ok-Ok-clause-room : goal.returns-in-Ok-Ok-clause-room
 returns-in-Ok-Ok-clause-room c =
@@ -35,7 +35,7 @@ returns-in-Ok-Ok-clause-room c =
     room c.args.pass.now.gate.about.limits _ _ _ _ a
 
 pub returns-in-Ok-Err-clause-pass : goal.returns-in-Ok-Err-clause-pass
-returns-in-Ok-Err-clause-pass c = passes (gates c.args.self.now.roots) (gates c.call.new.self) c.args.place c.args.pass.now c.call.new.pass (ap (λ (l : List (Root Site Attempt)). gates l) c.call.ensures.port ∙ ap (λ (x : Streams). gates x.roots) c.self.view_is) c.requires c.call.ensures.pass
+returns-in-Ok-Err-clause-pass c = passes (gates c.args.self.now.roots) (gates c.call.new.self) c.args.place c.args.pass.now c.call.new.pass (c.call.ensures.port.gates ∙ ap (λ (x : Streams). gates x.roots) c.self.view_is) c.requires c.call.ensures.pass
 
 pub returns-in-Ok-Err-clause-unmade : goal.returns-in-Ok-Err-clause-unmade
 returns-in-Ok-Err-clause-unmade c =
@@ -43,7 +43,7 @@ returns-in-Ok-Err-clause-unmade c =
     kept c.args.self.now.roots c.call.new.self c.args.pass.now c.call.new.pass (search rules) (unmade c.args.pass.now.gate.about.limits _ _ c.in-Ok-Err.field-0-0 _ _ _ c.in-Ok-Err.field-0-is a c.seen.ensures.own)
 
 pub returns-in-Err-Busy-clause-pass : goal.returns-in-Err-Busy-clause-pass
-returns-in-Err-Busy-clause-pass c = passes (gates c.args.self.now.roots) (gates c.call.new.self) c.args.place c.args.pass.now c.call.new.pass (ap (λ (l : List (Root Site Attempt)). gates l) c.call.ensures.port ∙ ap (λ (x : Streams). gates x.roots) c.self.view_is) c.requires c.call.ensures.pass
+returns-in-Err-Busy-clause-pass c = passes (gates c.args.self.now.roots) (gates c.call.new.self) c.args.place c.args.pass.now c.call.new.pass (c.call.ensures.port.gates ∙ ap (λ (x : Streams). gates x.roots) c.self.view_is) c.requires c.call.ensures.pass
 
 pub returns-in-Err-Busy-clause-unmade : goal.returns-in-Err-Busy-clause-unmade
 returns-in-Err-Busy-clause-unmade c =
@@ -51,7 +51,7 @@ returns-in-Err-Busy-clause-unmade c =
     kept c.args.self.now.roots c.call.new.self c.args.pass.now c.call.new.pass (search rules) (same_own c.args.pass.now c.call.new.pass c.call.ensures.pass mine c.seen.ensures.own)
 
 pub returns-in-Err-Worn-clause-pass : goal.returns-in-Err-Worn-clause-pass
-returns-in-Err-Worn-clause-pass c = passes (gates c.args.self.now.roots) (gates c.call.new.self) c.args.place c.args.pass.now c.call.new.pass (ap (λ (l : List (Root Site Attempt)). gates l) c.call.ensures.port ∙ ap (λ (x : Streams). gates x.roots) c.self.view_is) c.requires c.call.ensures.pass
+returns-in-Err-Worn-clause-pass c = passes (gates c.args.self.now.roots) (gates c.call.new.self) c.args.place c.args.pass.now c.call.new.pass (c.call.ensures.port.gates ∙ ap (λ (x : Streams). gates x.roots) c.self.view_is) c.requires c.call.ensures.pass
 
 pub returns-in-Err-Worn-clause-unmade : goal.returns-in-Err-Worn-clause-unmade
 returns-in-Err-Worn-clause-unmade c =

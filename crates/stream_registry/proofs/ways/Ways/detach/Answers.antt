@@ -1,7 +1,7 @@
 use Rattle.std.proofs.Common.{◌≡◌, subst, sym, slice_set}
 use Rattle.turn_gate.specs.Histories.{Begins}
 use Rattle.stream_registry.specs.Roots.{seen_at}
-use Rattle.stream_registry.proofs.Rooting.{detaches, here_longer, seen_set_else}
+use Rattle.stream_registry.proofs.Rooting.{detaches, here_longer, seen_set_else, there_by_gate, takes_in}
 use Rattle.stream_registry.proofs.ways.Ways.detach.Goals as goal
 
 pub returns-clause-grown : goal.returns-clause-grown
@@ -17,3 +17,7 @@ returns-clause-longer g c = here_longer c.args.self.now c.self.inside.places.ite
 
 pub returns-clause-others : goal.returns-clause-others
 returns-clause-others g c = λ q d. subst (λ l. seen_at (slice_set c.self.inside.places.items c.args.place c.detach.new.self) q ≡ seen_at l q) c.self.view_is (seen_set_else c.self.inside.places.items c.args.place c.detach.new.self q d)
+
+pub returns-clause-kin : goal.returns-clause-kin
+returns-clause-kin g c = takes_in c.args.self.now c.self.inside.places.items c.args.place c.index_mut.result.now c.detach.new.self c.args.pass.kin c.self.view_is c.index_mut.ensures.value
+    (there_by_gate c.args.self.now c.self.inside.places.items c.args.place c.args.pass.gate c.self.view_is c.requires) c.detach.ensures.kin

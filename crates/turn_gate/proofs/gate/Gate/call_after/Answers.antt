@@ -1,13 +1,15 @@
-use Rattle.std.proofs.Common.{rules, ap, sym, ◌≡◌, ◌∙◌, Some, subst}
+use Rattle.std.proofs.Common.{rules, ap, sym, ◌≡◌, ◌∙◌, ◌<◌, ◌++◌, List, length, Some, subst}
 use Rattle.turn_gate.specs.InSlot.{InSlot}
+use Rattle.turn_gate.specs.declared.view.Branch.{Branch}
 use Rattle.turn_gate.specs.TurnTable.{about_of}
 use Rattle.turn_gate.specs.Serving.{Served}
 use Rattle.turn_gate.proofs.Answering.{has, has_noted, serving, serving_noted, keeps_pass, replies_after}
+use Rattle.turn_gate.proofs.Branching.{length_more}
 use Rattle.turn_gate.proofs.Turning.{seizes, new_pass, notes}
 use Rattle.turn_gate.proofs.gate.Gate.call_after.Goals as goal
 
 pub swap-found-requires : goal.swap-found-requires
-swap-found-requires g c = (search rules, search rules, seizes (InSlot g.T.Machine.stands g.T.Machine.about) _ _ _ _ (search rules) (search rules))
+swap-found-requires g c = (search rules, search rules, seizes (InSlot g.T.Machine.stands g.T.Machine.about) _ _ _ _ (search rules) (search rules) (search rules))
 
 pub split_seat-note-requires : goal.split_seat-note-requires
 split_seat-note-requires g c = (search rules, search rules, new_pass (InSlot g.T.Machine.stands g.T.Machine.about) _ _ _)
@@ -24,10 +26,11 @@ invariant_of-pass-2 g c =
     let t = c.swap-found.ensures.2.0 (search rules) in let v = c.pass.inside.seat.me.0 in let n = c.join_seat.new.seat.me in let f = c.serve.new.seat.me in
     let key = c.self.inside.turns.shared.key in
     let of_key : v.of ≡ Some key = search rules in
+    let kin = v.kin ++ c.split_seat-note.result.me.0.kin in
     let x = has_noted v c.swap-found.new.seat.me.0 n.0 c.split_seat-note.result.me.0 t.history (has v c.swap-found.new.seat.me.0 t.history t.view_is) (search rules) in
-    let k = keeps_pass (g.T.Machine.lawful key) key c.args.call v n f t.history c.serve.new.seen c.serve.result x of_key c.pass.invariant.4 t.begins c.serve.ensures.served in
-    let same : about_of g.T.Machine.any f.0.of ≡ key = ap (λ o. about_of g.T.Machine.any o) k.2 in
-    (k.0, k.1, k.2 ∙ ap (λ x. Some x) (sym same), k.3, k.4, subst (λ a. g.T.Machine.lawful a f.0.seen) (sym same) k.5)
+    let k = keeps_pass (g.T.Machine.lawful key) key c.args.call v n f t.history kin c.serve.new.seen c.serve.result x of_key c.pass.invariant.5 t.begins c.serve.ensures.served in
+    let same : about_of g.T.Machine.any f.0.of ≡ key = ap (λ o. about_of g.T.Machine.any o) k.3 in
+    (k.0, k.1, subst (λ (l : List Branch). 0 < length l) (sym k.2) (length_more v.kin c.split_seat-note.result.me.0.kin c.pass.invariant.2), k.3 ∙ ap (λ x. Some x) (sym same), k.4, k.5, subst (λ a. g.T.Machine.lawful a f.0.seen) (sym same) k.6)
 
 pub returns-clause-reply : goal.returns-clause-reply
 returns-clause-reply g c =
@@ -36,6 +39,7 @@ returns-clause-reply g c =
     let of_same : f.0.of ≡ v.of = search rules in
     let table : c.serve.new.seat.table_id ≡ c.pass.inside.seat.table_id = search rules in
     let noted : n.0.noted ≡ c.args.root.now.seen = search rules in
+    let kin = v.kin ++ c.split_seat-note.result.me.0.kin in
     let x = has_noted v c.swap-found.new.seat.me.0 n.0 c.split_seat-note.result.me.0 t.history (has v c.swap-found.new.seat.me.0 t.history t.view_is) (search rules) in
-    rw (← c.pass.view_is) (replies_after (g.T.Machine.lawful c.args.self.now.about) c.args.self.now.about c.args.call v n f t.history c.serve.new.seen c.serve.result c.pass.inside.seat.table_id c.serve.new.seat.table_id (about_of g.T.Machine.any v.of) (about_of g.T.Machine.any f.0.of) c.args.root.now.seen table (ap (λ o. about_of g.T.Machine.any o) of_same) x c.pass.invariant.4 t.begins noted
+    rw (← c.pass.view_is) (replies_after (g.T.Machine.lawful c.args.self.now.about) c.args.self.now.about c.args.call v n f t.history kin c.serve.new.seen c.serve.result c.pass.inside.seat.table_id c.serve.new.seat.table_id (about_of g.T.Machine.any v.of) (about_of g.T.Machine.any f.0.of) c.args.root.now.seen table (ap (λ o. about_of g.T.Machine.any o) of_same) x c.pass.invariant.5 t.begins noted
     (subst (λ a. Served (g.T.Machine.lawful a) n c.args.call c.serve.result c.serve.new.seen f) about c.serve.ensures.served))

@@ -1,0 +1,10 @@
+use Rattle.std.proofs.Common.{◌≡◌, length}
+use Rattle.std.specs.List.{list_any}
+use Rattle.relay_replay.specs.Stand.{is_app}
+use Rattle.relay_replay.proofs.places.is_taken.Given as goal
+
+abbrev pub invariant-loop-left : goal.invariant-loop-left
+invariant-loop-left l = record { same : list_any (is_app l.fn.app) l.fn.opens ≡ list_any (is_app l.fn.app) l.left }
+
+abbrev pub decreases-loop-left : goal.decreases-loop-left
+decreases-loop-left l = length l.left

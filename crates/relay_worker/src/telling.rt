@@ -1,0 +1,181 @@
+//! What a link is told of its session, each thing once, as it changes.
+
+use command_dialog::{Ask, Grant, Role};
+use relay_outside::{Denied, Ending, Link, News};
+use relay_session::{Active, Desk, End, Session, Turn};
+use std::cell::Cell;
+use stream_registry::StreamPort;
+
+// The most bytes of a name that are told.
+const TOLD: usize = 64;
+
+/// What a peer has asked for: to publish or to play, and the first 64 bytes of the name.
+#[derive(Clone, Copy)]
+pub struct Request {
+    role: Role,
+    name: [u8; TOLD],
+    len: usize,
+}
+
+impl Request {
+    fn of(ask: &Ask) -> Request {
+        let mut name = [0; TOLD];
+        let asked = ask.name.as_slice();
+        for (to, from) in name.iter_mut().zip(asked) {
+            *to = *from;
+        }
+        Request {
+            role: ask.role,
+            name,
+            len: asked.len(),
+        }
+    }
+
+    fn name(&self) -> &[u8] {
+        &self.name[..self.len.min(TOLD)]
+    }
+}
+
+// What was asked of a desk, and what it granted.
+#[derive(Clone, Copy)]
+pub(crate) struct Noted {
+    asked: Request,
+    grant: Grant,
+}
+
+// A desk that notes what it was asked last.
+pub(crate) struct NotingDesk<'a, G: Desk> {
+    pub(crate) inner: &'a G,
+    pub(crate) noted: Cell<Option<Noted>>,
+}
+
+impl<G: Desk> Desk for NotingDesk<'_, G> {
+    ghost grants = { λ d. G.grants d.inner.now };
+
+    fn grant(&self, ask: &Ask) -> Grant {
+        let grant = self.inner.grant(ask);
+        let asked = Request::of(ask);
+        self.noted.set(Some(Noted { asked, grant }));
+        grant
+    }
+}
+
+// Where a session stood before a turn.
+#[derive(Clone, Copy)]
+pub(crate) struct Before {
+    connected: bool,
+    active: Active,
+}
+
+impl Before {
+    pub(crate) fn of<P: StreamPort>(session: &Session<P>) -> Before {
+        Before {
+            connected: session.app().is_some(),
+            active: session.active(),
+        }
+    }
+}
+
+// Tells a link what a turn of its session did, before which this waited or was granted, and in which this was asked of the desk. What
+// waits or is granted after it. A peer asks anew only once what it asked for is over. Where that had to wait, was granted and was
+// ended by the peer all in one turn, it is told as refused.
+pub(crate) fn told<P: StreamPort, L: Link>(
+    link: &L,
+    session: &Session<P>,
+    before: Before,
+    asked: Option<Request>,
+    noted: Option<Noted>,
+    answer: Turn,
+) -> Option<Request> {
+    let app = app_of(session);
+    if !before.connected && session.app().is_some() {
+        link.tell(News::Connected, app, b"");
+    }
+    let mut asked = asked;
+    let mut was = before.active;
+    if let Some(noted) = noted {
+        if let Some(older) = asked {
+            link.tell(over(older.role, was), app, older.name());
+        }
+        asked = judged(link, app, noted);
+        was = Active::Nothing;
+    }
+    if let Turn::Ended(end) = answer {
+        link.tell(ended(end), app, name_of(&asked));
+        return None;
+    }
+    let asked = asked?;
+    let now = session.active();
+    let waits = session.waits();
+    if let Some(news) = change(asked.role, was, now, waits) {
+        link.tell(news, app, asked.name());
+    }
+    if now == Active::Nothing && !waits {
+        return None;
+    }
+    Some(asked)
+}
+
+// The application to which the peer of a session has connected, empty where it hasn't.
+fn app_of<P: StreamPort>(session: &Session<P>) -> &[u8] {
+    match session.app() {
+        None => b"",
+        Some(app) => app.as_slice(),
+    }
+}
+
+fn name_of(asked: &Option<Request>) -> &[u8] {
+    match asked {
+        None => b"",
+        Some(asked) => asked.name(),
+    }
+}
+
+// What was asked for, where a place was granted to it. A link is told why none was.
+fn judged<L: Link>(link: &L, app: &[u8], noted: Noted) -> Option<Request> {
+    let why = match noted.grant {
+        Grant::Place(_) => return Some(noted.asked),
+        Grant::NoName => Denied::NoName,
+        Grant::Refused => Denied::WrongKey,
+    };
+    link.tell(News::Denied(why), app, noted.asked.name());
+    None
+}
+
+// What is told of what was asked for once it is over.
+fn over(role: Role, was: Active) -> News {
+    if was != Active::Nothing {
+        return News::Left;
+    }
+    match role {
+        Role::Publish => News::Denied(Denied::InUse),
+        Role::Play => News::Denied(Denied::Full),
+    }
+}
+
+// What is told of what was asked for, if it is another thing than before.
+fn change(role: Role, was: Active, now: Active, waits: bool) -> Option<News> {
+    let news = match now {
+        Active::Nothing => return (!waits).then_some(over(role, was)),
+        Active::Publishes => News::Publishes,
+        Active::Plays { player: _ } => News::Plays,
+    };
+    (was == Active::Nothing).then_some(news)
+}
+
+// The end of a session, and the byte at which it came.
+fn ended(end: End) -> News {
+    let (ending, at) = match end {
+        End::PeerClosed => (Ending::PeerClosed, None),
+        End::LinkFault => (Ending::LinkFault, None),
+        End::BadVersion { at } => (Ending::BadVersion, Some(at)),
+        End::BadChunk { cause: _, at } => (Ending::BadChunk, Some(at)),
+        End::BadControl { at } => (Ending::BadControl, Some(at)),
+        End::BadCommand { at } => (Ending::BadCommand, Some(at)),
+        End::TooManyStreams { at } => (Ending::TooManyStreams, Some(at)),
+        End::Quit => (Ending::Quit, None),
+        End::Worn => (Ending::Worn, None),
+        End::OutOfMemory => (Ending::OutOfMemory, None),
+    };
+    News::Ended { ending, at }
+}
