@@ -1,12 +1,10 @@
 //! What the workers of a server tell each other: who waits, how it is woken, and how many links it has.
 
+use crate::watch::MOST_WORKERS;
 use mio::Waker;
 use std::alloc::{AllocError, Global};
 use std::sync::OnceLock;
 use std::sync::atomic::{AtomicBool, AtomicU64, Ordering};
-
-/// As many workers as there may be.
-const MOST_WORKERS: usize = 16;
 
 /// How many links more than another worker a worker may have before it leaves new ones to the other.
 const SLACK: u64 = 1;
@@ -16,6 +14,10 @@ struct Peer {
     waker: OnceLock<Waker>,
     // It takes links.
     open: AtomicBool,
+    // Which of the addresses its door listens at.
+    address: AtomicU64,
+    // It had no place for a link in its last round.
+    full: AtomicBool,
     // It has looked at its door since a connection was left to it.
     looked: AtomicBool,
     links: AtomicU64,
@@ -30,6 +32,8 @@ impl Peer {
         Peer {
             waker: OnceLock::new(),
             open: AtomicBool::new(false),
+            address: AtomicU64::new(0),
+            full: AtomicBool::new(false),
             looked: AtomicBool::new(false),
             links: AtomicU64::new(0),
             asleep: AtomicBool::new(false),
@@ -46,6 +50,11 @@ impl Peer {
             }
         }
     }
+}
+
+// Whether the doors of two workers listen at one address.
+fn listen_alike(one: &Peer, other: &Peer) -> bool {
+    one.address.load(Ordering::SeqCst) == other.address.load(Ordering::SeqCst)
 }
 
 // Stores a value that isn't there.
@@ -90,6 +99,44 @@ impl Board {
         if let Some(peer) = self.peers.get(worker) {
             let _ = peer.waker.try_set(waker);
             self.awake.fetch_add(1, Ordering::SeqCst);
+        }
+    }
+
+    /// Its door listens at the address of this number.
+    pub fn listen(&self, worker: usize, address: u64) {
+        if let Some(peer) = self.peers.get(worker) {
+            peer.address.store(address, Ordering::SeqCst);
+        }
+    }
+
+    /// Whether it has a place for a link, and whether it hasn't.
+    pub fn fill(&self, worker: usize, full: bool) {
+        if let Some(peer) = self.peers.get(worker) {
+            set(&peer.full, full);
+        }
+    }
+
+    /// Whether no worker whose door listens where this one's does has a place for a link.
+    pub fn is_full(&self, worker: usize) -> bool {
+        let Some(mine) = self.peers.get(worker) else {
+            return false;
+        };
+        for peer in self.peers.as_slice() {
+            if peer.waker.get().is_some()
+                && listen_alike(mine, peer)
+                && !peer.full.load(Ordering::SeqCst)
+            {
+                return false;
+            }
+        }
+        true
+    }
+
+    /// How many links it has.
+    pub fn links(&self, worker: usize) -> u64 {
+        match self.peers.get(worker) {
+            Some(peer) => peer.links.load(Ordering::SeqCst),
+            None => 0,
         }
     }
 
@@ -169,12 +216,14 @@ impl Board {
         }
     }
 
-    /// Whether the other worker takes links and has clearly fewer than this one.
+    /// Whether the other worker takes links at the same address and has clearly fewer than this one.
     pub fn is_lighter(&self, worker: usize, other: usize) -> bool {
         match (self.peers.get(worker), self.peers.get(other)) {
             (Some(mine), Some(peer)) => {
                 let links = peer.links.load(Ordering::SeqCst).saturating_add(SLACK);
-                links < mine.links.load(Ordering::SeqCst) && peer.open.load(Ordering::SeqCst)
+                links < mine.links.load(Ordering::SeqCst)
+                    && peer.open.load(Ordering::SeqCst)
+                    && listen_alike(mine, peer)
             }
             _ => false,
         }
@@ -205,9 +254,11 @@ impl Board {
 
     /// Whether so many links were given, and all of them are gone; 0 stands for any number.
     pub fn is_over(&self, most: u32) -> bool {
-        if most == 0 || self.given.load(Ordering::SeqCst) < most as u64 {
-            return false;
-        }
+        most != 0 && self.given.load(Ordering::SeqCst) >= most as u64 && self.is_empty()
+    }
+
+    /// Whether no worker has a link.
+    pub fn is_empty(&self) -> bool {
         for peer in self.peers.as_slice() {
             if peer.links.load(Ordering::SeqCst) > 0 {
                 return false;

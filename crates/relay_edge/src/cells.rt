@@ -22,7 +22,7 @@ pub const LEFT: u64 = 16;
 pub const DOOR: usize = 0;
 
 /// As many links as a worker may have.
-const MOST_LINKS: usize = 64;
+pub const MOST_LINKS: usize = 64;
 
 /// A cell of bits for the door and one for each link of a worker, by their tokens. The door, the links and the rest of
 /// a worker are never used at the same time.

@@ -2,9 +2,9 @@
 ghost use Rattle.std.specs.Prelude.{◌≡◌, None, false};
 
 use crate::cells::{DOOR, READABLE};
-use crate::link::RealLink;
+use crate::link::{Guest, RealLink};
 use crate::post::Post;
-use mio::net::{TcpListener, TcpStream};
+use mio::net::TcpListener;
 use mio::{Interest, Registry, Token};
 use relay_outside::{Door, Knock};
 use std::alloc::{AllocError, Global};
@@ -26,7 +26,7 @@ fn is_shortage(error: &io::Error) -> bool {
 
 /// A worker's door. The doors of all workers share one listening socket; a worker that has clearly more links than
 /// another leaves new ones to that one, as long as it looks at its door. All doors together give so many links, and are closed
-/// when all of these are gone.
+/// when all of these are gone. Once the server stops they give none, and are closed when all that were given are gone.
 #[derive(Drop)]
 pub struct RealDoor {
     listener: TcpListener,
@@ -75,13 +75,13 @@ impl RealDoor {
     }
 
     // The next connection, if there is one, registered under the token.
-    fn accept(&self, token: usize) -> io::Result<Option<TcpStream>> {
+    fn accept(&self, token: usize) -> io::Result<Option<Guest>> {
         match self.listener.accept() {
-            Ok((mut stream, _)) => {
+            Ok((mut stream, address)) => {
                 stream.set_nodelay(true)?;
                 let both = Interest::READABLE | Interest::WRITABLE;
                 self.registry.register(&mut stream, Token(token), both)?;
-                Ok(Some(stream))
+                Ok(Some(Guest { stream, address }))
             }
             Err(error) if error.kind() == ErrorKind::WouldBlock || is_shortage(&error) => {
                 self.post.cells.remove(DOOR, READABLE);
@@ -92,7 +92,7 @@ impl RealDoor {
     }
 
     // The same where one more may be given, which is then claimed.
-    fn accept_claimed(&self, token: usize) -> io::Result<Option<TcpStream>> {
+    fn accept_claimed(&self, token: usize) -> io::Result<Option<Guest>> {
         if !self.post.claim(self.accept) {
             return Ok(None);
         }
@@ -104,8 +104,8 @@ impl RealDoor {
     }
 
     // The next connection with its token and the post, if there is one for this worker.
-    fn knock(&self) -> io::Result<Option<(TcpStream, usize, Arc<Post, Global>)>> {
-        if !self.is_asked() {
+    fn knock(&self) -> io::Result<Option<(Guest, usize, Arc<Post, Global>)>> {
+        if !self.is_asked() || self.post.watch.is_stopped() {
             return Ok(None);
         }
         let Some(token) = self.post.cells.free() else {
@@ -113,7 +113,7 @@ impl RealDoor {
         };
         let post = Arc::try_clone(&self.post)?;
         match self.accept_claimed(token)? {
-            Some(stream) => Ok(Some((stream, token, post))),
+            Some(guest) => Ok(Some((guest, token, post))),
             None => Ok(None),
         }
     }
@@ -133,9 +133,9 @@ impl Door for RealDoor {
             return Knock::Closed;
         }
         match self.knock() {
-            Ok(Some((stream, token, post))) => {
+            Ok(Some((guest, token, post))) => {
                 self.count += 1;
-                Knock::Link(RealLink::new(stream, post, token))
+                Knock::Link(RealLink::new(guest, post, token))
             }
             Ok(None) => Knock::NotYet,
             Err(_) => {

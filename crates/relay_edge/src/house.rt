@@ -3,12 +3,14 @@ ghost use Rattle.std.specs.Prelude.{◌≡◌, None, IfOk, false};
 
 use crate::board::Board;
 use crate::cells::{DOOR, READABLE};
+use crate::control::{Control, listen};
 use crate::door::RealDoor;
 use crate::file::RealFile;
 use crate::names::{Names, Refusal, text};
 use crate::post::Post;
 use crate::rest::{RealRest, WAKER};
 use crate::shown::say;
+use crate::watch::{Watch, Watching};
 use mio::net::TcpListener;
 use mio::{Events, Interest, Poll, Registry, Token, Waker};
 use relay_outside::House;
@@ -17,6 +19,8 @@ use std::fs::{File, Files};
 use std::io::Eprint;
 use std::marker::Model;
 use std::net::{Net, SocketAddr};
+use std::os::fd::AsRawFd;
+use std::os::unix::net::UnixListener;
 use std::sync::Arc;
 use std::{io, net};
 
@@ -38,6 +42,7 @@ struct Hand {
     post: Arc<Post, Global>,
     registry: Option<Registry>,
     poll: Option<Poll>,
+    control: Option<Control>,
 }
 
 impl Hand {
@@ -45,16 +50,27 @@ impl Hand {
         rt: &R,
         alloc: Global,
         board: Arc<Board, Global>,
+        watch: Arc<Watch, Global>,
         worker: u32,
     ) -> io::Result<Hand> {
         let poll = Poll::new(rt)?;
         board.join(worker as usize, Waker::new(poll.registry(), Token(WAKER))?);
         Ok(Hand {
             worker,
-            post: Post::new(alloc, board, worker as usize)?,
+            post: Post::new(alloc, board, watch, worker as usize)?,
             registry: Some(poll.registry().try_clone()?),
             poll: Some(poll),
+            control: None,
         })
+    }
+
+    // Its rest is to answer at the socket.
+    fn answer(&mut self, alloc: Global, socket: UnixListener) -> io::Result<()> {
+        if let Some(poll) = &self.poll {
+            let registry = poll.registry().try_clone()?;
+            self.control = Some(Control::new(alloc, socket, registry)?);
+        }
+        Ok(())
     }
 
     // Its door, once.
@@ -67,6 +83,7 @@ impl Hand {
         let mut listener = TcpListener::from_std(socket);
         registry.register(&mut listener, Token(DOOR), Interest::READABLE)?;
         self.post.cells.add(DOOR, READABLE);
+        self.post.set_door(listener.as_raw_fd());
         let post = Arc::try_clone(&self.post)?;
         Ok(RealDoor::new(listener, registry, post, accept))
     }
@@ -77,7 +94,8 @@ impl Hand {
             return Err(io::Error::from(io::ErrorKind::AlreadyExists));
         };
         let events = Events::with_capacity(alloc, EVENTS)?;
-        Ok(RealRest::new(poll, events, Arc::try_clone(&self.post)?))
+        let post = Arc::try_clone(&self.post)?;
+        Ok(RealRest::new(poll, events, post, self.control.take()))
     }
 }
 
@@ -86,29 +104,52 @@ impl Hand {
 struct Sockets {
     alloc: Global,
     board: Arc<Board, Global>,
-    // Where it listens: the address as it was asked for, and the socket.
-    listening: Option<(Vec<u8>, net::TcpListener)>,
+    watch: Arc<Watch, Global>,
+    // Where it listens: each address as it was asked for, and the socket.
+    listening: Vec<(Vec<u8>, net::TcpListener)>,
     hands: Vec<Hand>,
+    // Where it is asked how it is, once it listens there.
+    control: Option<String>,
+    answers: bool,
 }
 
 impl Sockets {
-    // A handle of the socket that listens at that address, with the longest backlog that the system allows.
+    // A handle of the socket that listens at that address, with the longest backlog that the system allows, and the address' number.
     fn listener<R: Net + Eprint>(
         &mut self,
         rt: &R,
         listen: &[u8],
-    ) -> Result<net::TcpListener, Refusal> {
-        if let Some((asked, socket)) = &self.listening {
+    ) -> Result<(net::TcpListener, u64), Refusal> {
+        let mut number = 0u64;
+        for (asked, socket) in self.listening.as_slice() {
             if asked.as_slice() == listen {
-                return Ok(socket.try_clone()?);
+                return Ok((socket.try_clone()?, number));
             }
+            number = number.saturating_add(1);
         }
         let socket = net::TcpListener::from(TcpListener::bind(rt, address(listen)?)?);
         let at = socket.local_addr()?;
         let _ = eprintln!(rt; "relay: listens on {at}");
         let other = socket.try_clone()?;
-        self.listening = Some((listen.to_vec(self.alloc)?, other));
-        Ok(socket)
+        let address = listen.to_vec(self.alloc)?;
+        if self.listening.push((address, other)).is_err() {
+            return Err(Refusal::from(AllocError));
+        }
+        Ok((socket, number))
+    }
+
+    // It is asked how it is at the socket of its path, where it has one, by the rest of the worker.
+    fn answer<R: Net + Files<File = File>>(&mut self, rt: &R, worker: u32) -> Result<(), Refusal> {
+        if self.answers {
+            return Ok(());
+        }
+        let Some(path) = &self.control else {
+            return Ok(());
+        };
+        let socket = listen(rt, path.as_str())?;
+        self.answers = true;
+        let alloc = self.alloc;
+        Ok(self.hand(rt, worker)?.answer(alloc, socket)?)
     }
 
     // The worker's hand, which is made where it isn't there.
@@ -122,7 +163,8 @@ impl Sockets {
         }
         if at >= self.hands.len() {
             let board = Arc::try_clone(&self.board)?;
-            let hand = Hand::new(rt, self.alloc, board, worker)?;
+            let watch = Arc::try_clone(&self.watch)?;
+            let hand = Hand::new(rt, self.alloc, board, watch, worker)?;
             self.hands.push(hand)?;
         }
         match self.hands.get_mut(at) {
@@ -140,7 +182,8 @@ impl Sockets {
     ) -> Result<RealDoor, Refusal>
         ensures { IfOk result (λ d. d ≡ record { given = 0; faults = 0; closed = false; back = None }) }
     {
-        let socket = self.listener(rt, listen)?;
+        let (socket, number) = self.listener(rt, listen)?;
+        self.board.listen(worker as usize, number);
         Ok(self.hand(rt, worker)?.door(socket, accept)?)
     }
 
@@ -172,18 +215,33 @@ impl<'a, R> Model for RealHouse<'a, R> {
 }
 
 impl<'a, R: Eprint> RealHouse<'a, R> {
-    /// A house that has given nothing.
+    /// A house that has given nothing, and whose links nobody watches.
     pub fn new(rt: &'a R, alloc: Global) -> Result<RealHouse<'a, R>, AllocError>
         ensures { IfOk result (λ h. h ≡ record { faults = 0; spoiled = 0; kept = None; shut = None }) }
     {
+        RealHouse::watched(rt, alloc, Watching::nothing())
+    }
+
+    /// A house that has given nothing, and is watched so.
+    pub fn watched(
+        rt: &'a R,
+        alloc: Global,
+        watching: Watching,
+    ) -> Result<RealHouse<'a, R>, AllocError>
+        ensures { IfOk result (λ h. h ≡ record { faults = 0; spoiled = 0; kept = None; shut = None }) }
+    {
         let board = Board::new(alloc)?;
+        let watch = Watch::new(alloc, &watching)?;
         Ok(RealHouse {
             rt,
             sockets: Sockets {
                 alloc,
                 board: Arc::new(alloc, board)?,
-                listening: None,
+                watch,
+                listening: Vec::new(alloc),
                 hands: Vec::new(alloc),
+                control: watching.control,
+                answers: false,
             },
             names: Names::new(alloc),
             failed: 0,
@@ -198,6 +256,34 @@ impl<'a, R: Files<File = File>> RealHouse<'a, R> {
         ensures { self.new ≡ self.old }
     {
         self.names.spare(self.rt, name);
+    }
+
+    /// Removes the file of the socket at which it is asked how it is, where it made one. Whoever told it to stop still waits until the
+    /// house is dropped.
+    pub fn clear(&mut self)
+        ensures { self.new ≡ self.old }
+    {
+        if let (Some(path), true) = (&self.sockets.control, self.sockets.answers) {
+            let _ = self.rt.remove_file(path.as_str());
+        }
+        self.sockets.answers = false;
+    }
+}
+
+impl<'a, R: Net + Files<File = File> + Eprint> RealHouse<'a, R> {
+    // Whether it is asked how it is where it is to be. Else it says why not.
+    fn answers(&mut self, worker: u32) -> bool
+        ensures { self.new ≡ self.old }
+    {
+        let Err(refusal) = self.sockets.answer(self.rt, worker) else {
+            return true;
+        };
+        let path = match &self.sockets.control {
+            Some(path) => path.as_bytes(),
+            None => b"",
+        };
+        say(self.rt, path, &refusal);
+        false
     }
 }
 
@@ -215,6 +301,11 @@ impl<'a, R: Net + Files<File = File> + Eprint + Sync> House for RealHouse<'a, R>
     ghost named = { λ _. None };
 
     fn door(&mut self, worker: u32, listen: &[u8], accept: u32) -> Option<RealDoor> {
+        if !self.answers(worker) {
+            self.names.undo(self.rt);
+            self.failed = self.failed.saturating_add(1);
+            return None;
+        }
         match self.sockets.door(self.rt, worker, listen, accept) {
             Ok(door) => Some(door),
             Err(refusal) => {

@@ -2,22 +2,30 @@
 //!
 //! A [`RealHouse`] gives each worker a door and a rest. All doors share one listening socket, and balance; a link asks the
 //! system only where the worker's poll has reported that there is something to do; a rest waits until a socket of its
-//! worker is ready, or another worker did what received bytes brought.
+//! worker is ready, or another worker did what received bytes brought. What links are told goes to a log, a link that is silent for
+//! too long fails, and a socket of its own answers how the server is and takes the word to stop ([`Watching`]).
 #![tactic(auto)]
 
 mod board;
 mod cells;
+mod clock;
+mod control;
 mod door;
 mod file;
 mod house;
 mod inbox;
+mod journal;
+mod life;
 mod link;
 mod names;
 mod outbox;
 mod post;
 mod rest;
+mod seats;
 mod segments;
 mod shown;
+mod stats;
+mod watch;
 
 pub use door::RealDoor;
 pub use file::RealFile;
@@ -26,3 +34,4 @@ pub use link::RealLink;
 pub use rest::RealRest;
 pub use segments::SegmentHouse;
 pub use shown::Shown;
+pub use watch::Watching;

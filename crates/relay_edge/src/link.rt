@@ -6,15 +6,30 @@ ghost use Rattle.relay_outside.specs.Said.{SayStep};
 
 use crate::cells::{CLOSING, READABLE, TAKEN, WRITABLE};
 use crate::inbox::Inbox;
+use crate::life::{Life, STUCK};
 use crate::outbox::Outbox;
 use crate::post::Post;
 use mio::net::TcpStream;
-use relay_outside::{Heard, Link, Said};
+use relay_outside::{Heard, Link, News, Said};
 use std::alloc::Global;
 use std::io;
 use std::io::{ErrorKind, Read, Write};
 use std::marker::Model;
+use std::net::{Shutdown, SocketAddr};
 use std::sync::Arc;
+
+/// One that was sent all, once its server stops, has so many milliseconds to close too.
+const FAREWELL: u64 = 3_000;
+
+/// As many pieces are passed over in a turn then.
+const LAST_PIECES: u32 = 16;
+
+/// A connection, with the address of its peer.
+#[derive(Drop)]
+pub(crate) struct Guest {
+    pub stream: TcpStream,
+    pub address: SocketAddr,
+}
 
 /// The cell of a link. It is free again when the link is dropped.
 struct Cell {
@@ -41,6 +56,9 @@ impl Drop for Cell {
             post.cells.ask();
         }
         post.cells.set(token, 0);
+        if let Some(seat) = post.seat(token) {
+            seat.leave();
+        }
         post.remove_link();
     }
 }
@@ -52,6 +70,10 @@ impl Cell {
 
     fn remove(&self, bit: u64) {
         self.post.cells.remove(self.token, bit);
+    }
+
+    fn add(&self, bit: u64) {
+        self.post.cells.add(self.token, bit);
     }
 
     // Its link received bytes. Whether more are at hand.
@@ -108,6 +130,12 @@ struct Wire {
     fresh: bool,
     // Bytes that were taken couldn't be sent.
     broken: bool,
+    // Why a call of the system failed.
+    cause: Option<io::Error>,
+    // Since when the system takes none of what is kept, by the clock, or 0.
+    stuck: u64,
+    // When the peer was told that no more comes, by the clock, or 0.
+    shut: u64,
 }
 
 impl Drop for Wire {
@@ -120,6 +148,9 @@ impl Drop for Wire {
             filled: _,
             fresh: _,
             broken: _,
+            cause: _,
+            stuck: _,
+            shut: _,
         } = self;
         if !outbox.is_empty() {
             let _ = stream.write(outbox.left());
@@ -139,28 +170,99 @@ impl Wire {
         }
         let error = match self.stream.write(self.outbox.left()) {
             Ok(count) if count > 0 => {
-                self.outbox.take(count);
+                self.sent(count);
                 if self.outbox.is_empty() {
                     return Flushed::All;
                 }
                 self.cell.remove(WRITABLE);
                 return Flushed::Some;
             }
-            Ok(_) => ErrorKind::WriteZero,
-            Err(error) => error.kind(),
+            Ok(_) => io::Error::from(ErrorKind::WriteZero),
+            Err(error) => error,
         };
-        match error {
+        match error.kind() {
             ErrorKind::WouldBlock => {
                 self.cell.remove(WRITABLE);
+                if self.stuck == 0 {
+                    self.stuck = self.cell.post.now();
+                }
                 Flushed::Some
             }
             ErrorKind::Interrupted => Flushed::Some,
             _ => {
+                self.cause = Some(error);
                 self.broken = true;
                 self.outbox.forget();
                 Flushed::Failed
             }
         }
+    }
+
+    // The system took so many of the bytes that are kept.
+    fn sent(&mut self, count: usize) {
+        self.outbox.take(count);
+        self.stuck = if self.outbox.is_empty() {
+            0
+        } else {
+            self.cell.post.now()
+        };
+        if let Some(seat) = self.cell.post.seat(self.cell.token) {
+            seat.send(count);
+        }
+    }
+
+    // Its link gave so many bytes.
+    fn received(&self, count: usize) {
+        if let Some(seat) = self.cell.post.seat(self.cell.token) {
+            seat.receive(count);
+        }
+    }
+
+    // The turn before this one had nothing to send, where it is so.
+    fn level(&self, quiet: bool) {
+        if quiet && self.outbox.is_empty() {
+            if let Some(seat) = self.cell.post.seat(self.cell.token) {
+                seat.level(self.cell.post.now());
+            }
+        }
+    }
+
+    // Whether the system has taken none of what is kept for so many milliseconds, and takes none now.
+    fn is_stuck(&mut self, milliseconds: u64) -> bool {
+        if self.stuck == 0 || self.cell.post.now().saturating_sub(self.stuck) < milliseconds {
+            return false;
+        }
+        let before = self.stuck;
+        // Where all went there may be room for more, though the poll tells of it only once much of the socket's buffer is free.
+        if self.flush() == Flushed::All {
+            self.cell.add(WRITABLE);
+        }
+        self.stuck == before
+    }
+
+    // Tells the peer that no more comes, and passes over what still comes of it: a connection that is closed with bytes unread is
+    // reset, and the peer may lose the last that it was sent. Whether it has closed too, or had time to.
+    fn is_shut(&mut self) -> bool {
+        let now = self.cell.post.now();
+        if self.shut == 0 {
+            let _ = self.stream.shutdown(Shutdown::Write);
+            self.shut = now;
+        }
+        if now.saturating_sub(self.shut) >= FAREWELL {
+            return true;
+        }
+        let mut room = [0u8; 4096];
+        for _ in 0..LAST_PIECES {
+            match self.stream.read(&mut room) {
+                Ok(0) => return true,
+                Ok(_) => {}
+                Err(error) => {
+                    let waits = error.kind() == ErrorKind::WouldBlock;
+                    return !waits && error.kind() != ErrorKind::Interrupted;
+                }
+            }
+        }
+        false
     }
 
     // Tells the cell whether the worker is to go on for what is kept.
@@ -253,12 +355,30 @@ impl Wire {
 /// Pieces that follow each other in turn after turn are sent by one call of the system: a piece that was taken is kept, and
 /// sent in the first turn that brings none after it, when as many are kept as may be, or when the link is dropped. A worker
 /// doesn't wait while a link keeps bytes that can be sent. Where they can't be sent for a fault, the link fails from then on.
-#[derive(Drop)]
+///
+/// What it is told goes to the log. Where it is silent for longer than its server allows, it fails; and where that stops, it answers as
+/// at its peer's end: a player once nobody publishes any more and it was sent what there was.
 pub struct RealLink {
     wire: Wire,
+    life: Life,
     failed: u64,
     waited: u64,
     ended: u64,
+}
+
+impl Drop for RealLink {
+    fn drop(self) {
+        let RealLink {
+            wire,
+            life,
+            failed: _,
+            waited: _,
+            ended: _,
+        } = self;
+        life.end(&wire.cell.post);
+        drop(life);
+        drop(wire);
+    }
 }
 
 impl Model for RealLink {
@@ -271,13 +391,19 @@ impl Model for RealLink {
 
 impl RealLink {
     /// A link over a stream that is registered under that token.
-    pub(crate) fn new(stream: TcpStream, post: Arc<Post, Global>, token: usize) -> RealLink
+    pub(crate) fn new(guest: Guest, post: Arc<Post, Global>, token: usize) -> RealLink
         ensures { result ≡ record { faults = 0; waits = 0; ends = 0 } }
     {
+        let Guest { stream, address } = guest;
         post.cells.set(token, TAKEN | READABLE | WRITABLE);
         post.add_link();
+        if let Some(seat) = post.seat(token) {
+            seat.take(post.alloc, address, post.now());
+        }
         let alloc = post.alloc;
+        let life = Life::new(address, post.now());
         RealLink {
+            life,
             wire: Wire {
                 stream,
                 cell: Cell {
@@ -291,12 +417,44 @@ impl RealLink {
                 filled: false,
                 fresh: false,
                 broken: false,
+                cause: None,
+                stuck: 0,
+                shut: 0,
             },
             failed: 0,
             waited: 0,
             ended: 0,
         }
     }
+}
+
+// Whether a link has been silent for too long: its peer gave nothing, or takes nothing of what is kept for it.
+fn is_silent(life: &mut Life, wire: &mut Wire) -> bool {
+    if life.is_silent(&wire.cell.post) {
+        return true;
+    }
+    let Some(patience) = life.patience(&wire.cell.post) else {
+        return false;
+    };
+    if !wire.is_stuck(patience) {
+        return false;
+    }
+    life.stick(patience);
+    true
+}
+
+// Whether a link ends, since the server stops.
+fn is_over(life: &mut Life, wire: &mut Wire) -> bool {
+    let stopped = wire.cell.post.watch.is_stopped();
+    if !stopped {
+        return false;
+    }
+    let empty = wire.outbox.is_empty();
+    let done = empty || wire.is_stuck(STUCK);
+    if !life.is_over(&wire.cell.post, done) {
+        return false;
+    }
+    !life.plays() || !empty || wire.is_shut()
 }
 
 impl Link for RealLink {
@@ -315,15 +473,28 @@ impl Link for RealLink {
             return Heard::Failed;
         }
         self.wire.tell_kept();
+        self.wire.level(self.life.turn());
+        if is_over(&mut self.life, &mut self.wire) {
+            self.ended = self.ended.saturating_add(1);
+            return Heard::End;
+        }
         match self.wire.give(into) {
             Ok(0) => {
                 self.ended = self.ended.saturating_add(1);
                 Heard::End
             }
-            Ok(count) => Heard::Bytes(count),
+            Ok(count) => {
+                self.life.give(self.wire.cell.post.now());
+                self.wire.received(count);
+                Heard::Bytes(count)
+            }
             Err(error) => match error.kind() {
                 ErrorKind::WouldBlock => {
                     self.wire.cell.remove(READABLE);
+                    if is_silent(&mut self.life, &mut self.wire) {
+                        self.failed = self.failed.saturating_add(1);
+                        return Heard::Failed;
+                    }
                     self.waited = self.waited.saturating_add(1);
                     Heard::NotYet
                 }
@@ -332,6 +503,7 @@ impl Link for RealLink {
                     Heard::NotYet
                 }
                 _ => {
+                    self.wire.cause = Some(error);
                     self.failed = self.failed.saturating_add(1);
                     Heard::Failed
                 }
@@ -344,14 +516,23 @@ impl Link for RealLink {
             self.failed = self.failed.saturating_add(1);
             return Said::Failed;
         }
-        if !self.wire.cell.has(WRITABLE) {
+        if self.wire.shut > 0 || !self.wire.cell.has(WRITABLE) {
+            if is_over(&mut self.life, &mut self.wire)
+                || is_silent(&mut self.life, &mut self.wire)
+            {
+                self.failed = self.failed.saturating_add(1);
+                return Said::Failed;
+            }
             self.waited = self.waited.saturating_add(1);
             return Said::NotYet;
         }
         let taken = self.wire.take(piece);
         self.wire.tell_kept();
         match taken {
-            Flushed::All => Said::Took(piece.len()),
+            Flushed::All => {
+                self.life.take(self.wire.cell.post.now());
+                Said::Took(piece.len())
+            }
             Flushed::Some => {
                 self.waited = self.waited.saturating_add(1);
                 Said::NotYet
@@ -361,6 +542,17 @@ impl Link for RealLink {
                 Said::Failed
             }
         }
+    }
+
+    fn tell(&self, news: News, app: &[u8], name: &[u8]) {
+        let Cell {
+            post,
+            token,
+            keeps: _,
+            fed: _,
+        } = &self.wire.cell;
+        self.life
+            .tell(post, *token, news, app, name, self.wire.cause);
     }
 
     ghost hears_mean = { λ l room answer m some step. step };

@@ -2,9 +2,14 @@
 
 use crate::board::Board;
 use crate::cells::{Cells, DOOR, LEFT, READABLE};
+use crate::clock::milliseconds;
+use crate::seats::{Seat, Seats};
+use crate::watch::Watch;
+use libc::net::{POLLIN, poll};
+use libc::types::pollfd;
 use std::alloc::{AllocError, Global};
 use std::sync::Arc;
-use std::sync::atomic::{AtomicU64, Ordering};
+use std::sync::atomic::{AtomicBool, AtomicI64, AtomicU64, Ordering};
 
 /// So many pauses, or 32 turns that moved something in place of each, a worker gives another to look at its door.
 const GRACE: u64 = 8;
@@ -14,6 +19,14 @@ const GRACE: u64 = 8;
 pub struct Post {
     pub alloc: Global,
     pub cells: Cells,
+    pub watch: Arc<Watch, Global>,
+    seats: Arc<Seats, Global>,
+    // The clock, when it was looked at last.
+    clock: AtomicU64,
+    // The door was asked for a link since that was asked last.
+    knocked: AtomicBool,
+    // The descriptor of its socket, once it is there.
+    door: AtomicI64,
     board: Arc<Board, Global>,
     worker: usize,
     // The worker to which the door left a connection last, and what is left of its grace.
@@ -25,18 +38,79 @@ impl Post {
     pub fn new(
         alloc: Global,
         board: Arc<Board, Global>,
+        watch: Arc<Watch, Global>,
         worker: usize,
     ) -> Result<Arc<Post, Global>, AllocError> {
         let cells = Cells::new(alloc)?;
+        let seats = Arc::new(alloc, Seats::new(alloc)?)?;
+        watch.join(worker, Arc::try_clone(&seats)?);
         let post = Post {
             alloc,
             cells,
+            watch,
+            seats,
+            clock: AtomicU64::new(milliseconds()),
+            knocked: AtomicBool::new(false),
+            door: AtomicI64::new(-1),
             board,
             worker,
             heir: AtomicU64::new(0),
             grace: AtomicU64::new(0),
         };
         Ok(Arc::new(alloc, post)?)
+    }
+
+    /// The clock in milliseconds, when the worker looked at it last: in each pause, and after some turns that moved something.
+    pub fn now(&self) -> u64 {
+        self.clock.load(Ordering::SeqCst)
+    }
+
+    /// The worker looks at the clock.
+    pub fn tick(&self) {
+        self.clock.store(milliseconds(), Ordering::SeqCst);
+    }
+
+    /// The seat of the link of a token.
+    pub fn seat(&self, token: usize) -> Option<&Seat> {
+        self.seats.get(token)
+    }
+
+    /// Whether the door was asked for a link since this was asked last. A worker that has all its links doesn't ask.
+    pub fn take_knocked(&self) -> bool {
+        let knocked = self.knocked.swap(false, Ordering::SeqCst);
+        self.board.fill(self.worker, !knocked);
+        knocked
+    }
+
+    /// The descriptor of the door's socket, which stays open as long as the worker.
+    pub fn set_door(&self, descriptor: i32) {
+        self.door.store(i64::from(descriptor), Ordering::SeqCst);
+    }
+
+    /// Whether a connection waits at the door.
+    pub fn has_waiting(&self) -> bool {
+        let fd = i32::try_from(self.door.load(Ordering::SeqCst)).unwrap_or(-1);
+        let mut asked = [pollfd {
+            fd,
+            events: POLLIN,
+            revents: 0,
+        }];
+        poll(&mut asked, 0) == 1 && asked[0].revents == POLLIN
+    }
+
+    /// Whether a connection that came finds no place at any worker.
+    pub fn is_crowded(&self) -> bool {
+        self.board.is_full(self.worker)
+    }
+
+    /// How many links the worker has.
+    pub fn links(&self) -> u64 {
+        self.board.links(self.worker)
+    }
+
+    /// All workers are to hear that the server stops.
+    pub fn wake_all(&self) {
+        self.board.wake_others(self.worker);
     }
 
     /// A link was given.
@@ -48,12 +122,16 @@ impl Post {
     /// interest to others.
     pub fn remove_link(&self) {
         self.board.remove_link(self.worker);
+        self.watch.thin();
         self.board.wake_others(self.worker);
         self.cells.add(DOOR, READABLE);
     }
 
     /// The worker takes links, and looks at its door.
     pub fn look(&self) {
+        if !self.knocked.load(Ordering::SeqCst) {
+            self.knocked.store(true, Ordering::SeqCst);
+        }
         self.board.look(self.worker);
     }
 
@@ -63,10 +141,11 @@ impl Post {
         self.cells.remove(DOOR, LEFT);
     }
 
-    /// The worker takes no more links, since so many were given and all are gone. Until then its recorders may have something
-    /// to write. The others hear of it.
+    /// The worker takes no more links, since so many were given, or the server stops, and all are gone. Until then its recorders may
+    /// have something to write. The others hear of it.
     pub fn is_done(&self, accept: u32) -> bool {
-        if !self.board.is_over(accept) {
+        let stopped = self.watch.is_stopped() && self.board.is_empty();
+        if !stopped && !self.board.is_over(accept) {
             return false;
         }
         self.board.close(self.worker);

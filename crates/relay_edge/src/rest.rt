@@ -1,7 +1,9 @@
 //! Rests over a poll.
 
 use crate::cells::{CLOSING, Cells, DOOR, LEFT, READABLE, WRITABLE};
+use crate::control::Control;
 use crate::post::Post;
+use log::warn;
 use mio::event::Event;
 use mio::{Events, Poll, Token};
 use relay_outside::Rest;
@@ -21,6 +23,9 @@ const FIRST: [u64; 4] = [0, 1, 4, 16];
 /// Those after them, as long as that may be.
 const NEXT: u64 = 32;
 
+/// The longest wait once the server stops.
+const STOPPING: u64 = 20;
+
 /// The longest wait where the door has left a connection to a worker that hasn't looked yet.
 const LEAVING: u64 = 4;
 
@@ -33,7 +38,11 @@ const LOOK: u32 = 32;
 /// After so many the door is asked again, also where the poll says nothing of it.
 const LOOK_AT_DOOR: u32 = 8192;
 
-/// Waits until there is something to do for a worker: at its sockets, or since another worker received bytes.
+/// After so many the worker has asked its door for a link, where it has a place for one.
+const LOOK_AT_PLACES: u32 = 256;
+
+/// Waits until there is something to do for a worker: at its sockets, or since another worker received bytes. That of one worker
+/// answers those who ask how the server is, too.
 #[derive(Drop)]
 pub struct RealRest {
     poll: Poll,
@@ -45,6 +54,9 @@ pub struct RealRest {
     pauses: usize,
     // The board's stillness when the worker last went on.
     stillness: Option<u64>,
+    // When it last looked whether a connection finds no place.
+    looked: u64,
+    control: Option<Control>,
 }
 
 // Marks what an event reports.
@@ -68,7 +80,12 @@ fn mark(cells: &Cells, event: &Event) {
 
 impl RealRest {
     /// The rest of a worker whose waker is registered.
-    pub(crate) fn new(poll: Poll, events: Events, post: Arc<Post, Global>) -> RealRest {
+    pub(crate) fn new(
+        poll: Poll,
+        events: Events,
+        post: Arc<Post, Global>,
+        control: Option<Control>,
+    ) -> RealRest {
         RealRest {
             poll,
             events,
@@ -76,6 +93,8 @@ impl RealRest {
             moves: 0,
             pauses: 0,
             stillness: None,
+            looked: 0,
+            control,
         }
     }
 
@@ -83,12 +102,42 @@ impl RealRest {
     fn wait(&mut self, milliseconds: u64) -> bool {
         let most = Some(Duration::from_millis(milliseconds));
         let _ = self.poll.poll(&mut self.events, most);
+        self.post.tick();
         let mut ready = false;
+        let mut asked = false;
         for event in self.events.iter() {
+            let Token(token) = event.token();
+            asked |= Control::has(token);
             mark(&self.post.cells, event);
             ready = true;
         }
+        self.answer(asked);
         ready
+    }
+
+    // Tells the log where a connection waits, and no worker has a place for it. It looks once a second.
+    fn tell_crowd(&mut self) {
+        let post = &self.post;
+        if post.now().saturating_sub(self.looked) < LONGEST {
+            return;
+        }
+        self.looked = post.now();
+        if post.is_crowded() && post.has_waiting() && post.watch.crowd() {
+            warn!(post.watch.log;
+                "relay: a connection waits, since all places for links are taken, {} of them at this worker",
+                post.links()
+            );
+        }
+    }
+
+    // Answers those who ask how the server is, where one of them said something or may have waited for too long.
+    fn answer(&mut self, asked: bool) {
+        let now = self.post.now();
+        if let Some(control) = &mut self.control {
+            if (asked || control.is_asked()) && control.go_on(&self.post.watch, now) {
+                self.post.wake_all();
+            }
+        }
     }
 
     // Whether no other worker made a call since the worker last went on.
@@ -119,6 +168,8 @@ impl RealRest {
         let most = self.patience();
         if self.post.is_leaving() {
             most.min(LEAVING)
+        } else if self.post.watch.is_stopped() {
+            most.min(STOPPING)
         } else {
             most
         }
@@ -128,6 +179,9 @@ impl RealRest {
 impl Rest for RealRest {
     fn pause(&mut self) {
         self.post.tell_begun();
+        if !self.post.take_knocked() {
+            self.tell_crowd();
+        }
         let most = self.next_wait();
         let due = self.post.begin_wait();
         let ready = self.wait(if due { 0 } else { most });
@@ -151,6 +205,9 @@ impl Rest for RealRest {
         self.moves = self.moves.wrapping_add(1);
         if self.moves % LOOK_AT_DOOR == 0 {
             self.post.ask_door();
+        }
+        if self.moves % LOOK_AT_PLACES == 0 && !self.post.take_knocked() {
+            self.tell_crowd();
         }
         if self.moves % LOOK == 0 {
             self.post.age();

@@ -1,8 +1,15 @@
 //! Texts of others on standard error.
 
+use crate::journal::is_ready;
 use std::fmt::{Display, Formatter};
 use std::io::Eprint;
 use std::{fmt, str};
+
+/// How many bytes of what a peer wrote are shown at most.
+const MOST: usize = 64;
+
+/// How long a line waits for room on standard error at most, in milliseconds.
+const PATIENCE: i32 = 1000;
 
 /// A text in which `?` stands for each control character, those from U+0080 to U+009F too, so that it is on one line and
 /// commands no terminal.
@@ -20,8 +27,44 @@ impl Display for Shown<'_> {
     }
 }
 
-/// Says what something is of which a name tells, on one line of standard error.
+/// The first 64 bytes of what a peer wrote, so that no character is cut. `?` stands for each control character, and for each byte
+/// that isn't ASCII where it is no text.
+#[derive(Clone, Copy)]
+pub struct Written<'a> {
+    pub bytes: &'a [u8],
+}
+
+// The text of the first bytes, or of a few less where the last character is cut.
+fn text_of(bytes: &[u8]) -> Option<&str> {
+    let most = bytes.len().min(MOST);
+    for less in 0..4usize {
+        if let Some(head) = bytes.get(..most.saturating_sub(less)) {
+            if let Ok(text) = str::from_utf8(head) {
+                return Some(text);
+            }
+        }
+    }
+    None
+}
+
+impl Display for Written<'_> {
+    fn fmt<W: fmt::Write>(&self, f: &mut Formatter<W>) -> fmt::Result {
+        if let Some(text) = text_of(self.bytes) {
+            return write!(f, "{}", Shown { text });
+        }
+        for byte in self.bytes.iter().take(MOST) {
+            let plain = byte.is_ascii_graphic() || *byte == b' ';
+            f.write_char(if plain { char::from(*byte) } else { '?' })?;
+        }
+        Ok(())
+    }
+}
+
+/// Says what something is of which a name tells, on one line of standard error. Where there is no room for a second, it says nothing.
 pub fn say<R: Eprint, D: Display>(rt: &R, name: &[u8], what: &D) {
+    if !is_ready(PATIENCE) {
+        return;
+    }
     let _ = match str::from_utf8(name) {
         Ok(text) => eprintln!(rt; "relay: {}: {what}", Shown { text }),
         Err(_) => eprintln!(rt; "relay: a name that isn't UTF-8: {what}"),

@@ -5,7 +5,9 @@ use crate::spot::{Spot, spot_at, spot_of};
 use crate::{BAD_INPUT, NO_MEMORY, READ_FAULT, status, tell, tell_fault};
 use key_guard::Grants;
 use relay_base::Status;
-use relay_config::{Config, ConfigFail, Key, PlaceRule, read_config, report, sum, sum_of};
+use relay_config::{
+    Config, ConfigFail, Key, OpenRule, PlaceRule, read_config, report, sum, sum_of,
+};
 use relay_edge::Shown;
 use std::alloc::{AllocError, Global};
 use std::fmt::{Display, Formatter};
@@ -38,7 +40,8 @@ fn read<R: Files<File = File>>(rt: &R, alloc: Global, name: &str) -> io::Result<
 fn range(key: Key) -> &'static str {
     match key {
         Key::Relay => "it is a table",
-        Key::Stream => "there are 1 to 64 tables [[stream]]",
+        Key::Stream => "there are at most 64 tables [[stream]]",
+        Key::Open => "tables [[open]]",
         Key::Listen => "a text of 1 to 64 bytes, as \"127.0.0.1:1935\"",
         Key::Workers => "1 to 16",
         Key::Links => "1 to 64",
@@ -48,6 +51,7 @@ fn range(key: Key) -> &'static str {
         Key::RingItems => "16 to 65536",
         Key::Players => "4 to 256",
         Key::Window => "1000 to 2147483647",
+        Key::Names => "1 to 64, and at most 64 with all streams and other names",
         Key::App | Key::Name => "1 to 64 letters of ASCII, digits, '.', '_' or '-'",
         Key::Publish | Key::Play => {
             "a list of keys of 1 to 64 bytes, or where digest is true of 64 digits from 0 to f"
@@ -106,12 +110,15 @@ impl Display for Wrong<'_> {
                 "its table may not have the key {}",
                 shown(key.as_slice())
             ),
+            ConfigFail::Missing { key: Key::Stream } => {
+                f.write_str("there is neither a [[stream]] nor an [[open]]")
+            }
             ConfigFail::Missing { key } => write!(f, "{} isn't there", key.name()),
             ConfigFail::Range { key } => write!(f, "{} may be: {}", key.name(), range(*key)),
             ConfigFail::Twice { place } => {
                 write!(
                     f,
-                    "stream {place}, from 0, has the app and name of an earlier one"
+                    "table {place}, from 0, the streams first, has the names of an earlier one"
                 )
             }
             ConfigFail::TooMuch { sum } => {
@@ -178,12 +185,31 @@ fn add_stream(
     Ok(())
 }
 
-// The most bytes that all parts hold at once, and of these those of streams and of links.
+fn add_open(alloc: Global, text: &mut String, rule: &OpenRule) -> Result<(), AllocError> {
+    let publish = show_grants(alloc, &rule.publish)?;
+    let play = show_grants(alloc, &rule.play)?;
+    let (app, names) = (shown(rule.app.as_slice()), rule.names);
+    let line = format!(in alloc;
+        "open {app}: {names} names at a time, published {publish}, played {play}\n"
+    )?;
+    text.push_str(&line)
+}
+
+// The most bytes that all parts hold at once, and of these those of streams, names and links.
 #[derive(Clone, Copy)]
 struct Sums {
     all: u64,
     streams: u64,
     links: u64,
+}
+
+// How many names all open tables have.
+fn names_of(config: &Config) -> u32 {
+    let mut names = 0u32;
+    for rule in config.opens.as_slice() {
+        names = names.saturating_add(rule.names);
+    }
+    names
 }
 
 // What a configuration allows.
@@ -195,6 +221,9 @@ fn show(alloc: Global, config: &Config, sums: &Sums) -> Result<String, AllocErro
     )?;
     for (place, rule) in config.places.as_slice().iter().enumerate() {
         add_stream(alloc, &mut text, place, rule)?;
+    }
+    for rule in config.opens.as_slice() {
+        add_open(alloc, &mut text, rule)?;
     }
     let Sums {
         all,
@@ -249,8 +278,8 @@ pub fn command<R: Eprint + Files<File = File>>(host: &HostRuntime, rt: &R, name:
             let limits = &config.limits;
             let sums = Sums {
                 all: sum(&config),
-                streams: sum_of(limits, config.places.len() as u32, 0, 0),
-                links: sum_of(limits, 0, config.workers * config.links, 0),
+                streams: sum_of(limits, config.places.len() as u32, names_of(&config), 0, 0),
+                links: sum_of(limits, 0, 0, config.workers * config.links, 0),
             };
             match show(alloc, &config, &sums) {
                 Ok(text) => tell(host, &text),

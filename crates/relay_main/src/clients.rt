@@ -1,7 +1,9 @@
 //! `relay push` and `relay pull`: the link to a server, and what is said on standard error.
 
 use crate::adapters::{Reading, Writing};
-use crate::{BAD_INPUT, BAD_WORDS, NO_MEMORY, READ_FAULT, WRITE_FAULT, status, tell_fault};
+use crate::{
+    BAD_INPUT, BAD_WORDS, LINK_FAULT, NO_MEMORY, READ_FAULT, WRITE_FAULT, status, tell_fault,
+};
 use client_command::{Ended, pull, push, target_of};
 use client_owed::Wish;
 use relay_base::Status;
@@ -13,9 +15,6 @@ use std::{io, net, str};
 
 /// The exit code of a connection that the server closed.
 const CLOSED: u8 = 10;
-
-/// The exit code of a connection that failed, or couldn't be made.
-const LINK_FAULT: u8 = 11;
 
 /// The exit code of a server whose bytes are no RTMP.
 const NO_RTMP: u8 = 12;

@@ -7,15 +7,17 @@ ghost use Rattle.key_guard.specs.Allowed.{is_allowed};
 mod adapters;
 mod check_config;
 mod clients;
+mod control;
 mod script;
 mod segments;
 mod serve;
 mod spot;
 mod texts;
+mod watching;
 
 use adapters::{Reading, Writing};
 use file_commands::{Remuxed, remux_and_tell};
-use key_guard::{Grants, Guard, Guards, Mode, by_digest, by_name};
+use key_guard::{Grants, Guard, Guards, Mode, by_digest, by_name, by_named};
 use relay_base::Status;
 use relay_edge::Shown;
 use relay_outside::{Sink, Source};
@@ -50,6 +52,9 @@ const LEFT_OUT: u8 = 8;
 
 /// The exit code of a film of which more than 100,000 segments would be made.
 const TOO_MANY: u8 = 9;
+
+/// The exit code of a connection that failed, or couldn't be made.
+const LINK_FAULT: u8 = 11;
 
 // The words after the program's name. One that isn't UTF-8 is invalid data.
 fn words(rt: &HostRuntime) -> io::Result<Vec<Vec<u8>>> {
@@ -106,17 +111,24 @@ fn tell_refusal<R: Read + Drop>(
 }
 
 // Whether the grants allow the key in mode `Plain`.
-fn is_named(grants: &Grants, key: &[u8]) -> bool
-    ensures { result ≡ is_allowed Mode.Plain grants.now key.now }
+fn is_plain(grants: &Grants, name: &[u8], key: &[u8]) -> bool
+    ensures { result ≡ is_allowed Mode.Plain grants.now name.now key.now }
 {
-    by_name(grants, key)
+    by_name(grants, name, key)
 }
 
 // Whether the grants allow the key in mode `Digest`.
-fn is_digested(grants: &Grants, key: &[u8]) -> bool
-    ensures { result ≡ is_allowed Mode.Digest grants.now key.now }
+fn is_digested(grants: &Grants, name: &[u8], key: &[u8]) -> bool
+    ensures { result ≡ is_allowed Mode.Digest grants.now name.now key.now }
 {
-    by_digest(grants, key)
+    by_digest(grants, name, key)
+}
+
+// Whether the grants allow the key for the name in mode `Named`.
+fn is_named(grants: &Grants, name: &[u8], key: &[u8]) -> bool
+    ensures { result ≡ is_allowed Mode.Named grants.now name.now key.now }
+{
+    by_named(grants, name, key)
 }
 
 // Makes a transport stream of a file of FLV, and says on standard error what of the file isn't in it.
@@ -247,16 +259,24 @@ fn answer<
         }
     }
     let alloc = host.alloc();
-    let Ok(named) = Box::new(alloc, is_named) else {
+    let Ok(plain) = Box::new(alloc, is_plain) else {
         return status(NO_MEMORY);
     };
     let Ok(digested) = Box::new(alloc, is_digested) else {
         return status(NO_MEMORY);
     };
-    let plain = Guard::new(Mode::Plain, named);
-    let guards = Guards::new(plain, Guard::new(Mode::Digest, digested));
+    let Ok(named) = Box::new(alloc, is_named) else {
+        return status(NO_MEMORY);
+    };
+    let guards = Guards::new(
+        Guard::new(Mode::Plain, plain),
+        Guard::new(Mode::Digest, digested),
+        Guard::new(Mode::Named, named),
+    );
     if is_first(words, "serve") {
         serve::command(host, rt, words, &guards)
+    } else if is_first(words, "stop") || is_first(words, "stats") {
+        control::command(host, rt, words)
     } else if is_first(words, "segment") {
         segments::command(host, rt, words)
     } else if is_first(words, "push") {

@@ -2,7 +2,8 @@
 
 use crate::adapters::{ConfigFile, Reading, Writing};
 use crate::check_config::explain;
-use crate::{BAD_INPUT, NO_MEMORY, READ_FAULT, WRITE_FAULT, status, tell_fault};
+use crate::watching::{Unfit, tell_unfit, watching};
+use crate::{BAD_INPUT, BAD_WORDS, NO_MEMORY, READ_FAULT, WRITE_FAULT, status, tell_fault};
 use key_guard::Guards;
 use relay_base::Status;
 use relay_edge::RealHouse;
@@ -33,9 +34,17 @@ pub fn command<
 >(host: &HostRuntime, rt: &T, words: &[Vec<u8>], guards: &Guards) -> Status {
     let alloc = host.alloc();
     let name = file_name(words);
+    let watching = match watching(host) {
+        Ok(watching) => watching,
+        Err(Unfit::OutOfMemory) => return status(NO_MEMORY),
+        Err(Unfit::Variable { name, wanted }) => {
+            tell_unfit(host, name, wanted);
+            return status(BAD_WORDS);
+        }
+    };
     let mut config = Reading::new(ConfigFile::open(rt, name));
     let mut report = Writing::new(io::writer(host));
-    let Ok(mut house) = RealHouse::new(rt, alloc) else {
+    let Ok(mut house) = RealHouse::watched(rt, alloc, watching) else {
         return status(NO_MEMORY);
     };
     house.spare(name);
@@ -48,6 +57,7 @@ pub fn command<
         &mut house,
         &mut report,
     );
+    house.clear();
     match ended.code {
         READ_FAULT => tell_fault(host, name, config.error()),
         BAD_INPUT => explain(rt, alloc, name),

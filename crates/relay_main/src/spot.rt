@@ -33,26 +33,49 @@ pub fn spot_at(text: &[u8], place: usize) -> Spot {
     spot
 }
 
-// The lines from one table's header up to the next, or those before the first. A listed one is a `[[stream]]`.
+// What a part of a text is.
+#[derive(Clone, Copy, PartialEq, Eq)]
+enum List {
+    // No table of a list.
+    Nothing,
+    Stream,
+    Open,
+}
+
+// The lines from one table's header up to the next, or those before the first.
 #[derive(Clone, Drop)]
 struct Part {
     lines: Range<usize>,
-    listed: bool,
+    list: List,
+}
+
+impl Part {
+    // Whether it is one of a list of tables.
+    fn is_listed(&self) -> bool {
+        self.list != List::Nothing
+    }
 }
 
 fn is_header(line: &[u8]) -> bool {
     line.trim_ascii_start().starts_with(b"[")
 }
 
-fn is_listed(line: &[u8]) -> bool {
-    line.trim_ascii_start().starts_with(b"[[stream]]")
+fn list_of(line: &[u8]) -> List {
+    let line = line.trim_ascii_start();
+    if line.starts_with(b"[[stream]]") {
+        List::Stream
+    } else if line.starts_with(b"[[open]]") {
+        List::Open
+    } else {
+        List::Nothing
+    }
 }
 
 fn parts(alloc: Global, text: &[u8]) -> Result<Vec<Part>, AllocError> {
     let mut parts = Vec::new(alloc);
     let mut part = Part {
         lines: 0..0,
-        listed: false,
+        list: List::Nothing,
     };
     let mut at = 0usize;
     for line in text.split(|byte| *byte == b'\n') {
@@ -60,7 +83,7 @@ fn parts(alloc: Global, text: &[u8]) -> Result<Vec<Part>, AllocError> {
             parts.push(part)?;
             part = Part {
                 lines: at..at,
-                listed: is_listed(line),
+                list: list_of(line),
             };
         }
         at = at.saturating_add(line.len()).saturating_add(1);
@@ -83,7 +106,7 @@ fn fails_so(
     fail: &ConfigFail,
 ) -> bool {
     let mut some = Vec::new(alloc);
-    for part in parts.iter().filter(|part| !part.listed).chain(only) {
+    for part in parts.iter().filter(|part| !part.is_listed()).chain(only) {
         if some.extend_from_slice(lines_of(text, part)).is_err() {
             return false;
         }
@@ -117,6 +140,13 @@ fn key_in(text: &[u8], part: &Part, key: &[u8]) -> Option<usize> {
     None
 }
 
+// The table at this place, the streams first.
+fn nth(parts: &[Part], place: usize) -> Option<&Part> {
+    let streams = parts.iter().filter(|part| part.list == List::Stream);
+    let opens = parts.iter().filter(|part| part.list == List::Open);
+    streams.chain(opens).nth(place)
+}
+
 // The part in which the test fails, where it is one part's.
 fn part_of<'a>(
     alloc: Global,
@@ -125,21 +155,21 @@ fn part_of<'a>(
     fail: &ConfigFail,
 ) -> Option<&'a Part> {
     if let ConfigFail::Twice { place } = fail {
-        return parts.iter().filter(|part| part.listed).nth(*place as usize);
+        return nth(parts, *place as usize);
     }
     if fails_so(alloc, text, parts, None, fail) {
         return None;
     }
     parts
         .iter()
-        .filter(|part| part.listed)
+        .filter(|part| part.is_listed())
         .find(|part| fails_so(alloc, text, parts, Some(*part), fail))
 }
 
 // The table `relay`, where it lacks the key.
 fn relay_part<'a>(text: &[u8], parts: &'a [Part], key: &Key) -> Option<&'a Part> {
     match key {
-        Key::Relay | Key::Stream => None,
+        Key::Relay | Key::Stream | Key::Open => None,
         _ => parts.iter().find(|part| lines_of(text, part)
             .trim_ascii_start()
             .starts_with(b"[relay]")),
@@ -168,7 +198,7 @@ fn key_of(text: &[u8], parts: &[Part], part: Option<&Part>, key: &[u8]) -> Optio
         Some(part) => key_in(text, part, key),
         None => parts
             .iter()
-            .filter(|part| !part.listed)
+            .filter(|part| !part.is_listed())
             .find_map(|part| key_in(text, part, key)),
     }
 }

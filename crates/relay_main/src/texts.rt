@@ -3,6 +3,8 @@
 pub const VERSION: &str = "relay 0.1.0\n";
 
 pub const USAGE: &str = "usage: relay serve FILE
+       relay stats PATH [--json]
+       relay stop PATH
        relay check-config FILE
        relay drill < SCRIPT
        relay replay < SCRIPT
@@ -19,8 +21,10 @@ pub const USAGE: &str = "usage: relay serve FILE
 pub const ABOUT: &str = "relay: a live video relay, whose rules are proved\n";
 
 /// Each command with what is told of it.
-pub const COMMANDS: [(&str, &str); 10] = [
+pub const COMMANDS: [(&str, &str); 12] = [
     ("serve", SERVE),
+    ("stats", STATS),
+    ("stop", STOP),
     ("check-config", CHECK_CONFIG),
     ("drill", DRILL),
     ("replay", REPLAY),
@@ -35,7 +39,28 @@ pub const COMMANDS: [(&str, &str); 10] = [
 const SERVE: &str = "relay serve listens as the configuration in FILE says: encoders publish to it
 over RTMP, players pull from it, and recorders write files. It says on standard
 error where it listens. With a bound on its links it ends when the last is gone,
-and prints a line for each stream; else it serves until it is killed.
+or else when it is told to stop, and prints a line for each stream. By variables
+of the environment:
+  RELAY_LOG=LEVEL      what is logged on standard error: off, error, warn, info
+                       or debug, each with those before it; info if not set
+  RELAY_SILENCE=N      a publisher that gives nothing for N seconds ends, and a
+                       connection that neither publishes nor plays by then; a
+                       player that takes nothing of what waits after 3 times N;
+                       20 if not set, and 0 for never
+  RELAY_CONTROL=PATH   the Unix socket for stats and stop, which only its owner
+                       may use; none if not set
+";
+
+const STATS: &str =
+    "relay stats asks the server whose RELAY_CONTROL is PATH what it does, and prints
+a line for each connection and each stream: who it is and what it does, its bytes
+each way, for how long it is there, and how far a player is behind its stream, in
+seconds. With --json it prints the same for programs.
+";
+
+const STOP: &str = "relay stop tells the server whose RELAY_CONTROL is PATH to stop, and waits until
+it has ended: it takes no more connections, publishers end, players are sent what
+is left and told the end, recordings are finished, and it prints its report.
 ";
 
 const CHECK_CONFIG: &str =
@@ -44,8 +69,9 @@ listens nowhere. It prints what the configuration allows: where the server would
 listen, its streams, and the most bytes that it holds at once with their parts.
 ";
 
-const DRILL: &str = "relay drill reads a script of calls at one stream on standard input, makes
-each call, and prints its reply on standard output as it goes.
+const DRILL: &str = "relay drill reads a script of calls at one stream, or at one open table, on
+standard input, makes each call, and prints its reply on standard output as it
+goes.
 
 Lines end with a line feed; the last may lack it. Words are parted by one
 space. An empty line, and a line that begins with '#', does nothing. Numbers
@@ -55,23 +81,30 @@ are decimal digits without a sign or a leading zero.
       The stream's window has at most BYTES bytes and ITEMS items, and the
       stream has PLAYERS places. No line before may have done something, and
       nothing is printed. Without it they are 33554432, 16384 and 256.
-  begin WHO
+  pool SLOTS
+      The script is of an open table, which has room for SLOTS names at a time:
+      each has a slot, a stream with these limits. No line before but ring may
+      have done something, and nothing is printed. Behind it begin and join have
+      a NAME, and without it they have none.
+  begin WHO, begin WHO NAME
       WHO begins to publish.
       began N              its Begin is item N
       inuse BY             BY publishes already
+      noslot SLOTS         no slot has the name, and none is idle
   push WHO KIND TIME LEN
       WHO publishes a unit of LEN zero bytes at TIME milliseconds. KIND is
-      meta, vconfig, aconfig, key, inter, audio or data.
+      meta, vconfig, aconfig, key, inter, spare, audio or data.
       pushed N             the unit is item N
       notpublisher LIVE    LIVE publishes and not WHO; - where nobody does
   end WHO
       WHO ends its broadcast.
       ended N              its End is item N
       notpublisher LIVE    as for push
-  join WHO
+  join WHO, join WHO NAME
       WHO becomes a player.
       joined PLAYER FROM   its place is PLAYER, and stands at item FROM
       full                 every place is taken
+      noslot SLOTS         as for begin
   take WHO PLAYER WANT
       WHO takes what comes next in its place PLAYER. WANT is av for audio and
       video, a for audio alone, v for video alone, or n for neither.
@@ -89,19 +122,21 @@ are decimal digits without a sign or a leading zero.
       counts BEGAN PUSHED ENDED JOINED SKIPS
   held
       How many bytes of bodies the stream holds: those of its window, and of the
-      configurations in effect where the window begins.
+      configurations in effect where the window begins. At an open table, those
+      of each slot, and the lengths of the slots' names.
       held BYTES
 
 WHO and TIME are below 4294967296, PLAYER is below 256. LEN is at most 4194304,
 and at most 65536 for meta, vconfig and aconfig. BYTES is at most 268435456,
-ITEMS 1 to 65536, and PLAYERS 1 to 256. An item costs its bytes and 64 more. A
-line has at most 65536 bytes, and a script at most 268435456.
+ITEMS 1 to 65536, PLAYERS 1 to 256, and SLOTS 1 to 64. NAME is 1 to 64 letters,
+digits, '.', '_' or '-'. An item costs its bytes and 64 more. A line has at most
+65536 bytes, and a script at most 268435456.
 ";
 
 const REPLAY: &str =
     "relay replay reads a script of connections on standard input, and prints at its
-end what each was sent and how it ended. Sessions, recorders and streams are
-numbered from 0, in the order of their lines.
+end what each was sent and how it ended. Sessions, recorders, streams and open
+tables are numbered from 0, each kind in the order of its lines.
 
   limits M R N P W
       A message has at most M bytes. The window of a stream has at most R bytes
@@ -114,10 +149,15 @@ numbered from 0, in the order of their lines.
       Only who has a key may be the publisher (ROLE publish) or a player (play)
       of stream S; KEY is one more. MODE is plain, or digest where KEY is the
       64 digits of the key's SHA-256. A stream has one mode.
+  openapp APP N
+      An open table: an app whose streams nobody listed, with N names at a time.
+  guardopen O ROLE MODE KEY
+      The same as guard of open table O. MODE may also be named, where KEY is the
+      64 digits of the SHA-256 of a name, ':' and a key, good for that name alone.
   record S FORM
       A recorder of stream S. FORM is flv, or ts for a transport stream.
   open
-      A session. There are at most 64, and 64 streams.
+      A session. There are at most 64, and 64 streams and names together.
   in S HEX
       Session S is given the bytes that the digits HEX name.
   eof S
@@ -133,7 +173,7 @@ numbered from 0, in the order of their lines.
   quit S
       Session S is told to end.
 
-The first four stand before all others. One that has ended does nothing more.
+The first six stand before all others. One that has ended does nothing more.
 APP and NAME are 1 to 64 letters, digits, '.', '_' or '-'. K is 1 to 1000000. It
 prints, with digits for bytes and - for none:
 
@@ -145,7 +185,7 @@ prints, with digits for bytes and - for none:
   recorder R file HEX
   recorder R end E
       E is none, sinkfault, full or worn.
-  stream S held BYTES
+  stream S held BYTES, open O held BYTES
       as drill's held
   held TOTAL sum SUM
       What all hold together, and the most that they may.
@@ -216,7 +256,7 @@ pub const STATUS: &str = "Exit status:
   8  the file was read to its end, and a unit of sound or pictures was left out
   9  by segment: there would be more than 100000 segments
   10 by push and pull: the server closed the connection
-  11 by push and pull: there was no connection, or it failed
+  11 by push, pull, stats and stop: there was no connection, or it failed
   12 by push and pull: what the server sent is no RTMP from byte PLACE on
   13 by push and pull: the server refused what was asked for
 Where it isn't 0, the last line on standard error is 'relay: status CODE at

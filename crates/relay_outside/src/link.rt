@@ -5,6 +5,8 @@ ghost use Rattle.relay_outside.specs.Told.{LinkTold, LinkCounts};
 ghost use Rattle.relay_outside.specs.Heard.{Came, came, HeardCount, CameTold, CameCounts, HearStep};
 ghost use Rattle.relay_outside.specs.Said.{SaidCount, SaidTold, SaidCounts, SayStep};
 
+use crate::News;
+
 /// The answer of a link that is asked for bytes.
 #[derive(Clone, Copy, Debug, PartialEq, Eq)]
 pub enum Heard {
@@ -64,6 +66,10 @@ pub trait Link: Drop {
         ensures count { SaidCount piece.now result }
         ensures told { SaidTold (told self.old) (told self.new) piece.now result }
         ensures cause { SaidCounts (counts self.old) (counts self.new) result };
+
+    /// Is told what is done over it, with the application and the name that it is about, empty where there is none. What it does
+    /// with that is its own affair: it stays as it is.
+    fn tell(&self, news: News, app: &[u8], name: &[u8]);
 
     // What a step means, for callers that know only that it was made.
     ghost hears_mean: { (l : Self) (room : ℕ) (answer : Came) (m : Self) → 0 < room → hears l room answer m

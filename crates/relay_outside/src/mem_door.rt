@@ -6,7 +6,7 @@ ghost use Rattle.relay_outside.specs.MemLinks.{mem_told, MemHears, MemSays};
 ghost use Rattle.relay_outside.specs.MemLinkLaws.{mem_hears_mean, mem_says_mean};
 
 use crate::calls::Calls;
-use crate::{Door, Heard, Knock, Link, MemLink, Said};
+use crate::{Door, Heard, Knock, Link, MemLink, News, Said};
 use std::alloc::{AllocError, Global};
 use std::collections::VecDeque;
 use std::marker::Model;
@@ -42,6 +42,11 @@ impl DoorLink {
     {
         self.link.sent()
     }
+
+    /// Hands over the lines of what it was told, and keeps none.
+    pub fn take_told(&self) -> Vec<u8> {
+        self.link.take_told()
+    }
 }
 
 impl Link for DoorLink {
@@ -59,6 +64,10 @@ impl Link for DoorLink {
 
     fn send(&mut self, piece: &[u8]) -> Said {
         self.link.send(piece)
+    }
+
+    fn tell(&self, news: News, app: &[u8], name: &[u8]) {
+        self.link.tell(news, app, name);
     }
 
     ghost hears_mean = { mem_hears_mean };

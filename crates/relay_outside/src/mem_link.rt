@@ -5,9 +5,10 @@ ghost use Rattle.relay_outside.specs.MemLinkLaws.{mem_hears_mean, mem_says_mean}
 
 use crate::pieces::Pieces;
 use crate::tally::Tally;
-use crate::{Heard, Link, Said};
+use crate::{Heard, Link, News, Said};
 use past::Flow;
 use std::alloc::{AllocError, Global};
+use std::cell::Cell;
 use std::marker::Model;
 
 /// A link in memory. It tells its bytes.
@@ -27,6 +28,7 @@ pub struct MemLink {
     recv_due: bool,
     send_due: bool,
     tally: Tally,
+    told: Cell<Vec<u8>>,
 }
 
 impl Model for MemLink {
@@ -67,6 +69,22 @@ fn lessened(space: Option<u64>, count: usize) -> Option<u64>
     }
 }
 
+// Adds a line of what a link was told.
+fn add_line(
+    alloc: Global,
+    lines: &mut Vec<u8>,
+    news: News,
+    app: &[u8],
+    name: &[u8],
+) -> Result<(), AllocError> {
+    let words = format!(in alloc; "{news} ")?;
+    lines.extend_from_slice(words.as_bytes())?;
+    lines.extend_from_slice(app)?;
+    lines.push(b'/')?;
+    lines.extend_from_slice(name)?;
+    lines.extend_from_slice(b"\n")
+}
+
 impl MemLink {
     /// A link without input that has room for all.
     pub fn new(alloc: Global) -> MemLink
@@ -93,6 +111,7 @@ impl MemLink {
             recv_due: false,
             send_due: false,
             tally: Tally::new(),
+            told: Cell::new(Vec::new(alloc)),
         }
     }
 
@@ -147,6 +166,11 @@ impl MemLink {
         self.handed.add_all(&self.output);
         std::mem::replace(&mut self.output, Vec::new(self.alloc))
     }
+
+    /// Hands over the lines of what it was told, `NEWS APP/NAME` each, and keeps none. A line for which there was no memory lacks.
+    pub fn take_told(&self) -> Vec<u8> {
+        self.told.replace(Vec::new(self.alloc))
+    }
 }
 
 impl Link for MemLink {
@@ -196,6 +220,12 @@ impl Link for MemLink {
             }
             Err(_) => Said::OutOfMemory,
         }
+    }
+
+    fn tell(&self, news: News, app: &[u8], name: &[u8]) {
+        let mut lines = self.told.replace(Vec::new(self.alloc));
+        let _ = add_line(self.alloc, &mut lines, news, app, name);
+        self.told.set(lines);
     }
 
     ghost hears_mean = { mem_hears_mean };

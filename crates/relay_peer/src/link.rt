@@ -6,7 +6,7 @@ ghost use Rattle.relay_outside.specs.Said.{SayStep};
 
 use crate::PeerRest;
 use mio::net::TcpStream;
-use relay_outside::{Heard, Link, Said};
+use relay_outside::{Heard, Link, News, Said};
 use std::io;
 use std::io::{ErrorKind, Read, Write};
 use std::marker::Model;
@@ -154,6 +154,8 @@ impl Link for PeerLink {
         self.failed = self.failed.saturating_add(1);
         Said::Failed
     }
+
+    fn tell(&self, _news: News, _app: &[u8], _name: &[u8]) {}
 
     ghost hears_mean = { λ l room answer m some step. step };
 

@@ -1,0 +1,149 @@
+//! The log's lines, on standard error.
+
+use libc::STDERR_FILENO;
+use libc::net::{POLLOUT, poll};
+use libc::types::pollfd;
+use log::kv::Source;
+use log::span::Spans;
+use log::{Log, Metadata, Record};
+use std::fmt::{Display, Write};
+use std::sync::atomic::{AtomicBool, AtomicU64, Ordering};
+use std::{fmt, str};
+
+/// As many bytes as a line has at most, with what tells of lines that were lost: less than a pipe takes at once.
+const MOST: usize = 1024;
+
+/// So often a thread looks whether another has written its line, and lets others run.
+const LOOKS: u32 = 300;
+
+/// Whether standard error has room for a line, within so many milliseconds. A pipe that nobody reads any more has none.
+pub fn is_ready(milliseconds: i32) -> bool {
+    let mut asked = [pollfd {
+        fd: STDERR_FILENO,
+        events: POLLOUT,
+        revents: 0,
+    }];
+    poll(&mut asked, milliseconds) == 1 && asked[0].revents == POLLOUT
+}
+
+// A line of text, cut where it is too long.
+#[derive(Drop)]
+struct Line {
+    bytes: [u8; MOST],
+    len: usize,
+}
+
+impl Line {
+    fn new() -> Line {
+        Line {
+            bytes: [0; MOST],
+            len: 0,
+        }
+    }
+
+    // Adds a byte, where there is room.
+    fn add(&mut self, byte: u8) {
+        if let Some(free) = self.bytes.get_mut(self.len) {
+            *free = byte;
+            self.len = self.len.saturating_add(1);
+        }
+    }
+
+    // Ends it. The last byte makes room where there is none.
+    fn end(&mut self) {
+        self.len = self.len.min(MOST - 1);
+        self.add(b'\n');
+    }
+
+    fn text(&self) -> &[u8] {
+        match self.bytes.get(..self.len) {
+            Some(text) => text,
+            None => &[],
+        }
+    }
+}
+
+impl Write for Line {
+    fn write_str(&mut self, s: &str) -> fmt::Result {
+        for byte in s.as_bytes() {
+            self.add(*byte);
+        }
+        Ok(())
+    }
+}
+
+/// Writes each record's message to standard error, as a line by one call. Where there is no room for it, it is lost and counted: no
+/// thread waits for one who reads the log. The next line that is written tells how many were lost.
+#[derive(Drop)]
+pub struct Journal {
+    busy: AtomicBool,
+    missed: AtomicU64,
+}
+
+impl Journal {
+    pub fn new() -> Journal {
+        Journal {
+            busy: AtomicBool::new(false),
+            missed: AtomicU64::new(0),
+        }
+    }
+
+    /// How many lines were lost and not told.
+    pub fn missed(&self) -> u64 {
+        self.missed.load(Ordering::SeqCst)
+    }
+
+    // Whether no other thread writes. Then this one does.
+    fn begin(&self) -> bool {
+        for _ in 0..LOOKS {
+            if !self.busy.swap(true, Ordering::SeqCst) {
+                return true;
+            }
+            libc::sched_yield();
+        }
+        false
+    }
+
+    // Writes a line, after how many were lost before.
+    fn put<D: Display>(&self, message: &D) -> bool {
+        if !is_ready(0) {
+            return false;
+        }
+        let missed = self.missed();
+        let mut line = Line::new();
+        if missed > 0 {
+            let _ = write!(line, "relay: lost {missed} lines of the log");
+            line.end();
+        }
+        let _ = write!(line, "{message}");
+        line.end();
+        if libc::write(STDERR_FILENO, line.text()) < 0 {
+            return false;
+        }
+        self.missed.fetch_sub(missed, Ordering::SeqCst);
+        true
+    }
+}
+
+impl Log for Journal {
+    fn enabled(&self, _metadata: &Metadata<'_>) -> bool {
+        true
+    }
+
+    fn log<D: Display, K: Source, S: Spans>(&self, record: &Record<'_, D, K, S>) {
+        if self.begin() {
+            let written = self.put(record.args());
+            self.busy.store(false, Ordering::SeqCst);
+            if written {
+                return;
+            }
+        }
+        self.missed.fetch_add(1, Ordering::SeqCst);
+    }
+
+    fn flush(&self) {}
+
+    fn target(&self) -> &str {
+        ""
+    }
+}

@@ -1,0 +1,187 @@
+//! What the links of a worker are and do, for those who ask how a server is.
+
+use crate::cells::MOST_LINKS;
+use std::alloc::{AllocError, Global};
+use std::net::SocketAddr;
+use std::sync::atomic::{AtomicBool, AtomicU64, Ordering};
+use std::sync::{Mutex, MutexGuard};
+
+/// So often one looks whether another has let go, and lets others run.
+const LOOKS: u32 = 300;
+
+/// Lends what a lock keeps, where nobody has it for long.
+pub fn held<T>(lock: &Mutex<T>) -> Option<MutexGuard<'_, T>> {
+    for _ in 0..LOOKS {
+        if let Some(guard) = lock.try_lock() {
+            return Some(guard);
+        }
+        libc::sched_yield();
+    }
+    None
+}
+
+/// What is done over a link.
+#[derive(Clone, Copy, PartialEq, Eq)]
+pub enum Doing {
+    Nothing,
+    Connected,
+    Publishes,
+    Plays,
+}
+
+/// What a link is told, with the address of its peer.
+#[derive(Drop)]
+pub struct Told {
+    pub address: Option<SocketAddr>,
+    pub doing: Doing,
+    pub app: Vec<u8>,
+    pub name: Vec<u8>,
+}
+
+impl Told {
+    fn nothing(alloc: Global, address: Option<SocketAddr>) -> Told {
+        Told {
+            address,
+            doing: Doing::Nothing,
+            app: Vec::new(alloc),
+            name: Vec::new(alloc),
+        }
+    }
+}
+
+/// The seat of a link. Times are in milliseconds of the clock.
+#[derive(Drop)]
+pub struct Seat {
+    taken: AtomicBool,
+    told: Mutex<Told>,
+    begun: AtomicU64,
+    received: AtomicU64,
+    sent: AtomicU64,
+    // When it had been sent all that there was last.
+    even: AtomicU64,
+}
+
+/// What a seat has at some moment. `even` is when the link had been sent all that there was last.
+#[derive(Drop)]
+pub struct Sight {
+    pub address: SocketAddr,
+    pub doing: Doing,
+    pub app: Vec<u8>,
+    pub name: Vec<u8>,
+    pub begun: u64,
+    pub received: u64,
+    pub sent: u64,
+    pub even: u64,
+}
+
+impl Seat {
+    fn new(alloc: Global) -> Seat {
+        Seat {
+            taken: AtomicBool::new(false),
+            told: Mutex::new(Told::nothing(alloc, None)),
+            begun: AtomicU64::new(0),
+            received: AtomicU64::new(0),
+            sent: AtomicU64::new(0),
+            even: AtomicU64::new(0),
+        }
+    }
+
+    /// A link comes.
+    pub fn take(&self, alloc: Global, address: SocketAddr, now: u64) {
+        if let Some(mut told) = held(&self.told) {
+            *told = Told::nothing(alloc, Some(address));
+        }
+        self.begun.store(now, Ordering::SeqCst);
+        self.even.store(now, Ordering::SeqCst);
+        self.received.store(0, Ordering::SeqCst);
+        self.sent.store(0, Ordering::SeqCst);
+        self.taken.store(true, Ordering::SeqCst);
+    }
+
+    /// It goes.
+    pub fn leave(&self) {
+        self.taken.store(false, Ordering::SeqCst);
+    }
+
+    /// What is done over it changes.
+    pub fn tell(&self, alloc: Global, doing: Doing, app: &[u8], name: &[u8]) {
+        if let Some(mut told) = held(&self.told) {
+            let told = &mut *told;
+            told.doing = doing;
+            told.app = app.to_vec(alloc).unwrap_or(Vec::new(alloc));
+            told.name = name.to_vec(alloc).unwrap_or(Vec::new(alloc));
+        }
+    }
+
+    pub fn receive(&self, count: usize) {
+        self.received.fetch_add(count as u64, Ordering::SeqCst);
+    }
+
+    pub fn send(&self, count: usize) {
+        self.sent.fetch_add(count as u64, Ordering::SeqCst);
+    }
+
+    /// It has been sent all that there is now.
+    pub fn level(&self, now: u64) {
+        if self.even.load(Ordering::SeqCst) != now {
+            self.even.store(now, Ordering::SeqCst);
+        }
+    }
+
+    // What it has, where a link is there.
+    fn sight(&self, alloc: Global) -> Result<Option<Sight>, AllocError> {
+        if !self.taken.load(Ordering::SeqCst) {
+            return Ok(None);
+        }
+        let Some(told) = held(&self.told) else {
+            return Ok(None);
+        };
+        let Some(address) = told.address else {
+            return Ok(None);
+        };
+        Ok(Some(Sight {
+            address,
+            doing: told.doing,
+            app: told.app.as_slice().to_vec(alloc)?,
+            name: told.name.as_slice().to_vec(alloc)?,
+            begun: self.begun.load(Ordering::SeqCst),
+            received: self.received.load(Ordering::SeqCst),
+            sent: self.sent.load(Ordering::SeqCst),
+            even: self.even.load(Ordering::SeqCst),
+        }))
+    }
+}
+
+/// The seats of a worker, by the tokens of its links.
+#[derive(Drop)]
+pub struct Seats {
+    list: Vec<Seat>,
+}
+
+impl Seats {
+    pub fn new(alloc: Global) -> Result<Seats, AllocError> {
+        let mut list = Vec::new(alloc);
+        for _ in 0..=MOST_LINKS {
+            if list.push(Seat::new(alloc)).is_err() {
+                return Err(AllocError);
+            }
+        }
+        Ok(Seats { list })
+    }
+
+    pub fn get(&self, token: usize) -> Option<&Seat> {
+        self.list.get(token)
+    }
+
+    /// Adds what all seats have that are taken.
+    pub fn see(&self, alloc: Global, sights: &mut Vec<Sight>) -> Result<(), AllocError> {
+        for seat in self.list.as_slice() {
+            if let Some(sight) = seat.sight(alloc)? {
+                if sights.push(sight).is_err() {
+                    return Err(AllocError);
+                }
+            }
+        }
+        Ok(())
+    }
+}

@@ -1,0 +1,305 @@
+//! What a server is doing, as a table for people and as JSON for programs.
+
+use crate::seats::{Doing, Sight};
+use crate::shown::Written;
+use crate::watch::{Broadcasts, Watch};
+use std::alloc::{AllocError, Global};
+use std::fmt::{Display, Formatter};
+use std::net::SocketAddr;
+use std::{fmt, str};
+
+/// What a server is doing at some moment.
+#[derive(Drop)]
+pub struct Stats {
+    now: u64,
+    begun: u64,
+    missed: u64,
+    sights: Vec<Sight>,
+    broadcasts: Vec<Broadcasts>,
+}
+
+// So many milliseconds, in seconds and tenths.
+#[derive(Clone, Copy)]
+struct Seconds {
+    milliseconds: u64,
+}
+
+impl Display for Seconds {
+    fn fmt<W: fmt::Write>(&self, f: &mut Formatter<W>) -> fmt::Result {
+        let tenths = self.milliseconds % 1000 / 100;
+        write!(f, "{}.{tenths}", self.milliseconds / 1000)
+    }
+}
+
+// A name of a stream, as it is shown in a table.
+#[derive(Clone, Copy)]
+struct Name<'a> {
+    app: &'a [u8],
+    name: &'a [u8],
+}
+
+impl Display for Name<'_> {
+    fn fmt<W: fmt::Write>(&self, f: &mut Formatter<W>) -> fmt::Result {
+        let (app, name) = (Written { bytes: self.app }, Written { bytes: self.name });
+        if self.app.is_empty() && self.name.is_empty() {
+            f.write_str("-")
+        } else {
+            write!(f, "{app}/{name}")
+        }
+    }
+}
+
+// A text of JSON, of what a peer wrote.
+#[derive(Clone, Copy)]
+struct Quoted<'a> {
+    bytes: &'a [u8],
+}
+
+// Writes what is written to it without the two characters that JSON's texts can't have as they are.
+#[derive(Drop)]
+struct Escapes<'a, W> {
+    f: &'a mut Formatter<W>,
+}
+
+impl<W: fmt::Write> fmt::Write for Escapes<'_, W> {
+    fn write_str(&mut self, s: &str) -> fmt::Result {
+        for c in s.chars() {
+            if c == '"' || c == '\\' {
+                self.f.write_char('\\')?;
+            }
+            self.f.write_char(c)?;
+        }
+        Ok(())
+    }
+}
+
+impl Display for Quoted<'_> {
+    fn fmt<W: fmt::Write>(&self, f: &mut Formatter<W>) -> fmt::Result {
+        f.write_char('"')?;
+        let mut escapes = Escapes { f: &mut *f };
+        fmt::Write::write_fmt(
+            &mut escapes,
+            format_args!("{}", Written { bytes: self.bytes }),
+        )?;
+        f.write_char('"')
+    }
+}
+
+fn word_of(doing: Doing) -> &'static str {
+    match doing {
+        Doing::Nothing => "connects",
+        Doing::Connected => "is connected",
+        Doing::Publishes => "publishes",
+        Doing::Plays => "plays",
+    }
+}
+
+// How many players a name has, and who publishes it.
+fn roles(sights: &[Sight], stream: &Broadcasts) -> (u64, Option<SocketAddr>) {
+    let mut players = 0u64;
+    let mut publisher = None;
+    for sight in sights {
+        if stream.are_of(sight.app.as_slice(), sight.name.as_slice()) {
+            match sight.doing {
+                Doing::Plays => players = players.saturating_add(1),
+                Doing::Publishes => publisher = Some(sight.address),
+                _ => {}
+            }
+        }
+    }
+    (players, publisher)
+}
+
+// A name of each stream that somebody plays and nobody has published yet.
+fn add_waiting(
+    alloc: Global,
+    sights: &[Sight],
+    list: &mut Vec<Broadcasts>,
+) -> Result<(), AllocError> {
+    for sight in sights {
+        let (app, name) = (sight.app.as_slice(), sight.name.as_slice());
+        if sight.doing == Doing::Plays && !list.iter().any(|one| one.are_of(app, name)) {
+            let stream = Broadcasts {
+                app: app.to_vec(alloc)?,
+                name: name.to_vec(alloc)?,
+                count: 0,
+            };
+            if list.push(stream).is_err() {
+                return Err(AllocError);
+            }
+        }
+    }
+    Ok(())
+}
+
+impl Stats {
+    pub fn of(alloc: Global, watch: &Watch, now: u64) -> Result<Stats, AllocError> {
+        let sights = watch.see(alloc)?;
+        let mut broadcasts = watch.broadcasts(alloc)?;
+        add_waiting(alloc, sights.as_slice(), &mut broadcasts)?;
+        Ok(Stats {
+            now,
+            begun: watch.begun,
+            missed: watch.log.sink().missed(),
+            sights,
+            broadcasts,
+        })
+    }
+
+    // How long ago that was.
+    fn since(&self, then: u64) -> Seconds {
+        Seconds {
+            milliseconds: self.now.saturating_sub(then),
+        }
+    }
+
+    // How far behind its stream a link is, where it plays.
+    fn behind(&self, sight: &Sight) -> Option<Seconds> {
+        (sight.doing == Doing::Plays).then_some(self.since(sight.even))
+    }
+
+    fn add_link(&self, alloc: Global, text: &mut String, sight: &Sight) -> Result<(), AllocError> {
+        let address = format!(in alloc; "{}", sight.address)?;
+        let does = word_of(sight.doing);
+        let behind = match self.behind(sight) {
+            Some(seconds) => format!(in alloc; "{seconds}")?,
+            None => format!(in alloc; "-")?,
+        };
+        let seconds = format!(in alloc; "{}", self.since(sight.begun))?;
+        let (received, sent) = (sight.received, sight.sent);
+        let name = Name {
+            app: sight.app.as_slice(),
+            name: sight.name.as_slice(),
+        };
+        let line = format!(in alloc;
+            "{address:<22} {does:<12} {received:>13} {sent:>13} {seconds:>10} {behind:>8}  {name}\n"
+        )?;
+        text.push_str(&line)
+    }
+
+    fn add_stream(
+        &self,
+        alloc: Global,
+        text: &mut String,
+        stream: &Broadcasts,
+    ) -> Result<(), AllocError> {
+        let (players, publisher) = roles(self.sights.as_slice(), stream);
+        let publisher = match publisher {
+            Some(address) => format!(in alloc; "{address}")?,
+            None => format!(in alloc; "-")?,
+        };
+        let count = stream.count;
+        let name = Name {
+            app: stream.app.as_slice(),
+            name: stream.name.as_slice(),
+        };
+        let line = format!(in alloc; "{publisher:<22} {players:>7} {count:>10}  {name}\n")?;
+        text.push_str(&line)
+    }
+
+    /// A line for each link and for each stream.
+    pub fn table(&self, alloc: Global) -> Result<String, AllocError> {
+        let mut text = format!(in alloc;
+            "runs for {} s, {} links, lost {} lines of the log\n\n{:<22} {:<12} {:>13} {:>13} {:>10} {:>8}  {}\n",
+            self.since(self.begun),
+            self.sights.len(),
+            self.missed,
+            "LINK",
+            "DOES",
+            "BYTES IN",
+            "BYTES OUT",
+            "SECONDS",
+            "BEHIND",
+            "STREAM"
+        )?;
+        for sight in self.sights.as_slice() {
+            self.add_link(alloc, &mut text, sight)?;
+        }
+        let head = format!(in alloc;
+            "\n{:<22} {:>7} {:>10}  {}\n",
+            "PUBLISHER", "PLAYERS", "BROADCASTS", "STREAM"
+        )?;
+        text.push_str(&head)?;
+        for stream in self.broadcasts.as_slice() {
+            self.add_stream(alloc, &mut text, stream)?;
+        }
+        Ok(text)
+    }
+
+    fn add_json_link(
+        &self,
+        alloc: Global,
+        text: &mut String,
+        sight: &Sight,
+    ) -> Result<(), AllocError> {
+        let behind = match self.behind(sight) {
+            Some(seconds) => format!(in alloc; "{seconds}")?,
+            None => format!(in alloc; "null")?,
+        };
+        let does = word_of(sight.doing);
+        let app = Quoted {
+            bytes: sight.app.as_slice(),
+        };
+        let name = Quoted {
+            bytes: sight.name.as_slice(),
+        };
+        let (address, received, sent) = (sight.address, sight.received, sight.sent);
+        let seconds = self.since(sight.begun);
+        let line = format!(in alloc;
+            "{{\"address\": \"{address}\", \"does\": \"{does}\", \"app\": {app}, \"name\": {name}, "
+        )?;
+        text.push_str(&line)?;
+        let line = format!(in alloc;
+            "\"received\": {received}, \"sent\": {sent}, \"seconds\": {seconds}, \"behind\": {behind}}}"
+        )?;
+        text.push_str(&line)
+    }
+
+    fn add_json_stream(
+        &self,
+        alloc: Global,
+        text: &mut String,
+        stream: &Broadcasts,
+    ) -> Result<(), AllocError> {
+        let (players, publisher) = roles(self.sights.as_slice(), stream);
+        let publisher = match publisher {
+            Some(address) => format!(in alloc; "\"{address}\"")?,
+            None => format!(in alloc; "null")?,
+        };
+        let app = Quoted {
+            bytes: stream.app.as_slice(),
+        };
+        let name = Quoted {
+            bytes: stream.name.as_slice(),
+        };
+        let count = stream.count;
+        let line = format!(in alloc;
+            "{{\"app\": {app}, \"name\": {name}, \"publisher\": {publisher}, \"players\": {players}, \"broadcasts\": {count}}}"
+        )?;
+        text.push_str(&line)
+    }
+
+    /// An object with the links and the streams.
+    pub fn json(&self, alloc: Global) -> Result<String, AllocError> {
+        let mut text = format!(in alloc;
+            "{{\"seconds\": {}, \"lost_lines\": {}, \"links\": [",
+            self.since(self.begun),
+            self.missed
+        )?;
+        let mut first = true;
+        for sight in self.sights.as_slice() {
+            text.push_str(if first { "\n  " } else { ",\n  " })?;
+            first = false;
+            self.add_json_link(alloc, &mut text, sight)?;
+        }
+        text.push_str("], \"streams\": [")?;
+        first = true;
+        for stream in self.broadcasts.as_slice() {
+            text.push_str(if first { "\n  " } else { ",\n  " })?;
+            first = false;
+            self.add_json_stream(alloc, &mut text, stream)?;
+        }
+        text.push_str("]}\n")?;
+        Ok(text)
+    }
+}

@@ -1,0 +1,211 @@
+//! What a server tells of itself, and what it is told from outside.
+
+use crate::clock::milliseconds;
+use crate::journal::Journal;
+use crate::seats::{Seats, Sight, held};
+use log::{LevelFilter, Logged};
+use mio::net::UnixStream;
+use std::alloc::{AllocError, Global};
+use std::sync::atomic::{AtomicBool, AtomicU64, Ordering};
+use std::sync::{Arc, Mutex, OnceLock};
+
+/// As many workers as there may be: sixteen, and one of HTTP.
+pub const MOST_WORKERS: usize = 17;
+
+/// Of so many names broadcasts are counted.
+const MOST_NAMES: usize = 1024;
+
+/// How a server is watched.
+#[derive(Drop)]
+pub struct Watching {
+    /// Which lines its log has.
+    pub level: LevelFilter,
+    /// After how many seconds a link that gives nothing ends; 0 stands for never.
+    pub silence: u64,
+    /// Where the Unix socket is by which it is asked how it is and told to stop, if it has one.
+    pub control: Option<String>,
+}
+
+impl Watching {
+    /// It has no log and no socket, and a link may be silent for ever.
+    pub fn nothing() -> Watching {
+        Watching {
+            level: LevelFilter::Off,
+            silence: 0,
+            control: None,
+        }
+    }
+}
+
+/// How often somebody has begun to publish under a name.
+#[derive(Drop)]
+pub struct Broadcasts {
+    pub app: Vec<u8>,
+    pub name: Vec<u8>,
+    pub count: u64,
+}
+
+impl Broadcasts {
+    /// Whether they are those of that name.
+    pub fn are_of(&self, app: &[u8], name: &[u8]) -> bool {
+        self.app.as_slice() == app && self.name.as_slice() == name
+    }
+
+    fn copied(&self, alloc: Global) -> Result<Broadcasts, AllocError> {
+        Ok(Broadcasts {
+            app: self.app.as_slice().to_vec(alloc)?,
+            name: self.name.as_slice().to_vec(alloc)?,
+            count: self.count,
+        })
+    }
+}
+
+/// What all workers of a server share for those who watch it.
+#[derive(Drop)]
+pub struct Watch {
+    pub log: Logged<(), Journal>,
+    /// How many milliseconds a link may be silent; 0 stands for any number.
+    pub silence: u64,
+    /// When the server began, by the clock.
+    pub begun: u64,
+    seats: Vec<OnceLock<Arc<Seats, Global>>>,
+    broadcasts: Mutex<Vec<Broadcasts>>,
+    // Links that publish.
+    publishing: AtomicU64,
+    // When it was told to stop, by the clock, or 0.
+    stopped: AtomicU64,
+    // Who told it, and is to wait for its end.
+    waiting: OnceLock<UnixStream>,
+    // The log has told that all links are taken, and none is gone since.
+    crowded: AtomicBool,
+}
+
+// One more of a list.
+fn add<T: Drop>(list: &mut Vec<T>, item: T) -> Result<(), AllocError> {
+    match list.push(item) {
+        Ok(()) => Ok(()),
+        Err(_) => Err(AllocError),
+    }
+}
+
+impl Watch {
+    pub fn new(alloc: Global, watching: &Watching) -> Result<Arc<Watch, Global>, AllocError> {
+        let mut seats = Vec::new(alloc);
+        for _ in 0..MOST_WORKERS {
+            add(&mut seats, OnceLock::new())?;
+        }
+        let watch = Watch {
+            log: Logged::new((), watching.level, Journal::new()),
+            silence: watching.silence.saturating_mul(1000),
+            begun: milliseconds(),
+            seats,
+            broadcasts: Mutex::new(Vec::new(alloc)),
+            publishing: AtomicU64::new(0),
+            stopped: AtomicU64::new(0),
+            waiting: OnceLock::new(),
+            crowded: AtomicBool::new(false),
+        };
+        Ok(Arc::new(alloc, watch)?)
+    }
+
+    /// A worker begins.
+    pub fn join(&self, worker: usize, seats: Arc<Seats, Global>) {
+        if let Some(place) = self.seats.get(worker) {
+            let _ = place.try_set(seats);
+        }
+    }
+
+    /// What is done over all links.
+    pub fn see(&self, alloc: Global) -> Result<Vec<Sight>, AllocError> {
+        let mut sights = Vec::new(alloc);
+        for place in self.seats.as_slice() {
+            if let Some(seats) = place.get() {
+                seats.see(alloc, &mut sights)?;
+            }
+        }
+        Ok(sights)
+    }
+
+    /// Somebody begins to publish.
+    pub fn begin(&self, alloc: Global, app: &[u8], name: &[u8]) {
+        self.publishing.fetch_add(1, Ordering::SeqCst);
+        if let Some(mut list) = held(&self.broadcasts) {
+            let list = &mut *list;
+            for one in list.iter_mut() {
+                if one.are_of(app, name) {
+                    one.count = one.count.saturating_add(1);
+                    return;
+                }
+            }
+            if list.len() < MOST_NAMES {
+                let _ = add_name(alloc, list, app, name);
+            }
+        }
+    }
+
+    /// And ends.
+    pub fn end(&self) {
+        self.publishing.fetch_sub(1, Ordering::SeqCst);
+    }
+
+    /// Whether somebody publishes.
+    pub fn is_published(&self) -> bool {
+        self.publishing.load(Ordering::SeqCst) > 0
+    }
+
+    /// The broadcasts of each name.
+    pub fn broadcasts(&self, alloc: Global) -> Result<Vec<Broadcasts>, AllocError> {
+        let mut copies = Vec::new(alloc);
+        if let Some(list) = held(&self.broadcasts) {
+            for one in list.as_slice() {
+                add(&mut copies, one.copied(alloc)?)?;
+            }
+        }
+        Ok(copies)
+    }
+
+    /// The server is to stop. Who told it is let go at its very end.
+    pub fn stop(&self, who: UnixStream, now: u64) {
+        let _ = self.waiting.try_set(who);
+        if !self.is_stopped() {
+            self.stopped.store(now, Ordering::SeqCst);
+        }
+    }
+
+    /// Whether it was told to stop.
+    pub fn is_stopped(&self) -> bool {
+        self.stopped.load(Ordering::SeqCst) > 0
+    }
+
+    /// For how many milliseconds it has been stopping.
+    pub fn stopping(&self, now: u64) -> u64 {
+        now.saturating_sub(self.stopped.load(Ordering::SeqCst))
+    }
+
+    /// All links are taken, and one more waits. Whether that is new.
+    pub fn crowd(&self) -> bool {
+        !self.crowded.swap(true, Ordering::SeqCst)
+    }
+
+    /// One is gone.
+    pub fn thin(&self) {
+        if self.crowded.load(Ordering::SeqCst) {
+            self.crowded.store(false, Ordering::SeqCst);
+        }
+    }
+}
+
+// The first broadcast of a name.
+fn add_name(
+    alloc: Global,
+    list: &mut Vec<Broadcasts>,
+    app: &[u8],
+    name: &[u8],
+) -> Result<(), AllocError> {
+    let first = Broadcasts {
+        app: app.to_vec(alloc)?,
+        name: name.to_vec(alloc)?,
+        count: 1,
+    };
+    add(list, first)
+}
