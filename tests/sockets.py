@@ -24,7 +24,7 @@ failures = 0
 def fail(text):
     global failures
     failures += 1
-    print(f"tests/sockets.py: {text}")
+    print(f"{sys.argv[0]}: {text}")
 
 
 def expect(holds, text):
@@ -103,10 +103,14 @@ class Reader:
 
 
 class Client:
-    """A connection with its handshake made."""
+    """A connection with its handshake made. `room` is how much the system keeps of what comes."""
 
-    def __init__(self, port):
-        self.socket = socket.create_connection(("127.0.0.1", port), timeout=20)
+    def __init__(self, port, room=None):
+        self.socket = socket.socket()
+        self.socket.settimeout(20)
+        if room:
+            self.socket.setsockopt(socket.SOL_SOCKET, socket.SO_RCVBUF, room)
+        self.socket.connect(("127.0.0.1", port))
         self.socket.setsockopt(socket.IPPROTO_TCP, socket.TCP_NODELAY, 1)
         self.reader = Reader()
         self.socket.sendall(b"\x03" + bytes(1536))
@@ -174,9 +178,10 @@ class Client:
 # ------------------------------------------------------------------------------------------------ a server
 
 class Server:
-    """A server of streams by these names, and the lines of its configuration."""
+    """A server of streams by these names, the lines of its configuration, and the variables of its environment. A connection may be
+    silent for ever, where these don't say otherwise."""
 
-    def __init__(self, relay, folder, names, lines="", limit=None):
+    def __init__(self, relay, folder, names, lines="", limit=None, **variables):
         self.folder = folder
         config = os.path.join(folder, "relay.toml")
         with open(config, "w") as out:
@@ -184,7 +189,10 @@ class Server:
             for name, more in names.items():
                 out.write(f'[[stream]]\napp = "live"\nname = "{name}"\n{more}\n')
         before = (lambda: resource.setrlimit(resource.RLIMIT_FSIZE, (limit, limit))) if limit else None
-        self.process = subprocess.Popen([relay, "serve", config], cwd=folder, stdout=subprocess.PIPE, stderr=subprocess.PIPE, preexec_fn=before)
+        variables = {**os.environ, "RELAY_LOG": "error", "RELAY_SILENCE": "0", **variables}
+        self.process = subprocess.Popen(
+            [relay, "serve", config], cwd=folder, env=variables, stdout=subprocess.PIPE, stderr=subprocess.PIPE, preexec_fn=before
+        )
         self.said = []
         while True:
             line = self.process.stderr.readline().decode()
@@ -465,7 +473,8 @@ class Command:
 
 def pushed(relay, folder):
     """What is pushed to a server is pulled from it, tag for tag, and each end is told."""
-    units = [(VIDEO, 0, CONFIGURATION)] + [(VIDEO, 40 * n, picture(b"%d" % n, 100 + 997 * (n % 60))) for n in range(1, 120)]
+    # Less than a server acknowledges: else an answer could reset a connection that the push has waited for and left.
+    units = [(VIDEO, 0, CONFIGURATION)] + [(VIDEO, 40 * n, picture(b"%d" % n, 100 + 797 * (n % 40))) for n in range(1, 120)]
     units += [(VIDEO, 0xFFFFFF, picture(b"late")), (AUDIO, 0x1000000, b"\xaf\x01" + bytes(300))]
     whole, first = film(units), film(units[:2])
     server = Server(relay, folder, {"cam": 'publish = ["secret"]\nflv = "cam.flv"'}, "accept = 4")
@@ -537,4 +546,5 @@ def main():
     sys.exit(failures > 0)
 
 
-main()
+if __name__ == "__main__":
+    main()

@@ -1,0 +1,456 @@
+#!/usr/bin/env python3
+"""Tests of how `relay serve` is run and watched, over real sockets: tests/operate.py RELAY [TEST..]
+
+Its log, silent connections, `relay stats` and `relay stop`. Prints a line for each failure, and ends with status 1 if there was one.
+Times are bounded from below, and from above by much more than they take.
+"""
+import fcntl
+import json
+import os
+import signal
+import socket
+import stat
+import struct
+import subprocess
+import sys
+import tempfile
+import threading
+import time
+
+import sockets
+from sockets import CONFIGURATION, VIDEO, Client, Server, expect, fail, message, picture, tags
+
+KEY = "hunter2"
+
+
+def lines_of(server):
+    """The lines that the server says, as they come."""
+    found = []
+
+    def read():
+        for line in server.process.stderr:
+            found.append(line.decode())
+
+    server.reading = threading.Thread(target=read, daemon=True)
+    server.reading.start()
+    return found
+
+
+def wait_for(holds, seconds=20):
+    """Whether it holds within so many seconds."""
+    until = time.monotonic() + seconds
+    while time.monotonic() < until:
+        if holds():
+            return True
+        time.sleep(0.02)
+    return holds()
+
+
+def address(client):
+    here = client.socket.getsockname() if isinstance(client, Client) else client.getsockname()
+    return f"{here[0]}:{here[1]}"
+
+
+def closes(plain, seconds=20):
+    """After how many seconds the server closes the connection. None where it doesn't."""
+    begun = time.monotonic()
+    plain.settimeout(seconds)
+    try:
+        while plain.recv(65536):
+            pass
+    except TimeoutError:
+        return None
+    except OSError:
+        pass
+    return time.monotonic() - begun
+
+
+def ask(relay, *words):
+    return subprocess.run([relay, *words], stdout=subprocess.PIPE, stderr=subprocess.PIPE, text=True, timeout=60)
+
+
+def connect(port, app="live"):
+    client = Client(port)
+    client.call(0, "connect", sockets.number(1), sockets.table(app=app, tcUrl="rtmp://127.0.0.1/live"))
+    client.until(b"NetConnection.Connect.Success")
+    return client
+
+
+def refused(port, role, name):
+    """A client whose publish or play is refused."""
+    client = connect(port)
+    client.call(0, "createStream", sockets.number(2), b"\x05")
+    client.until(b"_result")
+    client.call(1, role, sockets.number(3), b"\x05", sockets.text(name), sockets.text("live"))
+    return client
+
+
+def logged(relay, folder):
+    """Each thing that a peer does is a line, and a key is in none."""
+    streams = {"cam": f'publish = ["{KEY}"]', "open": ""}
+    server = Server(relay, folder, streams, RELAY_LOG="debug")
+    lines = lines_of(server)
+    wants = []
+    publisher = Client(server.port).open("publish", f"cam?{KEY}")
+    wants += [f"{address(publisher)} connected to live\n", f"{address(publisher)} publishes live/cam\n"]
+    player = Client(server.port).open("play", f"cam?{KEY}")
+    wants.append(f"{address(player)} plays live/cam\n")
+    second = refused(server.port, "publish", f"cam?{KEY}")
+    wants.append(f"{address(second)} refused: somebody publishes live/cam\n")
+    wrong = refused(server.port, "publish", "cam?guess")
+    wants.append(f"{address(wrong)} refused: wrong key for live/cam\n")
+    none = refused(server.port, "play", "a\x07\x1bb" + "x" * 100)
+    wants.append(f"{address(none)} refused: no such stream, live/a??b{'x' * 60}\n")
+    publisher.socket.sendall(message(VIDEO, 0, 1, CONFIGURATION))
+    publisher.call(0, "deleteStream", sockets.number(0), b"\x05", sockets.number(1))
+    wants.append(f"{address(publisher)} left live/cam\n")
+    expect(wait_for(lambda: wants[-1] in lines), "logged: a publisher that leaves isn't told")
+    version = socket.create_connection(("127.0.0.1", server.port), timeout=20)
+    version.sendall(b"\x06" + bytes(1536))
+    wants.append(f"{address(version)} ended: asked for another version of RTMP, at byte 0\n")
+    chunk = connect(server.port)
+    chunk.socket.sendall(b"\xc0" + bytes(64))
+    closes(chunk.socket)
+    wants.append(f"{address(player)} ended: the peer closed the link\n")
+    player.socket.shutdown(socket.SHUT_WR)
+    closes(player.socket)
+    reset = connect(server.port)
+    wants.append(f"{address(reset)} ended: the link failed: Connection reset by peer (os error 104)\n")
+    reset.socket.setsockopt(socket.SOL_SOCKET, socket.SO_LINGER, struct.pack("ii", 1, 0))
+    reset.close()
+    for want in wants:
+        expect(wait_for(lambda: want in lines), f"logged: the log lacks {want!r}")
+    at_chunk = [line for line in lines if line.startswith(address(chunk) + " ended: sent a chunk that is no chunk, at byte ")]
+    expect(len(at_chunk) == 1, "logged: a broken chunk isn't told with its byte")
+    expect(not [line for line in lines if KEY in line or "guess" in line], "logged: a key is in the log")
+    server.kill()
+
+
+def quiet(relay, folder):
+    """A level leaves out what is below it, and a value that is none is refused."""
+    server = Server(relay, folder, {"cam": f'publish = ["{KEY}"]'}, "accept = 2", RELAY_LOG="warn")
+    publisher = Client(server.port).open("publish", f"cam?{KEY}")
+    wrong = refused(server.port, "publish", "cam?guess")
+    wrong.until(b"NetStream.Publish.BadName")
+    said = f"{address(wrong)} refused: wrong key for live/cam\n"
+    wrong.leave()
+    publisher.leave()
+    ends = server.end()
+    expect((ends[0], ends[2]) == (0, said), f"quiet: at warn it says {ends[2]!r}")
+    config = os.path.join(folder, "relay.toml")
+    for variable, value, wanted in (("RELAY_LOG", "loud", "off, error, warn, info or debug"), ("RELAY_SILENCE", "-1", "a number of seconds")):
+        ran = subprocess.run([relay, "serve", config], env={**os.environ, variable: value}, capture_output=True, text=True, timeout=60)
+        said = f"relay: {variable}: {wanted} is wanted\n"
+        expect(ran.returncode == 2 and ran.stderr.startswith(said), f"quiet: {variable}={value} gives {ran.returncode}, {ran.stderr!r}")
+
+
+def patiently(begin):
+    """What it begins, tried again where the server found it silent before it had come to its end."""
+    for _ in range(20):
+        try:
+            return begin()
+        except (OSError, EOFError):
+            pass
+    raise RuntimeError("it is closed again and again")
+
+
+def lasting(begin):
+    """The last of some that it begins, one where the machine is on time, and after how many seconds the server closes it; None where it
+    doesn't. A worker's clock may be late on a busy machine, and then it closes too early."""
+    for _ in range(5):
+        begun = time.monotonic()
+        client = patiently(begin)
+        if closes(getattr(client, "socket", client), 60) is None:
+            return client, None
+        took = time.monotonic() - begun
+        if took > 0.9:
+            break
+    return client, took
+
+
+def silent(relay, folder):
+    """Who is silent for a second goes, and who waits for a publisher stays."""
+    server = Server(relay, folder, {"cam": "", "other": ""}, "workers = 2", RELAY_SILENCE="1", RELAY_LOG="warn")
+    lines = lines_of(server)
+    waiting = patiently(lambda: Client(server.port).open("play", "other"))
+
+    def half():
+        plain = socket.create_connection(("127.0.0.1", server.port), timeout=20)
+        plain.sendall(b"\x03" + bytes(700))
+        return plain
+
+    def publisher():
+        client = Client(server.port).open("publish", "cam")
+        client.push(VIDEO, 0, CONFIGURATION)
+        return client
+
+    silences = {
+        "one that says nothing": lambda: socket.create_connection(("127.0.0.1", server.port), timeout=20),
+        "a half-open handshake": half,
+        "one that neither publishes nor plays": lambda: connect(server.port),
+        "a publisher that stops": publisher,
+    }
+    for name, begin in silences.items():
+        client, took = lasting(begin)
+        expect(took is not None and took > 0.9, f"silent: {name} is gone after {took} s")
+        want = f"{address(client)} ended: silent for 1 s\n"
+        expect(wait_for(lambda: want in lines), f"silent: {name} isn't told, the log has {lines}")
+    # The name is free again.
+    patiently(publisher)
+    expect(not [line for line in lines if line.startswith(address(waiting) + " ")], "silent: a player that waits is gone")
+    server.kill()
+
+
+def stuck(relay, folder):
+    """A player that takes nothing for three times as long goes, and another has all. Where the machine is so slow that others go too, or
+    it goes too early, it is tried again."""
+    for place in range(20):
+        home = os.path.join(folder, str(place))
+        os.mkdir(home)
+        if is_stuck(relay, home):
+            return
+    fail("stuck: others go too, or it goes too early, again and again")
+
+
+def is_stuck(relay, folder):
+    """Whether the machine was on time."""
+    server = Server(relay, folder, {"cam": ""}, "workers = 2", RELAY_SILENCE="1", RELAY_LOG="warn")
+    lines = lines_of(server)
+    try:
+        publisher = Client(server.port).open("publish", "cam")
+        publisher.push(VIDEO, 0, CONFIGURATION)
+        stuck = Client(server.port, 4096).open("play", "cam")
+        reader = Client(server.port).open("play", "cam")
+    except (OSError, EOFError):
+        server.kill()
+        return False
+    seen = []
+
+    def read():
+        try:
+            while True:
+                found = reader.reader.one()
+                while found is None:
+                    reader.reader.bytes += reader.receive()
+                    found = reader.reader.one()
+                if found[0] == VIDEO:
+                    seen.append(found[1])
+        except (OSError, EOFError):
+            pass
+
+    threading.Thread(target=read, daemon=True).start()
+    said = f"{address(stuck)} ended: silent for 3 s\n"
+    sent, begun = [CONFIGURATION], time.monotonic()
+    # The system keeps some megabytes for it. All together is less than the stream's window.
+    try:
+        while said not in lines and time.monotonic() - begun < 60:
+            sent.append(picture(b"%d;" % len(sent), 60000 if len(sent) < 80 else 20000))
+            publisher.push(VIDEO, 10 * len(sent), sent[-1])
+            if len(sent) >= 80:
+                time.sleep(0.05)
+    except OSError:
+        pass
+    on_time = time.monotonic() - begun > 2.9 and not [line for line in lines if line != said]
+    if on_time:
+        expect(said in lines, "stuck: a player that takes nothing stays")
+        expect(wait_for(lambda: len(seen) == len(sent)) and seen == sent, f"stuck: of {len(sent)} units the other player has {len(seen)}, or others")
+    server.kill()
+    return on_time
+
+
+def stats(relay, folder):
+    """What is told of a server, in a table and in JSON, is what is done."""
+    path = os.path.join(folder, "control")
+    server = Server(relay, folder, {"cam": "", "other": ""}, "workers = 2", RELAY_CONTROL=path)
+    expect(stat.S_IMODE(os.stat(path).st_mode) == 0o600, "stats: others may use the socket")
+    for _ in range(2):
+        publisher = Client(server.port).open("publish", "cam")
+        publisher.push(VIDEO, 0, CONFIGURATION)
+        if _ == 0:
+            publisher.leave()
+    players = [Client(server.port).open("play", "cam") for _ in range(5)]
+    waiting = Client(server.port).open("play", 'other')
+    publisher.push(VIDEO, 40, picture(b"one", 5000))
+    told = {}
+
+    def is_told():
+        nonlocal told
+        told = json.loads(ask(relay, "stats", path, "--json").stdout)
+        return len(told["links"]) == 7 and all(link["sent"] > 8000 for link in told["links"] if link["name"] == "cam" and link["does"] == "plays")
+
+    expect(wait_for(is_told), f"stats: it tells {told}")
+    links = {link["address"]: link for link in told["links"]}
+    mine = links.get(address(publisher), {})
+    expect((mine.get("does"), mine.get("app"), mine.get("name")) == ("publishes", "live", "cam"), f"stats: the publisher is {mine}")
+    expect(mine.get("received", 0) > 8000 and mine.get("behind", 1) is None, f"stats: the publisher is {mine}")
+    does = sorted(link["does"] for link in told["links"])
+    expect(does == ["plays"] * 6 + ["publishes"], f"stats: the links do {does}")
+    streams = {stream["name"]: stream for stream in told["streams"]}
+    want = {"app": "live", "name": "cam", "publisher": address(publisher), "players": 5, "broadcasts": 2}
+    expect(streams.get("cam") == want, f"stats: the stream is {streams.get('cam')}")
+    want = {"app": "live", "name": "other", "publisher": None, "players": 1, "broadcasts": 0}
+    expect(streams.get("other") == want, f"stats: the other stream is {streams.get('other')}")
+    table = ask(relay, "stats", path)
+    expect(table.returncode == 0 and len(table.stdout.splitlines()) == 3 + 7 + 2 + 2, f"stats: the table is {table.stdout!r}")
+    expect(all(address(client) in table.stdout for client in players + [waiting]), "stats: the table lacks a player")
+    # Nobody else may have the path, and what is no question is no answer.
+    config = os.path.join(folder, "relay.toml")
+    second = subprocess.run([relay, "serve", config], env={**os.environ, "RELAY_CONTROL": path}, capture_output=True, text=True, timeout=60)
+    expect(second.returncode == 7 and "Address already in use" in second.stderr, f"stats: a second server says {second.stderr!r}")
+    plain = socket.socket(socket.AF_UNIX)
+    plain.connect(path)
+    plain.sendall(b"x" * 1000)
+    expect(closes(plain) is not None, "stats: who asks nonsense is kept")
+    slow = socket.socket(socket.AF_UNIX)
+    slow.connect(path)
+    expect(ask(relay, "stats", path).returncode == 0, "stats: one who says nothing keeps others from asking")
+    server.kill()
+    gone = ask(relay, "stats", path)
+    said = f"relay: {path}: Connection refused (os error 111)\nrelay: status 11 at 0\n"
+    expect((gone.returncode, gone.stderr) == (11, said), f"stats: of a dead server {gone}")
+    with tempfile.TemporaryDirectory() as other:
+        again = Server(relay, other, {"cam": ""}, RELAY_CONTROL=path)
+        expect(ask(relay, "stats", path).returncode == 0, "stats: a socket that was left isn't replaced")
+        again.kill()
+        os.remove(path)
+        open(path, "w").write("mine")
+        third = subprocess.run([relay, "serve", config], env={**os.environ, "RELAY_CONTROL": path}, capture_output=True, text=True, timeout=60)
+        expect(third.returncode == 7 and open(path).read() == "mine", "stats: a file is taken for a socket")
+
+
+def stopped(relay, folder):
+    """A server that is told to stop: players are sent all that was published and its end, the recording has it, the report comes."""
+    path = os.path.join(folder, "control")
+    server = Server(relay, folder, {"cam": 'flv = "cam.flv"'}, "workers = 2", RELAY_CONTROL=path, RELAY_LOG="info")
+    lines = lines_of(server)
+    publisher = Client(server.port).open("publish", "cam")
+    publisher.push(VIDEO, 0, CONFIGURATION)
+    idle = connect(server.port)
+    heard = {}
+
+    def play(place):
+        player = Client(server.port).open("play", "cam")
+        heard[place] = ([], [])
+        try:
+            while True:
+                found = player.reader.one()
+                while found is None:
+                    player.reader.bytes += player.receive()
+                    found = player.reader.one()
+                heard[place][0 if found[0] == VIDEO else 1].append(found[1])
+        except EOFError:
+            heard[place][1].append(b"closed")
+            player.close()
+        except OSError as error:
+            heard[place][1].append(repr(error).encode())
+
+    playing = [threading.Thread(target=play, args=(place,), daemon=True) for place in range(12)]
+    for thread in playing:
+        thread.start()
+    expect(wait_for(lambda: len(heard) == 12 and all(video for video, _ in heard.values())), "stopped: not all play")
+    going = True
+
+    def publish():
+        place = 0
+        try:
+            # Less than the stream's window, so that no player is passed.
+            while going and place < 1000:
+                publisher.push(VIDEO, 10 * place, picture(b"%d;" % place, 20000))
+                place += 1
+                time.sleep(0.002)
+        except OSError:
+            pass
+
+    pushing = threading.Thread(target=publish, daemon=True)
+    pushing.start()
+    expect(wait_for(lambda: all(len(video) > 50 for video, _ in heard.values())), "stopped: not all are sent pictures")
+    stop = ask(relay, "stop", path)
+    expect((stop.returncode, stop.stdout, stop.stderr) == (0, "", ""), f"stopped: `stop` ends with {stop}")
+    status = server.process.wait(60)
+    report = server.process.stdout.read().decode()
+    going = False
+    expect(status == 0 and report.startswith("stream 0 began 1 pushed "), f"stopped: it ends with {status}, {report!r}")
+    expect(not os.path.exists(path), "stopped: its socket is left")
+    for thread in playing:
+        thread.join(20)
+    recorded = [body for _, _, body in tags(open(os.path.join(folder, "cam.flv"), "rb").read())]
+    pushed = int(report.split()[5]) if report else -1
+    expect(len(recorded) == pushed, f"stopped: of {pushed} units the recording has {len(recorded)}")
+    for place, (video, others) in heard.items():
+        expect(others[-1] == b"closed" and any(b"UnpublishNotify" in body for body in others), f"stopped: player {place} ends with {others[-2:]}")
+        expect(video == recorded[-len(video):], f"stopped: player {place} lacks what was recorded")
+    server.reading.join(20)
+    ends = [line for line in lines if line.endswith(" ended: the relay stops\n")]
+    expect(len(ends) == 14, f"stopped: of 14 connections {len(ends)} are told to have ended so")
+    closes(idle.socket)
+
+
+def full(relay, folder):
+    """Nobody reads the log: connections are served all the same, and the lines that were lost are counted."""
+    server = Server(relay, folder, {"cam": ""}, RELAY_LOG="debug")
+    fcntl.fcntl(server.process.stderr.fileno(), 1031, 4096)
+    for _ in range(40):
+        Client(server.port).open("play", "cam").close()
+    publisher = Client(server.port).open("publish", "cam")
+    publisher.push(VIDEO, 0, CONFIGURATION)
+    player = Client(server.port).open("play", "cam")
+    while True:
+        found = player.reader.one()
+        if found is None:
+            player.reader.bytes += player.receive()
+        elif found[0] == VIDEO:
+            break
+    lines = lines_of(server)
+
+    def is_told():
+        Client(server.port).open("play", "cam").close()
+        return any(line.startswith("relay: lost ") and line.endswith(" lines of the log\n") for line in lines)
+
+    expect(wait_for(is_told), "full: lost lines aren't counted")
+    player.close()
+    server.kill()
+    # And one that is closed ends nothing.
+    folder = os.path.join(folder, "closed")
+    os.mkdir(folder)
+    server = Server(relay, folder, {"cam": ""}, "accept = 2")
+    server.process.stderr.close()
+    Client(server.port).open("play", "cam").close()
+    Client(server.port).open("play", "cam").close()
+    expect(server.process.wait(20) == 0, "full: a server whose log nobody can read ends otherwise")
+
+
+def crowded(relay, folder):
+    """A connection that finds no place is told, and served once there is one."""
+    server = Server(relay, folder, {"cam": ""}, "workers = 1\nlinks = 2", RELAY_LOG="warn")
+    lines = lines_of(server)
+    players = [Client(server.port).open("play", "cam") for _ in range(2)]
+    third = socket.create_connection(("127.0.0.1", server.port), timeout=20)
+    want = "relay: a connection waits, since all places for links are taken, 2 of them at this worker\n"
+    expect(wait_for(lambda: want in lines), f"crowded: the log has {lines}")
+    players[0].close()
+    third.sendall(b"\x03" + bytes(1536))
+    expect(len(third.recv(1)) == 1, "crowded: who waited isn't served")
+    server.kill()
+
+
+TESTS = [logged, quiet, silent, stuck, stats, stopped, full, crowded]
+
+
+def main():
+    signal.signal(signal.SIGPIPE, signal.SIG_IGN)
+    # What hangs ends all.
+    signal.alarm(600)
+    relay, wanted = os.path.abspath(sys.argv[1]), sys.argv[2:]
+    for test in TESTS:
+        if wanted and test.__name__ not in wanted:
+            continue
+        with tempfile.TemporaryDirectory() as folder:
+            try:
+                test(relay, folder)
+            except (OSError, EOFError, RuntimeError, ValueError, subprocess.TimeoutExpired) as error:
+                fail(f"{test.__name__}: {error!r}")
+    sys.exit(sockets.failures > 0)
+
+
+if __name__ == "__main__":
+    main()
