@@ -13,7 +13,7 @@ use std::marker::Model;
 use std::net::Shutdown;
 
 /// After so many pauses of this length, in milliseconds, the server's silence is taken as its end, where nothing more is sent.
-const LAST_PAUSES: u32 = 20;
+const LAST_PAUSES: u32 = 240;
 
 const LAST_PAUSE: u64 = 250;
 
@@ -83,7 +83,7 @@ impl PeerLink {
         self.last
     }
 
-    /// Sends no more, and reads on until the server closes the connection, or is silent for five seconds: a connection that is
+    /// Sends no more, and reads on until the server closes the connection, or is silent for a minute: a connection that is
     /// closed with bytes unread is reset, and the server may lose the last of what it was sent.
     pub fn close(mut self, rest: &mut PeerRest) {
         if let Some(stream) = &self.stream {
@@ -93,7 +93,7 @@ impl PeerLink {
         let mut silent = 0u32;
         for _ in 0..LAST_PIECES {
             match self.recv(&mut room) {
-                Heard::Bytes(_) => {}
+                Heard::Bytes(_) => silent = 0,
                 Heard::NotYet if silent < LAST_PAUSES => {
                     silent = silent.saturating_add(1);
                     rest.wait(LAST_PAUSE);
