@@ -1,4 +1,5 @@
 pub mod Adding
+pub mod Alone
 pub mod Fresh
 pub mod Standing
 pub mod Texts

@@ -14,3 +14,4 @@ pub mod Says
 pub mod Tallied
 pub mod Leaves
 pub mod Viewer
+pub mod Alone

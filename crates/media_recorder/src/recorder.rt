@@ -11,6 +11,7 @@ ghost use Rattle.media_recorder.specs.Turns.{is_empty, PutEnds, Unmade, JoinEnds
 ghost use Rattle.media_recorder.specs.Says.{Says};
 ghost use Rattle.media_recorder.specs.Tallied.{Tallied};
 ghost use Rattle.media_recorder.specs.Leaves.{Goes};
+ghost use Rattle.media_recorder.specs.Alone.{LeavesAlone, OneAtMost};
 
 use crate::medium::Medium;
 use crate::seat::Seat;
@@ -110,6 +111,7 @@ impl<P: StreamPort, M: Medium> Recorder<P, M> {
         ensures fits { FitsIf (P.fits port.new self.new.seat.place) self.new.seat.pass }
         ensures same { (self.new.seat.who ≡ self.old.seat.who) × (self.new.seat.place ≡ self.old.seat.place) }
         ensures port { Serves P.rules P.root P.busies P.fits self.old.seat.place port.old port.new }
+        ensures alone { OneAtMost P.rules P.adds P.root P.seen P.kin P.branches port.old port.new self.old.seat self.new.seat }
         ensures turn { Turns P.rules P.root P.busies P.seen P.mine P.count K.takes self.old.end port.old port.new sink.old sink.new self.old result self.new }
         ensures took { K.holds sink.old ≡ Some self.old.tape.sent → K.holds sink.new ≡ Some self.new.tape.sent }
         ensures longest { self.new.tape.longest ≡ self.old.tape.longest }
@@ -130,6 +132,7 @@ impl<P: StreamPort, M: Medium> Recorder<P, M> {
         ensures fits { FitsIf (P.fits port.new self.new.seat.place) self.new.seat.pass }
         ensures same { (self.new.seat.who ≡ self.old.seat.who) × (self.new.seat.place ≡ self.old.seat.place) }
         ensures port { Serves P.rules P.root P.busies P.fits self.old.seat.place port.old port.new }
+        ensures alone { OneAtMost P.rules P.adds P.root P.seen P.kin P.branches port.old port.new self.old.seat self.new.seat }
         ensures works { Works P.rules P.root P.busies P.seen P.mine P.count K.takes (is_empty self.old.tape.pending) port.old port.new sink.old sink.new
             self.old result self.new }
     {
@@ -146,6 +149,7 @@ impl<P: StreamPort, M: Medium> Recorder<P, M> {
         ensures fits { FitsIf (P.fits port.new self.new.seat.place) self.new.seat.pass }
         ensures same { (self.new.seat.who ≡ self.old.seat.who) × (self.new.seat.place ≡ self.old.seat.place) }
         ensures port { Serves P.rules P.root P.busies P.fits self.old.seat.place port.old port.new }
+        ensures alone { OneAtMost P.rules P.adds P.root P.seen P.kin P.branches port.old port.new self.old.seat self.new.seat }
         ensures puts { Puts K.takes port.old port.new sink.old sink.new self.old result self.new }
     {
         let _ = &port;
@@ -161,6 +165,7 @@ impl<P: StreamPort, M: Medium> Recorder<P, M> {
         ensures fits { FitsIf (P.fits port.new self.new.seat.place) self.new.seat.pass }
         ensures same { (self.new.seat.who ≡ self.old.seat.who) × (self.new.seat.place ≡ self.old.seat.place) }
         ensures port { Serves P.rules P.root P.busies P.fits self.old.seat.place port.old port.new }
+        ensures alone { OneAtMost P.rules P.adds P.root P.seen P.kin P.branches port.old port.new self.old.seat self.new.seat }
         ensures calls { Calls P.rules P.root P.busies P.seen P.mine P.count self.old.player port.old port.new self.old result self.new }
     {
         match self.player {
@@ -177,6 +182,7 @@ impl<P: StreamPort, M: Medium> Recorder<P, M> {
         ensures fits { FitsIf (P.fits port.new self.new.seat.place) self.new.seat.pass }
         ensures same { (self.new.seat.who ≡ self.old.seat.who) × (self.new.seat.place ≡ self.old.seat.place) }
         ensures port { Serves P.rules P.root P.busies P.fits self.old.seat.place port.old port.new }
+        ensures alone { OneAtMost P.rules P.adds P.root P.seen P.kin P.branches port.old port.new self.old.seat self.new.seat }
         ensures joins { JoinsAt P.rules P.root P.busies P.seen P.mine P.count port.old port.new self.old result self.new }
     {
         let answer = self.seat.call(port, Call::Join);
@@ -192,6 +198,7 @@ impl<P: StreamPort, M: Medium> Recorder<P, M> {
         ensures fits { FitsIf (P.fits port.new self.new.seat.place) self.new.seat.pass }
         ensures same { (self.new.seat.who ≡ self.old.seat.who) × (self.new.seat.place ≡ self.old.seat.place) }
         ensures port { Serves P.rules P.root P.busies P.fits self.old.seat.place port.old port.new }
+        ensures alone { OneAtMost P.rules P.adds P.root P.seen P.kin P.branches port.old port.new self.old.seat self.new.seat }
         ensures takes { TakesAt P.rules P.root P.busies P.seen P.mine P.count player port.old port.new self.old result self.new }
     {
         let want = Want {
@@ -209,6 +216,7 @@ impl<P: StreamPort, M: Medium> Recorder<P, M> {
         requires fits { FitsIf (P.fits port.old self.seat.place) self.seat.pass }
         ensures port { Serves P.rules P.root P.busies P.fits self.seat.place port.old port.new }
         ensures goes { Goes P.rules P.root P.busies P.seen P.mine P.count self.player port.old port.new self result }
+        ensures alone { LeavesAlone P.rules P.adds P.root P.seen P.kin P.branches port.old port.new self.seat result }
     {
         let Some(player) = self.player else {
             self.seat.part(port);

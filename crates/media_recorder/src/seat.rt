@@ -2,6 +2,7 @@ ghost use Rattle.std.specs.Prelude.{◌≡◌, ◌<◌, ℕ, [], length, None};
 ghost use Rattle.media_recorder.specs.Ports.{Serves, FitsIf, seen_of, mine_of};
 ghost use Rattle.media_recorder.specs.Seats.{StandIf, Asks};
 ghost use Rattle.media_recorder.specs.Leaves.{Parts};
+ghost use Rattle.media_recorder.specs.Alone.{AsksAlone, Enters, GivesBack};
 
 use past::{Flow, Pair};
 use std::marker::Model;
@@ -36,6 +37,7 @@ fn entered<P: StreamPort>(port: &mut P, place: u32, pass: Option<P::Pass>) -> P:
     ensures seen { P.seen result ≡ seen_of P.seen (P.root port.old place) pass }
     ensures mine { P.mine result ≡ mine_of P.mine pass }
     ensures roots { (q : ℕ) → P.root port.new q ≡ P.root port.old q }
+    ensures splits { Enters P.branches (P.kin port.old) place pass (P.branches result) (P.kin port.new) }
     ensures fixed { (P.rules port.new ≡ P.rules port.old) × (P.busies port.new ≡ P.busies port.old) }
     ensures others { (q : ℕ) (p : P.Pass) → P.fits port.old q p → P.fits port.new q p }
 {
@@ -80,6 +82,7 @@ impl<P: StreamPort> Seat<P> {
         ensures port { Serves P.rules P.root P.busies P.fits self.old.place port.old port.new }
         ensures asks { Asks P.seen P.mine P.count ((P.rules port.old).limits self.old.place) (P.root port.old self.old.place)
             (P.busies port.old) (P.busies port.new) self.old call result self.new }
+        ensures alone { AsksAlone P.rules P.adds P.root P.seen P.kin P.branches port.old port.new self.old call result self.new }
     {
         let entry = Entry {
             who: self.who,
@@ -107,6 +110,7 @@ impl<P: StreamPort> Seat<P> {
         ensures port { Serves P.rules P.root P.busies P.fits self.place port.old port.new }
         ensures busies { P.busies port.new ≡ P.busies port.old }
         ensures parts { Parts P.rules P.root P.seen P.mine port.old port.new self }
+        ensures gives { GivesBack P.rules P.adds P.root P.seen P.kin P.branches port.old port.new self.place self.pass }
     {
         let Seat {
             who: _,

@@ -10,18 +10,19 @@ use Rattle.command_dialog.specs.declared.types.Grant.TheVariants.{NoName, Refuse
 use Rattle.relay_config.specs.declared.config.PlaceRule.{PlaceRule}
 use Rattle.relay_config.specs.declared.config.OpenRule.{OpenRule}
 use Rattle.relay_outside.specs.MemLinks.{MemHears, MemSays}
-use Rattle.stream_registry.specs.Books.{SoleState, SeenState, FitsSole, journal_at, sole_rules}
+use Rattle.stream_registry.specs.Books.{SoleState, SeenState, FitsSole, sole_rules}
 use Rattle.stream_model.specs.Names.{is_name}
 use Rattle.stream_registry.specs.Names.{PortRules, places}
 use Rattle.media_recorder.specs.Ports.{FitsIf}
 use Rattle.relay_session.specs.Grants.{Keys, granted_from, has_app, is_named, judged, opened_from, stream_keys, table_keys, tables_from, takes_key}
-use Rattle.relay_session.specs.Places.{Asked, IsGrantThere, IsOffered, IsThere}
+use Rattle.relay_session.specs.Places.{IsGrantThere, IsOffered, IsThere}
 use Rattle.relay_session.specs.SeatState.{HasFit}
-use Rattle.relay_session.specs.SessionState.{BeginsOwed, SessionState, StandsFor, lasting_of, life_at}
+use Rattle.relay_session.specs.SessionState.{BeginsOwed, IsWhole, SessionState, StandsFor, lasting_of, life_at}
 use Rattle.relay_session.specs.Turns.{EndedBy}
 use Rattle.relay_session.specs.declared.end.End.{End}
 use Rattle.relay_session.specs.declared.turn.Turn.{Turn}
-use Rattle.relay_replay.specs.Cast.{ConnState, RecState, CastState, AfterTurn, AnsweredBy, AnsweredTurn, Turned, Each}
+use Rattle.relay_session.specs.declared.turn.Turn.TheVariants.{Moved, Idle, Ended}
+use Rattle.relay_replay.specs.Cast.{AfterTurn, AnsweredBy, AnsweredTurn, CastState, ConnState, Each, RecState, SoleAsks, Times, Turned, is_moved}
 use Rattle.relay_replay.specs.Scenes.{Fits, IsPortOf, Ready, ReadyBy, Sits, name_of, open_name}
 
 -- ---- the desk grants places that are there
@@ -158,12 +159,12 @@ turned_by (Some e) desk port c port' d h t = absurd (cc)
 
 pub turned : (desk : Ask → Grant) (port between port' : SoleState) (c d : ConnState) (mid : SessionState SeenState) (a : Turn)
     → is_some c.ended ≡ false
-    → EndedBy (Asked FitsSole (λ s. sole_rules s.rules) (λ s. journal_at s.books) (λ p. p.seen) (λ p. length p.seen) (λ _. Unit {0}) (λ _. 0)) desk
+    → EndedBy SoleAsks desk
     MemHears MemSays c.session.ended c.session.quit (life_at c.session port) c.link a (life_at mid between) d.link
-    → (StandsFor desk c.session → StandsFor desk mid) → (StandsFor desk mid → BeginsOwed desk mid.parts) → lasting_of mid.parts ≡ lasting_of c.session.parts
+    → (StandsFor desk c.session → StandsFor desk mid) → (StandsFor desk mid → BeginsOwed desk mid.parts) → (StandsFor desk mid → IsWhole desk mid.parts) → lasting_of mid.parts ≡ lasting_of c.session.parts
     → AfterTurn a mid between d.session d.ended port' → AnsweredBy (Some a) c.ended desk port c port' d
-turned desk port between port' c d mid a lives turn stands owed lasts leads =
-    turned_by c.ended desk port c port' d lives (record { answer = a; between = between; mid = mid; turn = turn; stands = stands; owed = owed; lasts = lasts; leads = leads })
+turned desk port between port' c d mid a lives turn stands owed whole lasts leads =
+    turned_by c.ended desk port c port' d lives (record { answer = a; between = between; mid = mid; turn = turn; stands = stands; owed = owed; whole = whole; lasts = lasts; leads = leads })
 
 get_some : {A : Type 0} → (xs : List A) (n : ℕ) (x : A) → n < length xs → x ≡ get_or xs n x → slice_get xs n ≡ Some x
 get_some [] n x h e = absurd (omega (arith, h))
@@ -193,3 +194,15 @@ pub each_more : {A : Type 0} → (k : ℕ) (step : ℕ → A → A → Type 0) (
 each_more k step c m d before one =
     let same : suc k ≡ k + 1 = omega arith in
     subst (λ (n : ℕ). Each n step c d) same (m, (before, one))
+
+moved_is : (a : Option Turn) → is_moved a ≡ true → a ≡ Some Moved
+moved_is None e = absurd (cc)
+moved_is (Some Moved) e = refl
+moved_is (Some Idle) e = absurd (cc)
+moved_is (Some (Ended x)) e = absurd (cc)
+
+-- a turn that moved something, behind so many that did
+pub moved_more : (desk : Ask → Grant) (n k : ℕ) (a : Option Turn) (c m d : CastState) → is_moved a ≡ true → Times k (AnsweredTurn desk n (Some Moved)) c m → AnsweredTurn desk n a m d → Times (k + 1) (AnsweredTurn desk n (Some Moved)) c d
+moved_more desk n k a c m d e t s =
+    let one : suc k ≡ k + 1 = omega arith in
+    subst (λ (j : ℕ). Times j (AnsweredTurn desk n (Some Moved)) c d) one (m, (t, subst (λ (b : Option Turn). AnsweredTurn desk n b m d) (moved_is a e) s))

@@ -7,3 +7,6 @@ pub mod Serving
 pub mod Naming
 pub mod Acting
 pub mod Recorders
+pub mod Following
+pub mod Comes
+pub mod Runs

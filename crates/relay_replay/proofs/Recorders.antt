@@ -30,7 +30,7 @@ new_recorded who p r n = record {
   text = none_text r.form p.form r.recorder.tape.sent r.recorder.tape.pending r.recorder.seat who p.stream n.form n.tape.1 n.tape.2 n.seat;
 }
 
-are_recorded : (n : ℕ) (ps : List Plan) (rs : List RecState) → AreNew n ps rs → All IsRecorded rs
+pub are_recorded : (n : ℕ) (ps : List Plan) (rs : List RecState) → AreNew n ps rs → All IsRecorded rs
 are_recorded n [] [] a = All-nil IsRecorded
 are_recorded n [] (r ∷ rs) a = absurd a
 are_recorded n (p ∷ ps) [] a = absurd a

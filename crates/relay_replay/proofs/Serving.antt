@@ -13,9 +13,8 @@ use Rattle.session_owed.specs.Owed.{out}
 use Rattle.session_owed.specs.Talk.{hand_bytes}
 use Rattle.relay_outside.specs.MemLinks.{MemLinkState}
 use Rattle.session_owed.specs.Standing.{Past}
-use Rattle.stream_registry.specs.Books.{SoleState, SeenState, FitsSole, journal_at, sole_rules}
+use Rattle.stream_registry.specs.Books.{SoleState, SeenState}
 use Rattle.relay_session.specs.Grants.{granted_from}
-use Rattle.relay_session.specs.Places.{Asked}
 use Rattle.relay_session.specs.Session.{session}
 use Rattle.relay_session.specs.SessionState.{BeginsOwed, SessionState, StandsFor, gone_but_kept, life_at}
 use Rattle.relay_session.specs.Turns.{Gone}
@@ -25,7 +24,7 @@ use Rattle.relay_session.specs.declared.turn.Turn.{Turn as TurnAnswer}
 use Rattle.relay_session.specs.declared.turn.Turn.TheVariants.{Moved, Idle, Ended}
 use Rattle.relay_script.specs.declared.replay.ReplayLine.{ReplayLine}
 use Rattle.relay_script.specs.declared.replay.ReplayLine.TheVariants.{Nothing, Limits, Stream, Guard, Recorder, Session, Piece, Eof, Room, FailRecv, FailSend, FailPut, Turn, Rec, All as Rounds, Quit, OpenApp, GuardOpen}
-use Rattle.relay_replay.specs.Cast.{AfterTurn, AnsweredTurn, CastState, ConnState, Each, RecTurnOf, Round, SessionTurn, SettledBy, Times, TurnOf}
+use Rattle.relay_replay.specs.Cast.{AfterTurn, AnsweredTurn, CastState, ConnState, Each, RecTurnOf, Round, SessionTurn, SettledBy, SoleAsks, Times, TurnOf}
 use Rattle.relay_replay.specs.Plays.{IsNewSession, Plays, ToldBy, told_of}
 use Rattle.relay_replay.specs.Scenes.{Acts, CastBy, Does, IsOpen, SceneState, SettledIn, desk_of, is_acting, stand_of}
 use Rattle.relay_replay.specs.Served.{AreServed, IsServed, ServedIf, ServedIn, StandsIf}
@@ -70,7 +69,7 @@ served_turn : (e : Option End) (desk : Ask → Grant) (port : SoleState) (c : Co
 served_turn None desk port c port' d e t s =
     let was = subst (λ (o : Option End). StandsIf o desk c.session) e s.stands in
     let st = t.stands was in
-    let took = turn_took (Asked FitsSole (λ s. sole_rules s.rules) (λ s. journal_at s.books) (λ p. p.seen) (λ p. length p.seen) (λ _. Unit {0}) (λ _. 0)) desk
+    let took = turn_took SoleAsks desk
     c.session.ended c.session.quit (life_at c.session port) c.link t.answer (life_at t.mid t.between) d.link t.turn s.took in
     after_served t.answer desk t.mid t.between d port' t.leads st (t.owed st) took
 served_turn (Some x) desk port c port' d e t s = subst (IsServed desk) (sym t.0) s
@@ -179,7 +178,7 @@ opened_served (Some d) s desk c e k = subst (ServedIn desk) (sym e) k
 abbrev pub SameDesk : Stand → Stand → Type 0
 SameDesk x y = (y.places ≡ x.places) × (y.opens ≡ x.opens)
 
-same_desk : (s t : SceneState) → SameDesk (stand_of s) (stand_of t) → desk_of t ≡ desk_of s
+pub same_desk : (s t : SceneState) → SameDesk (stand_of s) (stand_of t) → desk_of t ≡ desk_of s
 same_desk s t d =
     ap (λ (l : List PlaceRule). granted_from 0 l t.opens) d.0 ∙ ap (λ (l : List OpenRule). granted_from 0 s.places l) d.1
 

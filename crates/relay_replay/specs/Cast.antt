@@ -1,22 +1,29 @@
 -- What runs in a replay, and a turn of each of its parts.
-use Rattle.std.specs.Prelude.{◌≡◌, ◌<◌, ℕ, zero, suc, Bool, true, false, List, ◌++◌, length, slice_get, slice_set, Option, None, Some}
+use Rattle.std.specs.Prelude.{◌≡◌, ◌<◌, ℕ, zero, suc, Bool, true, false, List, [], ◌++◌, length, slice_get, slice_set, Option, None, Some}
 use Rattle.av_unit.specs.declared.item.Item.{Item}
 use Rattle.command_dialog.specs.declared.types.Ask.{Ask}
 use Rattle.command_dialog.specs.declared.types.Grant.{Grant}
 use Rattle.relay_outside.specs.MemLinks.{MemLinkState, MemHears, MemSays}
 use Rattle.stream_model.specs.declared.calls.Entry.{Entry}
 use Rattle.stream_registry.specs.Books.{SoleState, SeenState, FitsSole, journal_at, sole_rules}
-use Rattle.relay_session.specs.Places.{Asked}
-use Rattle.relay_session.specs.SeatState.{GoOn, IsElsewhere, LeaveFails, LeavesFrom, StandsAt, left_at, place_of}
-use Rattle.relay_session.specs.SessionState.{BeginsOwed, SessionState, StandsFor, end_or_quit, lasting_of, life_at}
+use Rattle.stream_registry.specs.Splits.{Kin}
+use Rattle.stream_registry.specs.Told.{Histories, Step}
+use Rattle.turn_gate.specs.declared.view.Branch.{Branch}
+use Rattle.relay_session.specs.Alone.{GrowsFrom}
+use Rattle.relay_session.specs.Places.{AskedAlone}
+use Rattle.relay_session.specs.SeatState.{GoOn, IsElsewhere, LeaveFails, LeavesFrom, SeatState, StandsAt, known, left_at, place_of}
+use Rattle.relay_session.specs.SessionState.{BeginsOwed, IsWhole, SessionState, StandsFor, end_or_quit, lasting_of, life_at}
 use Rattle.relay_session.specs.Turns.{EndedBy}
 use Rattle.relay_session.specs.declared.end.End.{End}
 use Rattle.relay_session.specs.declared.end.End.TheVariants as end
 use Rattle.relay_session.specs.declared.seat_answers.Leaving.{Leaving}
+use Rattle.relay_session.specs.declared.seat_answers.Made.{Made}
 use Rattle.relay_session.specs.declared.turn.Turn.{Turn}
 use Rattle.relay_session.specs.declared.turn.Turn.TheVariants.{Moved, Idle, Ended}
 use Rattle.flv_tags.specs.Text.{flv_text}
-use Rattle.media_recorder.specs.Ports.{Serves}
+use Rattle.media_recorder.specs.Alone.{OneAtMost}
+use Rattle.media_recorder.specs.Ports.{FitsIf, Serves}
+use Rattle.media_recorder.specs.Seats.{SeatState as RecSeat}
 use Rattle.media_recorder.specs.Taken.{taken}
 use Rattle.media_recorder.specs.Transport.{recorded_text}
 use Rattle.media_recorder.specs.Turns.{RecorderState, Turns}
@@ -68,19 +75,41 @@ pub record CastState : Type 0 where
   pub sessions : List ConnState
   pub recorders : List RecState
 
+-- ---- what the streams say of a call
+
+-- calls are put behind what was there, and no other is
+abbrev pub SoleAdds : List Step → List Step → List Step → Type 0
+SoleAdds = λ (h steps i : List Step). i ≡ h ++ steps
+
+-- no pass is split off
+abbrev pub no_kin : SoleState → Kin
+no_kin = λ (port : SoleState) (q : ℕ). []
+
+abbrev pub no_branches : SeenState → List Branch
+no_branches = λ (p : SeenState). []
+
+-- one call of a session at these streams
+abbrev pub SoleAsks : SoleState → SeatState SeenState → ℕ → Entry → Made → SoleState → SeatState SeenState → Type 0
+SoleAsks = AskedAlone FitsSole (λ (s : SoleState). sole_rules s.rules) (λ s. journal_at s.books) (λ (p : SeenState). p.seen) (λ p. length p.seen) (λ (_ : Entry). Unit {0}) (λ _. 0)
+    SoleAdds no_kin no_branches
+
 -- ---- a session's turn
 
 -- its calls stand in the histories
 abbrev pub StandsIn : SoleState → SessionState SeenState → Type 0
 StandsIn port s = StandsAt (λ (p : SoleState). sole_rules p.rules) (λ p. journal_at p.books) (λ (p : SeenState). p.seen) port s.seat
 
+-- what its pass has seen of its place, and all of the others
+abbrev pub known_in : SoleState → SessionState SeenState → Histories
+known_in port s = known (λ (p : SoleState). journal_at p.books) (λ (p : SeenState). p.seen) port s.seat
+
 -- it didn't end for want of memory
 abbrev pub HasMemory : End → Type 0
 HasMemory end.OutOfMemory = ⊥
 HasMemory _ = Unit {0}
 
--- It was closed: its last calls were made, and it has left. Where its calls stood in the histories they do so after it, and no history
--- has more but that of the place where it was
+-- It was closed: its last calls were made, and it has left. Where its calls stood in the histories they do so after it. These calls came
+-- to the history of the place where it was, and no other came to any
 pub record IsClosed (port : SoleState) (s : SessionState SeenState) (port' : SoleState) (s' : SessionState SeenState) : Type 0 where
   pub leaving : Leaving
   pub leaves : LeavesFrom (place_of s.seat.spot) s.parts.who s.parts.fed s.parts.kept s.seat.active s.seat.visits
@@ -92,6 +121,8 @@ pub record IsClosed (port : SoleState) (s : SessionState SeenState) (port' : Sol
   pub away : place_of s'.seat.spot ≡ None
   pub roots : GoOn (journal_at port.books) (journal_at port'.books)
   pub others : (q : ℕ) → IsElsewhere s.seat.spot q → journal_at port'.books q ≡ journal_at port.books q
+  pub grows : GrowsFrom SoleAdds (sole_rules port.rules).limits (journal_at port.books) (known_in port s) (place_of s.seat.spot) s.seat.visits s'.seat.visits
+      (journal_at port'.books) (known_in port' s')
   pub stands : StandsIn port s → StandsIn port' s'
   pub fixed : sole_rules port'.rules ≡ sole_rules port.rules
   pub ended : s'.ended ≡ Some (end_or_quit s.ended)
@@ -104,15 +135,16 @@ AfterTurn Idle s port s' ended port' = (s' ≡ s) × (port' ≡ port) × (ended 
 AfterTurn (Ended e) s port s' ended port' = HasMemory e × (ended ≡ Some e) × IsClosed port s port' s'
 
 -- a turn of a session at these streams: the one of `Session::turn`, with a link in memory. Where the session stood for what it was
--- fed and its calls it does so after it, and what it sent begins what it owes
+-- fed and its calls it does so after it, what it sent begins what it owes, and its pushes are the units that its messages publish
 pub record Turned (desk : Ask → Grant) (port : SoleState) (c : ConnState) (port' : SoleState) (d : ConnState) : Type 0 where
   pub answer : Turn
   pub between : SoleState
   pub mid : SessionState SeenState
-  pub turn : EndedBy (Asked FitsSole (λ s. sole_rules s.rules) (λ s. journal_at s.books) (λ p. p.seen) (λ p. length p.seen) (λ _. Unit {0}) (λ _. 0)) desk
+  pub turn : EndedBy SoleAsks desk
       MemHears MemSays c.session.ended c.session.quit (life_at c.session port) c.link answer (life_at mid between) d.link
   pub stands : StandsFor desk c.session → StandsFor desk mid
   pub owed : StandsFor desk mid → BeginsOwed desk mid.parts
+  pub whole : StandsFor desk mid → IsWhole desk mid.parts
   pub lasts : lasting_of mid.parts ≡ lasting_of c.session.parts
   pub leads : AfterTurn answer mid between d.session d.ended port'
 
@@ -160,12 +192,20 @@ abbrev pub ServesAt : ℕ → SoleState → SoleState → Type 0
 ServesAt place port port' =
     Serves (λ (s : SoleState). sole_rules s.rules) (λ s. journal_at s.books) (λ _. 0) (λ s q (p : SeenState). FitsSole s q p) place port port'
 
--- a recorder's turn. A file that had what was sent has it, and what is written is the text
+-- a call of a recorder at these streams at most, and no other
+abbrev pub OneAsk : SoleState → SoleState → RecSeat SeenState → RecSeat SeenState → Type 0
+OneAsk = OneAtMost (λ (s : SoleState). sole_rules s.rules) SoleAdds (λ s. journal_at s.books) (λ (p : SeenState). p.seen) no_kin no_branches
+
+-- a recorder's turn. A call of its own at most comes to the history of its place, and no other to any. A file that had what was sent has
+-- it, and what is written is the text
 pub record RecorderTurn (port : SoleState) (c : RecState) (port' : SoleState) (d : RecState) : Type 0 where
   pub answer : RecTurn
   pub form : d.form ≡ c.form
   pub turn : RecTurnsBy port c.recorder c.file answer port' d.recorder d.file
   pub served : ServesAt c.recorder.seat.place port port'
+  pub alone : OneAsk port port' c.recorder.seat d.recorder.seat
+  pub fits : FitsIf (FitsSole port' d.recorder.seat.place) d.recorder.seat.pass
+  pub label : (d.recorder.seat.who ≡ c.recorder.seat.who) × (d.recorder.seat.place ≡ c.recorder.seat.place)
   pub took : c.file.bytes ≡ c.recorder.tape.sent → d.file.bytes ≡ d.recorder.tape.sent
   pub text : IsText d.form d.recorder
   pub longest : d.recorder.tape.longest ≡ c.recorder.tape.longest

@@ -7,3 +7,4 @@ pub mod Served
 pub mod Recorded
 pub mod Prints
 pub mod Sums
+pub mod Whole

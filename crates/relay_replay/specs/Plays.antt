@@ -8,7 +8,7 @@ use Rattle.relay_outside.specs.MemLinks.{MemLinkState}
 use Rattle.session_owed.specs.Standing.{new_past}
 use Rattle.relay_session.specs.Keeping.{past_of}
 use Rattle.relay_session.specs.Owing.{nothing}
-use Rattle.relay_session.specs.SessionState.{BeginsOwed, StandsFor}
+use Rattle.relay_session.specs.SessionState.{BeginsOwed, IsWhole, StandsFor}
 use Rattle.relay_script.specs.declared.replay.ReplayLine.{ReplayLine}
 use Rattle.relay_script.specs.declared.replay.ReplayLine.TheVariants.{Session, Piece, Eof, Room, FailRecv, FailSend, FailPut, Turn, Rec, All, Quit}
 use Rattle.relay_replay.specs.Cast.{ConnState, RecState, CastState, TurnOf, RecTurnOf, Round, Times}
@@ -40,6 +40,7 @@ pub record IsNewSession (limits : AllLimits) (who : ℕ) (c : ConnState) : Type 
   pub nowhere : (c.session.parts.place ≡ None) × (c.session.seat.spot ≡ None) × (c.session.seat.visits ≡ [])
   pub stands : (desk : Ask → Grant) → StandsFor desk c.session
   pub owed : (desk : Ask → Grant) → BeginsOwed desk c.session.parts
+  pub whole : (desk : Ask → Grant) → IsWhole desk c.session.parts
   pub link_is : c.link ≡ new_link
   pub ended : c.ended ≡ None
 

@@ -16,7 +16,9 @@ mod report;
 mod scene;
 mod served;
 mod summary;
+mod whole;
 
 pub use recorded::what_was_recorded_is_the_text_of_what_was_taken;
 pub use scene::Scene;
 pub use served::what_was_sent_begins_what_is_owed;
+pub use whole::what_a_run_comes_to;

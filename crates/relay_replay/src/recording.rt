@@ -2,7 +2,8 @@ ghost use Rattle.std.specs.Prelude.{◌≡◌, ◌≢◌, ℕ, ◌+◌, ◌<◌,
 ghost use Rattle.media_recorder.specs.Mediums.{most_held as most_recorded};
 ghost use Rattle.media_recorder.specs.Ports.{FitsIf};
 ghost use Rattle.stream_registry.specs.Books.{FitsSole, SeenState, sole_rules};
-ghost use Rattle.relay_replay.specs.Cast.{RecorderTurn, AfterRecTurn, EndsBy, IsText, RecTurnsBy, ServesAt, form_of, recorder_of, text_in};
+ghost use Rattle.relay_replay.specs.Cast.{RecorderTurn, AfterRecTurn, EndsBy, IsText, OneAsk, RecTurnsBy, ServesAt};
+ghost use Rattle.relay_replay.specs.Cast.{form_of, recorder_of, text_in};
 ghost use Rattle.relay_replay.specs.Prints.{RecHolds};
 ghost use Rattle.relay_replay.specs.Scenes.{Fits, IsNewRecorder};
 
@@ -77,7 +78,9 @@ impl Writer {
         ensures longest { (recorder_of self.new).tape.longest ≡ (recorder_of self.old).tape.longest }
         ensures place { (recorder_of self.new).seat.place ≡ (recorder_of self.old).seat.place }
         ensures fits { FitsIf (FitsSole port.new (recorder_of self.new).seat.place) (recorder_of self.new).seat.pass }
+        ensures who { (recorder_of self.new).seat.who ≡ (recorder_of self.old).seat.who }
         ensures port { ServesAt (recorder_of self.old).seat.place port.old port.new }
+        ensures alone { OneAsk port.old port.new (recorder_of self.old).seat (recorder_of self.new).seat }
     {
         match self {
             Writer::Flv(recorder) => recorder.turn(port, file),

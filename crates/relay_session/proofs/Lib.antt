@@ -20,9 +20,13 @@ pub mod Fitting
 pub mod Lasting
 pub mod Onwards
 pub mod SeatStanding
+pub mod SeatGrowing
+pub mod SeatSplitting
 pub mod SeatOwn
 pub mod PoolOwn
 pub mod OwnCalls
 pub mod Granting
 mod Deciding
 mod Coming
+pub mod Acting
+pub mod ActingTurns

@@ -8,10 +8,12 @@ use Rattle.command_dialog.specs.declared.types.Grant.{Grant}
 use Rattle.command_dialog.specs.declared.types.Playing.{Playing}
 use Rattle.stream_model.specs.declared.calls.Entry.{Entry}
 use Rattle.stream_registry.specs.Names.{PortRules}
+use Rattle.stream_registry.specs.Splits.{Kin}
 use Rattle.stream_registry.specs.Told.{Step, Histories}
+use Rattle.turn_gate.specs.declared.view.Branch.{Branch}
 use Rattle.relay_session.specs.Onward.{GoesOn}
 use Rattle.relay_session.specs.Owing.{pending}
-use Rattle.relay_session.specs.Places.{Asked}
+use Rattle.relay_session.specs.Places.{AskedAlone}
 use Rattle.relay_session.specs.SeatState.{SeatState, known}
 use Rattle.relay_session.specs.Turns.{AfterCall, AfterKept, CallAsked, CalledBy, CameAs, EmptyBy, Fed, FedAs, FedBy, Input, InputBy, IsEnded, KeptBy, Life, Loudly, Quietly, QuitBy, SendBy, Sent, SentAs, Stopping, Taken, TakenBy, is_hungry, is_nil, life, takes}
 use Rattle.relay_session.specs.declared.end.End.{End}
@@ -20,12 +22,13 @@ use Rattle.relay_session.specs.declared.seat_answers.Made.TheVariants as made
 use Rattle.relay_session.specs.declared.turn.Turn.{Turn}
 use Rattle.relay_session.proofs.SeatStanding.{go_on_same, go_on_trans}
 
-module _ {P Q : Type 0} (fits : P → ℕ → Q → Type 0) (rules : P → PortRules) (root : P → Histories) (seen : Q → List Step) (count : Q → ℕ) (wants : Entry → Type 0) (busies : P → ℕ) where
+module _ {P Q : Type 0} (fits : P → ℕ → Q → Type 0) (rules : P → PortRules) (root : P → Histories) (seen : Q → List Step) (count : Q → ℕ) (wants : Entry → Type 0) (busies : P → ℕ)
+    (adds : List Step → List Step → List Step → Type 0) (kin : P → Kin) (branches : Q → List Branch) where
   abbrev On : Life P (SeatState Q) → Life P (SeatState Q) → Type 0
   On v w = GoesOn fits rules root seen busies v.port v.seat w.port w.seat
 
   abbrev Asks : P → SeatState Q → ℕ → Entry → Made → P → SeatState Q → Type 0
-  Asks = Asked fits rules root seen count wants busies
+  Asks = AskedAlone fits rules root seen count wants busies adds kin branches
 
   pub on_refl : (v : Life P (SeatState Q)) → On v v
   on_refl v = record {
@@ -48,7 +51,7 @@ module _ {P Q : Type 0} (fits : P → ℕ → Q → Type 0) (rules : P → PortR
   }
 
   on_asked : (v w : Life P (SeatState Q)) (place : ℕ) (e : Entry) (r : Made) → Asks v.port v.seat place e r w.port w.seat → On v w
-  on_asked v w place e r a = record { knows = a.knows; stands = a.stands; roots = a.roots; fixed = a.fixed; later = a.later; passes = a.passes }
+  on_asked v w place e r a = record { knows = a.asked.knows; stands = a.asked.stands; roots = a.asked.roots; fixed = a.asked.fixed; later = a.asked.later; passes = a.asked.passes }
 
   on_ended : (e : End) (v : Life P (SeatState Q)) (a : Turn) (w : Life P (SeatState Q)) → IsEnded e v a w → On v w
   on_ended e v a w i =

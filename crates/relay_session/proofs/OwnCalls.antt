@@ -7,13 +7,14 @@ use Rattle.session_owed.specs.Talk.{is_take}
 use Rattle.stream_model.specs.declared.calls.StreamLimits.{StreamLimits}
 use Rattle.stream_model.specs.declared.calls.Shape.{Shape}
 use Rattle.stream_model.specs.declared.calls.Call.{Call}
+use Rattle.stream_model.specs.declared.calls.Call.TheVariants as call
 use Rattle.stream_model.specs.declared.calls.Entry.{Entry}
 use Rattle.stream_model.specs.declared.replies.Reply.{Reply}
 use Rattle.stream_model.specs.History.{History}
 use Rattle.stream_model.specs.Shape.{reply_by, shape_reply, IsLawfulBy, IsShapeLawful}
 use Rattle.stream_registry.specs.Told.{Histories, Step}
 use Rattle.relay_session.specs.SeatState.{publishes, plays}
-use Rattle.relay_session.specs.SeatOwn.{own, BringsSo, FaresSo, Fares, PublishesBy, PlaysBy, IsPublisher, IsPlayer}
+use Rattle.relay_session.specs.SeatOwn.{own, Acts, ActsSo, AnsweredSo, AreAnswered, BringsSo, FaresSo, Fares, PublishesBy, PlaysBy, IsPublisher, IsPlayer}
 use Rattle.relay_session.specs.SeatVisits.{AllStand, StandIn, Visit, calls_at, calls_of}
 use Rattle.relay_session.proofs.SeatStanding.{calls_here}
 use Rattle.relay_session.proofs.SeatOwn.{brings, publishes_so, plays_so, fares_so, no_item}
@@ -59,6 +60,25 @@ fares s (step ∷ past) who l =
       | inl h ↦ subst (λ (b : Bool). Fares (if b then step ∷ own who past else own who past)) (sym h.0) (one_fares s past who step.0 step.1 k.1 h.1 k.0, before)
       | inr h ↦ subst (λ (b : Bool). Fares (if b then step ∷ own who past else own who past)) (sym h.0) before
     ]
+
+-- a caller that asks for nothing but what it was granted
+answered_one : (before : List Step) (c : Call) (r : Reply) → FaresSo before c r → ActsSo before c → AnsweredSo c r
+answered_one before (call.Push unit) r f a = f a
+answered_one before call.End r f a = f a
+answered_one before (call.Take player want) r f a = f a
+answered_one before (call.Leave player) r f a = f a
+answered_one before call.Begin r f a = tt
+answered_one before (call.BeginAs name) r f a = tt
+answered_one before call.Join r f a = tt
+answered_one before (call.JoinAs name) r f a = tt
+answered_one before call.Count r f a = tt
+
+answered_all : (calls : List Step) → Fares calls → Acts calls → AreAnswered calls
+answered_all [] f a = tt
+answered_all (step ∷ before) f a = (answered_one before step.0.call step.1 f.0 a.0, answered_all before f.1 a.1)
+
+pub answered : (s : Shape) (past : History) (who : ℕ) (calls : List Step) → IsShapeLawful s past → own who past ≡ calls → Acts calls → AreAnswered calls
+answered s past who calls l same a = answered_all calls (subst (λ (c : List Step). Fares c) same (fares s past who l)) a
 
 -- ---- an item
 

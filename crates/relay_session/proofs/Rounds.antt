@@ -15,7 +15,7 @@ use Rattle.relay_session.specs.Places.{IsAt, IsOffered, IsThere}
 use Rattle.relay_session.specs.Session.{place_by}
 use Rattle.relay_session.proofs.Placing.{place_there}
 use Rattle.relay_session.specs.SeatState.{SeatState}
-use Rattle.relay_session.specs.Turns.{AfterCall, AfterKept, CalledBy, CameAs, EmptyBy, Fed, Input, InputBy, IsEnded, IsFilled, IsTried, KeptBy, Life, Loudly, Quietly, QuitBy, SendBy, Sent, SentAs, Stopping, Taken, TriedAs, is_held_back, is_hungry, is_nil, life, takes, takes_if}
+use Rattle.relay_session.specs.Turns.{AfterCall, AfterKept, CalledBy, CameAs, EmptyBy, Fed, Input, InputBy, IsEnded, IsFilled, IsTried, KeptBy, Life, Loudly, Quietly, QuitBy, SendBy, Sent, SentAs, StandsOnBefore, Stopping, Taken, TriedAs, is_held_back, is_hungry, is_nil, life, takes, takes_if}
 use Rattle.relay_session.specs.declared.core_fields.Core.{Core}
 use Rattle.relay_session.specs.declared.end.End.{End}
 use Rattle.relay_session.specs.declared.end.End.TheVariants as end
@@ -93,7 +93,7 @@ module _ {P S : Type 0} (asks : P → S → ℕ → Entry → Made → P → S �
   -- ---- the call that a message asked for
 
   after_tried : (v m w : Life P S) (came : Made) (result : Result Bool End) (b : Bool) (a : Turn) → result ≡ Ok b → TriedAs v came result m → Taken asks m true a w → AfterCall asks v came m a w
-  after_tried v m w (made.Answer r) result b a e (inl t) k = inl (t.1, k)
+  after_tried v m w (made.Answer r) result b a e (inl t) k = inl (t.1, k, t.2)
   after_tried v m w (made.Answer r) result b a e (inr t) k = absurd (let h : Ok b ≡ Err end.OutOfMemory = sym e ∙ t in cc)
   after_tried v m w (made.Busy f) result b a e t k = k
   after_tried v m w (made.Worn f) result b a e t k = absurd (let h : Ok b ≡ Err end.Worn = sym e ∙ t in cc)
@@ -131,14 +131,14 @@ module _ {P S : Type 0} (asks : P → S → ℕ → Entry → Made → P → S �
     -- ---- step 5
 
     pub fed_quiet : (v w : Life P S) (c : Core) (left : List ℕ) (some moved : Bool) (a : Turn) → IsFed v.parts v.input c left → left ≡ [] → Hears desk v.parts c false → some ≡ is_nil v.input
-        → Taken asks (life c left v.port v.seat) (moved || not some) a w → Fed asks desk v moved a w
-    fed_quiet v w c left some moved a f le h e t =
+        → Taken asks (life c left v.port v.seat) (moved || not some) a w → StandsOnBefore desk v.parts c → Fed asks desk v moved a w
+    fed_quiet v w c left some moved a f le h e t s =
         let T : Bool → Type 0 = λ b. Taken asks (life c [] v.port v.seat) (moved || not b) a w in
         let U : List ℕ → Type 0 = λ l. Taken asks (life c l v.port v.seat) (moved || not some) a w in
-        (Quietly, (c, (subst (IsFed v.parts v.input c) le f, h, subst T e (subst U le t))))
+        (Quietly, (c, (subst (IsFed v.parts v.input c) le f, h, subst T e (subst U le t), s)))
 
-    pub fed_loud : (v w : Life P S) (c : Core) (left : List ℕ) (moved : Bool) (a : Turn) → IsFed v.parts v.input c left → Hears desk v.parts c true → CalledBy asks c.kept (life c left v.port v.seat) a w → length v.parts.x < length c.x → Fed asks desk v moved a w
-    fed_loud v w c left moved a f h t g = (Loudly, (c, (left, (f, h, t, g))))
+    pub fed_loud : (v w : Life P S) (c : Core) (left : List ℕ) (moved : Bool) (a : Turn) → IsFed v.parts v.input c left → Hears desk v.parts c true → CalledBy asks c.kept (life c left v.port v.seat) a w → length v.parts.x < length c.x → StandsOnBefore desk v.parts c → Fed asks desk v moved a w
+    fed_loud v w c left moved a f h t g s = (Loudly, (c, (left, (f, h, t, g, s))))
 
     pub fed_stopped : (v : Life P S) (c : Core) (left : List ℕ) (e : End) (moved : Bool) (a : Turn) → IsStopped v.parts v.input e c → a ≡ Ended e → Fed asks desk v moved a (life c left v.port v.seat)
     fed_stopped v c left e moved a s ae = (Stopping e, (c, (s, record { ended = ae; gone = refl; port = refl; seat = refl })))
@@ -160,7 +160,7 @@ module _ {P S : Type 0} (asks : P → S → ℕ → Entry → Made → P → S �
 
         after_kept : (quit : Bool) (v k w : Life P S) (l m : L) (came : Made) (result : Result Bool End) (a : Turn) → result ≡ Ok true → TriedAs v came result k → QuitBy asks desk hears says quit k l true a w m
             → AfterKept asks desk hears says quit v came k l a w m
-        after_kept quit v k w l m (made.Answer r) result a e (inl t) n = inl (t.1, n)
+        after_kept quit v k w l m (made.Answer r) result a e (inl t) n = inl (t.1, n, t.2)
         after_kept quit v k w l m (made.Answer r) result a e (inr t) n = absurd (let h : Ok true ≡ Err end.OutOfMemory = sym e ∙ t in cc)
         after_kept quit v k w l m (made.Busy f) result a e t n = absurd (ok_differs result e t)
         after_kept quit v k w l m (made.Worn f) result a e t n = absurd (let h : Ok true ≡ Err end.Worn = sym e ∙ t in cc)

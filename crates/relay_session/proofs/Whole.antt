@@ -18,7 +18,8 @@ use Rattle.relay_session.specs.declared.seat_answers.Active.{Active}
 use Rattle.relay_session.specs.declared.seat_answers.Leaving.{Leaving}
 use Rattle.relay_session.specs.declared.seat_answers.Leaving.TheVariants as leaving
 use Rattle.relay_session.specs.Session.{session}
-use Rattle.relay_session.specs.SessionState.{IsLiving, Publishes, Rises, StandsBy, ended_by}
+use Rattle.relay_session.specs.Owing.{pending}
+use Rattle.relay_session.specs.SessionState.{IsLiving, IsWhole, Publishes, Rises, StandsBy, ended_by}
 use Rattle.relay_session.specs.Turns.{EndedBy, KeptBy, Leaves, Life, Lives}
 use Rattle.relay_session.specs.declared.core_fields.Core.{Core}
 use Rattle.relay_session.specs.declared.end.End.{End}
@@ -91,6 +92,26 @@ published_by None desk c l s = record {
 published_by (Some e) desk c l s = record {
   ms = s.ms;
   read = s.read;
+  units = published_are (session c.who c.window desk) (count_of (session c.who c.window desk) c.x) s.ms c.calls c.kept s.talks;
+}
+
+-- ---- all together
+
+pub whole_by : (o : Option End) (desk : Ask → Grant) (c : Core) → IsLiving o c → StandsBy o desk c → IsWhole desk c
+whole_by None desk c l s = record {
+  ms = c.reader.given;
+  read = read_here c l.sound;
+  more = pending c.outgoing;
+  owes = s.owes;
+  talks = s.talks;
+  units = published_are (session c.who c.window desk) (count_of (session c.who c.window desk) c.x) c.reader.given c.calls c.kept s.talks;
+}
+whole_by (Some e) desk c l s = record {
+  ms = s.ms;
+  read = s.read;
+  more = s.more;
+  owes = s.owes;
+  talks = s.talks;
   units = published_are (session c.who c.window desk) (count_of (session c.who c.window desk) c.x) s.ms c.calls c.kept s.talks;
 }
 

@@ -7,6 +7,7 @@ pub mod Holding
 pub mod SeatVisits
 pub mod SeatState
 pub mod SeatOwn
+pub mod Alone
 pub mod Places
 pub mod Turns
 pub mod Causes
@@ -15,3 +16,4 @@ pub mod Grants
 pub mod Onward
 pub mod Decided
 pub mod Coming
+pub mod Acting

@@ -5,7 +5,10 @@ use Rattle.command_dialog.specs.declared.types.Grant.{Grant}
 use Rattle.command_dialog.specs.declared.types.Grant.TheVariants as grant
 use Rattle.stream_model.specs.declared.calls.Entry.{Entry}
 use Rattle.stream_registry.specs.Names.{PortRules}
+use Rattle.stream_registry.specs.Splits.{Kin}
 use Rattle.stream_registry.specs.Told.{Step, Histories}
+use Rattle.turn_gate.specs.declared.view.Branch.{Branch}
+use Rattle.relay_session.specs.Alone.{GrowsBy, SplitsSo, made_step}
 use Rattle.relay_session.specs.SeatState.{SeatState, Calls, Fails, GoOn, HasFit, IsElsewhere, IsNoted, Makes, StandsAt, Tries, active_at, active_then, known, place_of, stays}
 use Rattle.relay_session.specs.SeatVisits.{calls_of}
 use Rattle.relay_session.specs.declared.core_fields.Core.{Core}
@@ -50,3 +53,13 @@ pub record Asked {P Q : Type 0} (fits : P → ℕ → Q → Type 0) (rules : P �
   pub fixed : rules port' ≡ rules port
   pub later : busies port ≤ busies port'
   pub passes : (q : ℕ) (p : Q) → fits port q p → fits port' q p
+
+-- THE SAME, AND NOTHING BESIDE IT: this call alone was added to the histories, if it was made, and no pass was split off but the
+-- session's own and the one that the call took in
+pub record AskedAlone {P Q : Type 0} (fits : P → ℕ → Q → Type 0) (rules : P → PortRules) (root : P → Histories) (seen : Q → List Step) (count : Q → ℕ) (wants : Entry → Type 0) (busies : P → ℕ)
+    (adds : List Step → List Step → List Step → Type 0) (kin : P → Kin) (branches : Q → List Branch)
+    (port : P) (seat : SeatState Q) (place : ℕ) (e : Entry) (r : Made) (port' : P) (seat' : SeatState Q) : Type 0 where
+  pub asked : Asked fits rules root seen count wants busies port seat place e r port' seat'
+  pub fit : HasFit (fits port') seat'.spot
+  pub grows : GrowsBy adds (root port) place (made_step e r) (root port')
+  pub splits : SplitsSo branches (kin port) seat.spot place r (kin port') seat'.spot

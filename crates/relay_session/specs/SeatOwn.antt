@@ -62,6 +62,42 @@ abbrev pub Fares : List Step → Type 0
 Fares [] = Unit {0}
 Fares (s ∷ before) = FaresSo before s.0.call s.1 × Fares before
 
+-- ---- a caller that asks for nothing but what it was granted
+
+-- A call that is made after these calls of the same name, the newest first: it publishes and ends only what that name began, and takes
+-- and leaves only where it was given a player's place
+abbrev pub ActsSo : List Step → Call → Type 0
+ActsSo before (call.Push unit) = publishes before ≡ true
+ActsSo before call.End = publishes before ≡ true
+ActsSo before (call.Take player want) = plays player before ≡ true
+ActsSo before (call.Leave player) = plays player before ≡ true
+ActsSo before call.Begin = Unit {0}
+ActsSo before (call.BeginAs name) = Unit {0}
+ActsSo before call.Join = Unit {0}
+ActsSo before (call.JoinAs name) = Unit {0}
+ActsSo before call.Count = Unit {0}
+
+-- each of these calls, after those before it
+abbrev pub Acts : List Step → Type 0
+Acts [] = Unit {0}
+Acts (s ∷ before) = ActsSo before s.0.call × Acts before
+
+-- what such a call is answered
+abbrev pub AnsweredSo : Call → Reply → Type 0
+AnsweredSo (call.Push unit) r = is_pushed r ≡ true
+AnsweredSo call.End r = is_ended r ≡ true
+AnsweredSo (call.Take player want) r = is_not_player r ≡ false
+AnsweredSo (call.Leave player) r = is_not_player r ≡ false
+AnsweredSo call.Begin r = Unit {0}
+AnsweredSo (call.BeginAs name) r = Unit {0}
+AnsweredSo call.Join r = Unit {0}
+AnsweredSo (call.JoinAs name) r = Unit {0}
+AnsweredSo call.Count r = Unit {0}
+
+abbrev pub AreAnswered : List Step → Type 0
+AreAnswered [] = Unit {0}
+AreAnswered (s ∷ before) = AnsweredSo s.0.call s.1 × AreAnswered before
+
 -- a call that is no Take brought no item
 abbrev pub BringsSo : Step → Type 0
 BringsSo s = is_take s.0.call ≡ false → is_some (item_in s.1) ≡ false

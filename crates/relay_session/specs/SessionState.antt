@@ -7,7 +7,7 @@ use Rattle.command_dialog.specs.declared.types.Grant.{Grant}
 use Rattle.session_owed.specs.Owed.{count_of, out}
 use Rattle.session_owed.specs.Published.{published, pushed_by, pushed_in}
 use Rattle.session_owed.specs.Talk.{hand_bytes, talk}
-use Rattle.session_owed.specs.Talks.{Rise}
+use Rattle.session_owed.specs.Talks.{Rise, Talks}
 use Rattle.relay_session.specs.Keeping.{HasEnded, IsOver, IsSteady, StandsBefore}
 use Rattle.relay_session.specs.Owing.{pending}
 use Rattle.relay_session.specs.SeatState.{SeatState}
@@ -74,6 +74,16 @@ IsUnsent (Some e) desk c n = BeginsOwed desk c
 pub record Publishes (desk : Ask → Grant) (c : Core) : Type 0 where
   pub ms : List (ℕ × Message)
   pub read : IsRead c.reader.max (drop hand_bytes c.x) ms
+  pub units : pushed_by c.calls ++ pushed_in c.kept ≡ published (session c.who c.window desk) ms c.calls
+
+-- ALL OF THAT TOGETHER, for the messages that the bytes fed read as: what was sent begins what is owed for them and its calls, its calls
+-- but the Takes, with the one that waits, are those that they ask for, and so its pushes are the units that they publish
+pub record IsWhole (desk : Ask → Grant) (c : Core) : Type 0 where
+  pub ms : List (ℕ × Message)
+  pub read : IsRead c.reader.max (drop hand_bytes c.x) ms
+  pub more : List ℕ
+  pub owes : c.sent ++ more ≡ out (session c.who c.window desk) c.x ms c.calls
+  pub talks : Talks (session c.who c.window desk) (count_of (session c.who c.window desk) c.x) ms c.calls c.kept
   pub units : pushed_by c.calls ++ pushed_in c.kept ≡ published (session c.who c.window desk) ms c.calls
 
 -- ITS CALLS STAND IN THE ORDER OF THEIR PLACES, which are among the bytes fed, and each of its Takes was made while a play was granted,

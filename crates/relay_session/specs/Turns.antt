@@ -1,5 +1,5 @@
 -- ONE TURN OF A SESSION, as a relation: by what the link and the port answered in it, each step with those after it
-use Rattle.std.specs.Prelude.{◌≡◌, ◌⊎◌, ℕ, ◌-◌, ◌<◌, Bool, true, false, not, ◌&&◌, ◌||◌, nat_le, if◌then◌else◌, List, [], ◌∷◌, length, take, Option, Some, None, Result, Ok, Err}
+use Rattle.std.specs.Prelude.{◌≡◌, ◌⊎◌, ℕ, ◌-◌, ◌<◌, Bool, true, false, not, ◌&&◌, ◌||◌, nat_le, if◌then◌else◌, List, [], ◌∷◌, length, drop, take, Option, Some, None, Result, Ok, Err}
 use Rattle.std.specs.Option.{is_some}
 use Rattle.relay_outside.specs.Heard.{Came, CameBytes, CameEnd, CameNotYet, CameFailed}
 use Rattle.relay_outside.specs.declared.link.Said.{Said}
@@ -13,7 +13,8 @@ use Rattle.stream_model.specs.declared.calls.Call.TheVariants as call
 use Rattle.stream_model.specs.declared.calls.Entry.{Entry}
 use Rattle.stream_model.specs.declared.replies.Reply.{Reply}
 use Rattle.stream_model.specs.declared.replies.Reply.TheVariants as reply
-use Rattle.session_owed.specs.Talk.{Own}
+use Rattle.chunk_reader.specs.Sound.{IsRead}
+use Rattle.session_owed.specs.Talk.{Own, hand_bytes}
 use Rattle.relay_session.specs.Feeding.{Hears, IsCalled, IsFed, IsOthers, IsSent, IsStopped}
 use Rattle.relay_session.specs.Keeping.{HasEnded, IsOver, IsSteady, StandsBefore}
 use Rattle.relay_session.specs.Owing.{IsUnfinished, pending}
@@ -90,6 +91,16 @@ pub record IsFilled (old new : Core) : Type 0 where
   pub others : new.outgoing.others ≡ old.outgoing.others
   pub let_go : IsUnfinished new.outgoing.hand
 
+-- a step goes on from where the one before it stood: where what was sent and what is pending was what is owed before this desk, it is so
+-- after it, and the messages read are those of the bytes fed
+pub record StandsOnBefore (desk : Ask → Grant) (old new : Core) : Type 0 where
+  pub stands : StandsBefore desk old → StandsBefore desk new
+  pub read : IsRead new.reader.max (drop hand_bytes new.x) new.reader.given
+
+-- before each desk
+abbrev pub StandsOn : Core → Core → Type 0
+StandsOn old new = (desk : Ask → Grant) → StandsOnBefore desk old new
+
 -- ---- how it ends
 
 -- what is left of a session that has ended
@@ -146,7 +157,7 @@ module _ {P S : Type 0} where
   abbrev pub TakeMade : Life P S → Entry → Bool → Made → Life P S → Turn → Type 0
   TakeMade v e moved (made.Answer r) w a =
       IsCalled v.parts e r w.parts
-      × (((a ≡ answer (moved || not (is_not_yet r))) × (w.parts.outgoing.others ≡ 0)) ⊎ (a ≡ Ended end.OutOfMemory))
+      × (((a ≡ answer (moved || not (is_not_yet r))) × (w.parts.outgoing.others ≡ 0) × StandsOn v.parts w.parts) ⊎ (a ≡ Ended end.OutOfMemory))
   TakeMade v e moved (made.Busy f) w a = (w.parts ≡ v.parts) × (a ≡ answer moved)
   TakeMade v e moved (made.Worn f) w a = (w.parts ≡ v.parts) × (a ≡ Ended end.Worn)
   TakeMade v e moved (made.OutOfMemory f) w a = (w.parts ≡ v.parts) × (a ≡ Ended end.OutOfMemory)
@@ -160,7 +171,7 @@ module _ {P S : Type 0} where
 
   -- what was tried: it was heard, it waits on, or the session ends
   abbrev pub TriedAs : Life P S → Made → Result Bool End → Life P S → Type 0
-  TriedAs v (made.Answer r) result m = ((result ≡ Ok true) × IsOthers v.parts m.parts) ⊎ (result ≡ Err end.OutOfMemory)
+  TriedAs v (made.Answer r) result m = ((result ≡ Ok true) × IsOthers v.parts m.parts × StandsOn v.parts m.parts) ⊎ (result ≡ Err end.OutOfMemory)
   TriedAs v (made.Busy f) result m = result ≡ Ok false
   TriedAs v (made.Worn f) result m = result ≡ Err end.Worn
   TriedAs v (made.OutOfMemory f) result m = result ≡ Err end.OutOfMemory
@@ -197,7 +208,7 @@ module _ {P S : Type 0} (asks : P → S → ℕ → Entry → Made → P → S �
 
   -- the call that a message asked for, and then step 6
   abbrev pub AfterCall : Life P S → Made → Life P S → Turn → Life P S → Type 0
-  AfterCall v (made.Answer r) m a w = (IsOthers v.parts m.parts × Taken m true a w) ⊎ IsEnded end.OutOfMemory m a w
+  AfterCall v (made.Answer r) m a w = (IsOthers v.parts m.parts × Taken m true a w × StandsOn v.parts m.parts) ⊎ IsEnded end.OutOfMemory m a w
   AfterCall v (made.Busy f) m a w = Taken m true a w
   AfterCall v (made.Worn f) m a w = IsEnded end.Worn m a w
   AfterCall v (made.OutOfMemory f) m a w = IsEnded end.OutOfMemory m a w
@@ -210,9 +221,11 @@ module _ {P S : Type 0} (asks : P → S → ℕ → Entry → Made → P → S �
     -- ---- STEP 5: input is fed until a message is complete and handled, or none is left
     abbrev pub FedAs : FedBy → Life P S → Bool → Turn → Life P S → Type 0
     FedAs Quietly v moved a w =
-        (c : Core) × (IsFed v.parts v.input c [] × Hears desk v.parts c false × Taken (life c [] v.port v.seat) (moved || not (is_nil v.input)) a w)
+        (c : Core) × (IsFed v.parts v.input c [] × Hears desk v.parts c false × Taken (life c [] v.port v.seat) (moved || not (is_nil v.input)) a w
+        × StandsOnBefore desk v.parts c)
     FedAs Loudly v moved a w =
-        (c : Core) × ((left : List ℕ) × (IsFed v.parts v.input c left × Hears desk v.parts c true × CalledBy c.kept (life c left v.port v.seat) a w × (length v.parts.x < length c.x)))
+        (c : Core) × ((left : List ℕ) × (IsFed v.parts v.input c left × Hears desk v.parts c true × CalledBy c.kept (life c left v.port v.seat) a w
+        × (length v.parts.x < length c.x) × StandsOnBefore desk v.parts c))
     FedAs (Stopping e) v moved a w =
         (c : Core) × (IsStopped v.parts v.input e c × IsEnded e (life c v.input v.port v.seat) a w)
 
@@ -242,7 +255,7 @@ module _ {P S : Type 0} (asks : P → S → ℕ → Entry → Made → P → S �
       module _ (says : L → List ℕ → Said → L → Type 0) where
         -- ---- STEP 4: one send of the first 16,384 bytes pending, or of all
         abbrev pub SentAs : Said → Life P S → L → Bool → Turn → Life P S → L → Type 0
-        SentAs (said.Took n) v l moved a w m = (c : Core) × (IsSent v.parts n c × Input (life c v.input v.port v.seat) l true a w m)
+        SentAs (said.Took n) v l moved a w m = (c : Core) × (IsSent v.parts n c × Input (life c v.input v.port v.seat) l true a w m × StandsOn v.parts c)
         SentAs said.NotYet v l moved a w m = Input v l moved a w m
         SentAs said.Failed v l moved a w m = IsEnded end.LinkFault v a w × (m ≡ l)
         SentAs said.OutOfMemory v l moved a w m = IsEnded end.OutOfMemory v a w × (m ≡ l)
@@ -264,7 +277,7 @@ module _ {P S : Type 0} (asks : P → S → ℕ → Entry → Made → P → S �
         -- ---- STEP 2: the call that waits is made. Where it is busy again, the turn does nothing else
         abbrev pub AfterKept : Bool → Life P S → Made → Life P S → L → Turn → Life P S → L → Type 0
         AfterKept quit v (made.Answer r) k l a w m =
-            (IsOthers v.parts k.parts × QuitBy quit k l true a w m) ⊎ (IsEnded end.OutOfMemory k a w × (m ≡ l))
+            (IsOthers v.parts k.parts × QuitBy quit k l true a w m × StandsOn v.parts k.parts) ⊎ (IsEnded end.OutOfMemory k a w × (m ≡ l))
         AfterKept quit v (made.Busy f) k l a w m = (a ≡ Idle) × (w ≡ k) × (m ≡ l)
         AfterKept quit v (made.Worn f) k l a w m = IsEnded end.Worn k a w × (m ≡ l)
         AfterKept quit v (made.OutOfMemory f) k l a w m = IsEnded end.OutOfMemory k a w × (m ≡ l)

@@ -1,11 +1,11 @@
 ghost use Rattle.stream_registry.specs.Names.{places};
-ghost use Rattle.std.specs.Prelude.{◌≡◌, [], length, None, Some, Result};
+ghost use Rattle.std.specs.Prelude.{◌≡◌, ◌||◌, [], length, None, Some, Result};
 ghost use Rattle.command_dialog.specs.State.{playing_in};
 ghost use Rattle.command_dialog.specs.declared.types.Ask.{Ask};
 ghost use Rattle.command_dialog.specs.declared.types.Grant.{Grant};
 ghost use Rattle.relay_session.specs.Keeping.{IsSteady, StandsBefore, waiting};
 ghost use Rattle.relay_session.specs.Owing.{pending};
-ghost use Rattle.relay_session.specs.Places.{Asked, IsAt};
+ghost use Rattle.relay_session.specs.Places.{AskedAlone, IsAt};
 ghost use Rattle.relay_session.specs.Turns.{IsTried, Leaves, LeavesTried, Lives, LivesTried, TakeAsked, answer, is_not_yet, life};
 
 use crate::body::Body;
@@ -22,6 +22,13 @@ pub(crate) fn answer_of(moved: bool) -> Turn
     ensures { result ≡ answer moved }
 {
     if moved { Turn::Moved } else { Turn::Idle }
+}
+
+/// Either of the two.
+pub(crate) fn either(a: bool, b: bool) -> bool
+    ensures { result ≡ (a || b) }
+{
+    a || b
 }
 
 // Whether a reply finds nothing for the player.
@@ -67,7 +74,7 @@ pub(crate) fn make<P: StreamPort>(
     ensures sound { LivesTried body.new.core result }
     ensures stands { (desk : Ask → Grant) → StandsBefore desk (waiting body.old.core entry) → LeavesTried desk body.new.core result }
     ensures fixed { P.rules port.new ≡ P.rules port.old }
-    ensures tried { IsTried (Asked P.fits P.rules P.root P.seen P.count P.wants P.busies)
+    ensures tried { IsTried (AskedAlone P.fits P.rules P.root P.seen P.count P.wants P.busies P.adds P.kin P.branches)
         (life (waiting body.old.core entry) body.old.input port.old body.old.seat) entry result (life body.new.core body.new.input port.new body.new.seat) }
 {
     let Some(place) = body.core.place else {
@@ -110,7 +117,7 @@ pub(crate) fn take<P: StreamPort>(
     ensures at { IsAt (P.fits port.new) (places (P.rules port.new)) body.new.core body.new.seat }
     ensures sound { Lives body.new.core result }
     ensures stands { (desk : Ask → Grant) → StandsBefore desk body.old.core → Leaves desk body.new.core result }
-    ensures taken { TakeAsked (Asked P.fits P.rules P.root P.seen P.count P.wants P.busies)
+    ensures taken { TakeAsked (AskedAlone P.fits P.rules P.root P.seen P.count P.wants P.busies P.adds P.kin P.branches)
         (life body.old.core body.old.input port.old body.old.seat) playing.now moved result (life body.new.core body.new.input port.new body.new.seat) }
 {
     let Some(place) = body.core.place else {
@@ -129,7 +136,7 @@ pub(crate) fn take<P: StreamPort>(
         Made::Answer(reply) => {
             let found = !finds_nothing(&reply);
             match hear_item(&mut body.core, alloc, playing, asked, reply) {
-                Ok(()) => answer_of(moved || found),
+                Ok(()) => answer_of(either(moved, found)),
                 Err(_) => Turn::Ended(End::OutOfMemory),
             }
         }

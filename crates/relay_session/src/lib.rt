@@ -36,7 +36,7 @@ pub use outgoing::Outgoing;
 pub use place_desk::{PlaceDesk, grants_law};
 pub use seat::Seat;
 pub use seat_answers::{Active, Leaving, Made};
-pub use seat_law::{items_law, own_calls_law};
+pub use seat_law::{alone_law, items_law, own_calls_law};
 pub use session::Session;
 pub use steps::{Part, chunk_piece, hand_piece, hear_item, hear_reply, new_core, note_sent};
 pub use turn::Turn;

@@ -5,6 +5,9 @@ ghost use Rattle.relay_session.specs.SeatVisits.{calls_of};
 ghost use Rattle.relay_session.specs.SeatState.{CanCome, GoOn, HasFit, IsElsewhere, SeatState, StandsAt, active_at, known, left_at, place_of, stays};
 ghost use Rattle.relay_session.specs.SeatState.{Calls, Fails, FinishFails, Finishes, IsNoted, LeaveFails, LeaveTries, LeavesFrom, Makes, Once, OnceIf, Tries, numbers_at};
 ghost use Rattle.relay_session.specs.SeatState.{active_after, active_then, is_over, last_of};
+ghost use Rattle.relay_session.specs.Alone.{AddsNone, Comes, GivesBack, GrowsAs, GrowsBy, GrowsFrom, LeaveSplits, LeavesSplit};
+ghost use Rattle.relay_session.specs.Alone.{Splits, SplitsSo, answer_of, branches_at, made_step};
+ghost use Rattle.stream_registry.specs.Splits.{CallSplits};
 
 use crate::{Active, Leaving, Made};
 use past::{History, Pair};
@@ -126,6 +129,8 @@ impl<P: StreamPort> Seat<P> {
         ensures others { (q : ℕ) → IsElsewhere self.old.spot q → P.root port.new q ≡ P.root port.old q }
         ensures fixed { (P.rules port.new ≡ P.rules port.old) × (P.busies port.new ≡ P.busies port.old) }
         ensures passes { (q : ℕ) (p : P.Pass) → P.fits port.old q p → P.fits port.new q p }
+        ensures adds { AddsNone P.adds (P.root port.old) (P.root port.new) }
+        ensures gives { GivesBack P.branches (P.kin port.old) self.old.spot (P.kin port.new) }
     {
         self.active = Active::Nothing;
         match self.spot.take() {
@@ -156,6 +161,8 @@ impl<P: StreamPort> Seat<P> {
         ensures others { (q : ℕ) → IsElsewhere self.old.spot q → P.root port.new q ≡ P.root port.old q }
         ensures fixed { (P.rules port.new ≡ P.rules port.old) × (P.busies port.new ≡ P.busies port.old) }
         ensures passes { (q : ℕ) (p : P.Pass) → P.fits port.old q p → P.fits port.new q p }
+        ensures adds { AddsNone P.adds (P.root port.old) (P.root port.new) }
+        ensures comes { Comes P.branches (P.kin port.old) self.old.spot place (branches_at P.branches self.new.spot) (P.kin port.new) }
     {
         if self.place() == Some(place) {
             return;
@@ -184,6 +191,9 @@ impl<P: StreamPort> Seat<P> {
         ensures fixed { P.rules port.new ≡ P.rules port.old }
         ensures busies { P.busies port.old ≤ P.busies port.new }
         ensures passes { (q : ℕ) (p : P.Pass) → P.fits port.old q p → P.fits port.new q p }
+        ensures adds { GrowsBy P.adds (P.root port.old) place (made_step entry result) (P.root port.new) }
+        ensures splits { CallSplits (P.kin port.old) (branches_at P.branches self.old.spot) (answer_of result)
+            (P.kin port.new) (branches_at P.branches self.new.spot) place }
     {
         match &mut self.spot {
             None => unreachable!(),
@@ -224,6 +234,8 @@ impl<P: StreamPort> Seat<P> {
         ensures fixed { P.rules port.new ≡ P.rules port.old }
         ensures busies { P.busies port.old ≤ P.busies port.new }
         ensures passes { (q : ℕ) (p : P.Pass) → P.fits port.old q p → P.fits port.new q p }
+        ensures adds { GrowsBy P.adds (P.root port.old) place (made_step entry result) (P.root port.new) }
+        ensures splits { Splits (P.kin port.old) place (branches_at P.branches self.old.spot) result (P.kin port.new) (branches_at P.branches self.new.spot) }
     {
         match self.ask(port, place, entry) {
             Made::Answer(reply) => {
@@ -261,6 +273,8 @@ impl<P: StreamPort> Seat<P> {
         ensures fixed { P.rules port.new ≡ P.rules port.old }
         ensures busies { P.busies port.old ≤ P.busies port.new }
         ensures passes { (q : ℕ) (p : P.Pass) → P.fits port.old q p → P.fits port.new q p }
+        ensures adds { GrowsBy P.adds (P.root port.old) place (made_step entry result) (P.root port.new) }
+        ensures splits { SplitsSo P.branches (P.kin port.old) self.old.spot place result (P.kin port.new) self.new.spot }
     {
         self.enter(port, place);
         self.call(port, place, entry)
@@ -282,6 +296,9 @@ impl<P: StreamPort> Seat<P> {
         ensures fixed { P.rules port.new ≡ P.rules port.old }
         ensures busies { P.busies port.old ≤ P.busies port.new }
         ensures passes { (q : ℕ) (p : P.Pass) → P.fits port.old q p → P.fits port.new q p }
+        ensures adds { GrowsAs P.adds ((P.rules port.old).limits place) (P.root port.old) (known P.root P.seen port.old self.old place) place
+            self.old.visits self.new.visits (P.root port.new) (known P.root P.seen port.new self.new place) }
+        ensures splits { LeaveSplits P.branches (P.kin port.old) self.old.spot place self.old.visits self.new.visits (P.kin port.new) self.new.spot }
     {
         let Some(call) = last(self.active) else {
             self.rise(port);
@@ -318,6 +335,10 @@ impl<P: StreamPort> Seat<P> {
         ensures fixed { P.rules port.new ≡ P.rules port.old }
         ensures busies { P.busies port.old ≤ P.busies port.new }
         ensures passes { (q : ℕ) (p : P.Pass) → P.fits port.old q p → P.fits port.new q p }
+        ensures adds { GrowsFrom P.adds (P.rules port.old).limits (P.root port.old) (known P.root P.seen port.old self.old) (place_of self.old.spot)
+            self.old.visits self.new.visits (P.root port.new) (known P.root P.seen port.new self.new) }
+        ensures splits { LeavesSplit (place_of self.old.spot) P.branches (P.kin port.old) self.old.spot self.old.visits self.new.visits
+            (P.kin port.new) self.new.spot }
     {
         let Some(place) = self.place() else {
             return Leaving::Done;

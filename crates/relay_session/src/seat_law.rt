@@ -2,8 +2,8 @@ ghost use Rattle.std.specs.Prelude.{◌≡◌, ℕ, true, List, All};
 ghost use Rattle.stream_model.specs.declared.calls.Shape.{Shape};
 ghost use Rattle.stream_model.specs.History.{History};
 ghost use Rattle.stream_model.specs.Shape.{IsShapeLawful};
-ghost use Rattle.stream_registry.specs.Told.{Histories};
-ghost use Rattle.relay_session.specs.SeatOwn.{BringsSo, Fares, IsPlayer, IsPublisher, own};
+ghost use Rattle.stream_registry.specs.Told.{Histories, Step};
+ghost use Rattle.relay_session.specs.SeatOwn.{Acts, AreAnswered, BringsSo, Fares, IsPlayer, IsPublisher, own};
 ghost use Rattle.relay_session.specs.SeatState.{plays, publishes};
 ghost use Rattle.relay_session.specs.SeatVisits.{AllStand, Visit, calls_of};
 
@@ -16,6 +16,12 @@ pub fn own_calls_law()
     ensures player { (s : Shape) (past : History) (who player : ℕ) → IsShapeLawful s past → plays player (own who past) ≡ true
         → IsPlayer s past who player }
     ensures fares { (s : Shape) (past : History) (who : ℕ) → IsShapeLawful s past → Fares (own who past) }
+{}
+
+/// Where all calls of a name at a stream or a pool are these, and its caller publishes only what it began and takes only where it
+/// was given a place, each of its Pushes is answered Pushed and each End Ended, and none of its Takes and Leaves NotPlayer.
+pub fn alone_law()
+    ensures { (s : Shape) (past : History) (who : ℕ) (calls : List Step) → IsShapeLawful s past → own who past ≡ calls → Acts calls → AreAnswered calls }
 {}
 
 /// Of the calls of a session, which stand in the histories of their places, a Take alone was sent an item.

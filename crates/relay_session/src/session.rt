@@ -5,15 +5,18 @@ ghost use Rattle.ack_window.specs.Outbound.{new_out};
 ghost use Rattle.command_dialog.specs.declared.types.Ask.{Ask};
 ghost use Rattle.command_dialog.specs.declared.types.Grant.{Grant};
 ghost use Rattle.session_owed.specs.Standing.{new_past};
+ghost use Rattle.relay_session.specs.Acting.{Acting, ActsBy};
+ghost use Rattle.relay_session.specs.Alone.{GrowsFrom, LeavesSplit};
 ghost use Rattle.relay_session.specs.Causes.{Did, MayBe};
 ghost use Rattle.relay_session.specs.Coming.{HasCome};
 ghost use Rattle.relay_session.specs.Holding.{IsHolding, most_held};
 ghost use Rattle.relay_session.specs.Keeping.{past_of};
 ghost use Rattle.relay_session.specs.Owing.{nothing};
 ghost use Rattle.relay_session.specs.Onward.{GoesOn};
-ghost use Rattle.relay_session.specs.Places.{Asked, IsAt, IsOffered};
-ghost use Rattle.relay_session.specs.SeatState.{GoOn, HasFit, IsElsewhere, LeaveFails, LeaveTries, LeavesFrom, StandsAt, left_at, place_of};
-ghost use Rattle.relay_session.specs.SessionState.{BeginsOwed, IsUnsent, Publishes, Rises, StandsFor, end_or_quit, ended_by, lasting_of, life_at, pending_by};
+ghost use Rattle.relay_session.specs.Places.{AskedAlone, IsAt, IsOffered};
+ghost use Rattle.relay_session.specs.SeatState.{GoOn, HasFit, IsElsewhere, LeaveFails, LeaveTries, LeavesFrom, StandsAt, known, left_at, place_of};
+ghost use Rattle.relay_session.specs.SessionState.{BeginsOwed, IsUnsent, IsWhole, Publishes, Rises, StandsFor};
+ghost use Rattle.relay_session.specs.SessionState.{end_or_quit, ended_by, lasting_of, life_at, pending_by};
 ghost use Rattle.relay_session.specs.Turns.{EndedBy};
 ghost use Rattle.relay_session.specs.declared.seat_answers.Leaving.TheVariants as left;
 
@@ -82,6 +85,7 @@ impl<P: StreamPort> Session<P> {
         ensures input { result.input ≡ [] }
         ensures lives { (result.quit ≡ false) × (result.ended ≡ None) }
         ensures waits { HasCome result.parts result.seat }
+        ensures acts { ActsBy result.ended result.parts result.seat }
         ensures at { (result.parts.place ≡ None) × (result.seat.spot ≡ None) × (result.seat.visits ≡ []) }
     {
         Session {
@@ -106,8 +110,8 @@ impl<P: StreamPort> Session<P> {
         requires at { IsAt (P.fits port.old) (places (P.rules port.old)) self.old.parts self.old.seat }
         requires offered { IsOffered (D.grants desk.now) (places (P.rules port.old)) }
         ensures at { IsAt (P.fits port.new) (places (P.rules port.new)) self.new.parts self.new.seat }
-        ensures turn { EndedBy (Asked P.fits P.rules P.root P.seen P.count P.wants P.busies) (D.grants desk.now) L.hears L.says self.old.ended self.old.quit
-            (life_at self.old port.old) link.old result (life_at self.new port.new) link.new }
+        ensures turn { EndedBy (AskedAlone P.fits P.rules P.root P.seen P.count P.wants P.busies P.adds P.kin P.branches) (D.grants desk.now)
+            L.hears L.says self.old.ended self.old.quit (life_at self.old port.old) link.old result (life_at self.new port.new) link.new }
         ensures goes_on { GoesOn P.fits P.rules P.root P.seen P.busies port.old self.old.seat port.new self.new.seat }
         ensures ended { self.new.ended ≡ ended_by result }
         ensures quit { self.new.quit ≡ self.old.quit }
@@ -118,6 +122,8 @@ impl<P: StreamPort> Session<P> {
         ensures units { StandsFor (D.grants desk.now) self.old → Publishes (D.grants desk.now) self.new.parts }
         ensures rises { StandsFor (D.grants desk.now) self.old → Rises (D.grants desk.now) self.new.parts }
         ensures waits { HasCome self.old.parts self.old.seat → HasCome self.new.parts self.new.seat }
+        ensures acts { StandsFor (D.grants desk.now) self.old → ActsBy self.old.ended self.old.parts self.old.seat
+            → ActsBy self.new.ended self.new.parts self.new.seat }
     {
         match self.ended {
             Some(end) => Turn::Ended(end),
@@ -150,12 +156,17 @@ impl<P: StreamPort> Session<P> {
         ensures tries { LeaveTries (P.busies port.old) (P.busies port.new) result }
         ensures made { HasCome self.old.parts self.old.seat → result ≡ left.Done → self.new.parts.kept ≡ None }
         ensures waits { HasCome self.old.parts self.old.seat → result ≢ left.Worn → HasCome self.new.parts self.new.seat }
+        ensures acts { Acting self.old.parts self.old.seat → Acting self.new.parts self.new.seat }
         ensures stands { StandsAt P.rules P.root P.seen port.old self.old.seat → StandsAt P.rules P.root P.seen port.new self.new.seat }
         ensures roots { GoOn (P.root port.old) (P.root port.new) }
         ensures fixed { P.rules port.new ≡ P.rules port.old }
         ensures busies { P.busies port.old ≤ P.busies port.new }
         ensures others { (q : ℕ) → IsElsewhere self.old.seat.spot q → P.root port.new q ≡ P.root port.old q }
         ensures passes { (q : ℕ) (p : P.Pass) → P.fits port.old q p → P.fits port.new q p }
+        ensures adds { GrowsFrom P.adds (P.rules port.old).limits (P.root port.old) (known P.root P.seen port.old self.old.seat) (place_of self.old.seat.spot)
+            self.old.seat.visits self.new.seat.visits (P.root port.new) (known P.root P.seen port.new self.new.seat) }
+        ensures splits { LeavesSplit (place_of self.old.seat.spot) P.branches (P.kin port.old) self.old.seat.spot self.old.seat.visits
+            self.new.seat.visits (P.kin port.new) self.new.seat.spot }
         ensures ended { self.new.ended ≡ Some (end_or_quit self.old.ended) }
         ensures parts { self.new.parts ≡ record self.old.parts { kept = self.new.parts.kept } }
         ensures untouched { (self.new.quit ≡ self.old.quit) × (self.new.input ≡ self.old.input) }
@@ -188,9 +199,10 @@ impl<P: StreamPort> Session<P> {
         }
     }
 
-    /// What it was sent begins what it owes before each desk for which it stands.
+    /// What it was sent begins what it owes before each desk for which it stands, and its pushes are the units that its messages publish.
     pub fn owed_law(&self)
-        ensures { (desk : Ask → Grant) → StandsFor desk self.now → BeginsOwed desk self.now.parts }
+        ensures owed { (desk : Ask → Grant) → StandsFor desk self.now → BeginsOwed desk self.now.parts }
+        ensures whole { (desk : Ask → Grant) → StandsFor desk self.now → IsWhole desk self.now.parts }
     {
         let _ = &self.ended;
     }

@@ -1,15 +1,15 @@
 //! The six steps of a turn, the last first. Each function does one step and those after it.
 ghost use Rattle.stream_registry.specs.Names.{places};
-ghost use Rattle.std.specs.Prelude.{◌≡◌, ◌≤◌, ◌⊎◌, ◌||◌, [], length, take, true, None};
+ghost use Rattle.std.specs.Prelude.{◌≡◌, ◌≤◌, ◌⊎◌, [], length, take, true, None};
 ghost use Rattle.command_dialog.specs.declared.types.Ask.{Ask};
 ghost use Rattle.command_dialog.specs.declared.types.Grant.{Grant};
 ghost use Rattle.relay_session.specs.Keeping.{IsSteady, StandsBefore};
-ghost use Rattle.relay_session.specs.Places.{Asked, IsAt, IsOffered};
+ghost use Rattle.relay_session.specs.Places.{AskedAlone, IsAt, IsOffered};
 ghost use Rattle.relay_session.specs.Turns.{CalledBy, Fed, Input as FromInput, KeptBy, QuitBy, Sent, Taken};
 ghost use Rattle.relay_session.specs.Turns.{Leaves, Lives, is_held_back, is_hungry, life, takes};
 
 use crate::body::Body;
-use crate::calls::{answer_of, make, take};
+use crate::calls::{answer_of, either, make, take};
 use crate::input::is_empty;
 use crate::refill::fill;
 use crate::steps::note_sent;
@@ -28,12 +28,6 @@ const RECEIVE_MOST: usize = 4_096;
 
 // How many bytes of no item may be pending where input is taken.
 const ANSWERS_MOST: usize = 8_192;
-
-fn either(a: bool, b: bool) -> bool
-    ensures { result ≡ (a || b) }
-{
-    a || b
-}
 
 // The first bytes, or all.
 fn first(bytes: &[u8], count: usize) -> &[u8]
@@ -84,7 +78,7 @@ fn finish<P: StreamPort>(body: &mut Body<P>, port: &mut P, alloc: Global, moved:
     ensures at { IsAt (P.fits port.new) (places (P.rules port.new)) body.new.core body.new.seat }
     ensures sound { Lives body.new.core result }
     ensures stands { (desk : Ask → Grant) → StandsBefore desk body.old.core → Leaves desk body.new.core result }
-    ensures turn { Taken (Asked P.fits P.rules P.root P.seen P.count P.wants P.busies)
+    ensures turn { Taken (AskedAlone P.fits P.rules P.root P.seen P.count P.wants P.busies P.adds P.kin P.branches)
         (life body.old.core body.old.input port.old body.old.seat) moved result (life body.new.core body.new.input port.new body.new.seat) }
 {
     match fill(&mut body.core, alloc) {
@@ -104,7 +98,7 @@ fn make_on<P: StreamPort>(body: &mut Body<P>, port: &mut P, alloc: Global) -> Tu
     ensures at { IsAt (P.fits port.new) (places (P.rules port.new)) body.new.core body.new.seat }
     ensures sound { Lives body.new.core result }
     ensures stands { (desk : Ask → Grant) → StandsBefore desk body.old.core → Leaves desk body.new.core result }
-    ensures turn { CalledBy (Asked P.fits P.rules P.root P.seen P.count P.wants P.busies) body.old.core.kept
+    ensures turn { CalledBy (AskedAlone P.fits P.rules P.root P.seen P.count P.wants P.busies P.adds P.kin P.branches) body.old.core.kept
         (life body.old.core body.old.input port.old body.old.seat) result (life body.new.core body.new.input port.new body.new.seat) }
 {
     match body.core.kept.take() {
@@ -132,7 +126,7 @@ fn feed_on<P: StreamPort, D: Desk>(
     ensures at { IsAt (P.fits port.new) (places (P.rules port.new)) body.new.core body.new.seat }
     ensures sound { Lives body.new.core result }
     ensures stands { StandsBefore (D.grants desk.now) body.old.core → Leaves (D.grants desk.now) body.new.core result }
-    ensures turn { Fed (Asked P.fits P.rules P.root P.seen P.count P.wants P.busies) (D.grants desk.now)
+    ensures turn { Fed (AskedAlone P.fits P.rules P.root P.seen P.count P.wants P.busies P.adds P.kin P.branches) (D.grants desk.now)
         (life body.old.core body.old.input port.old body.old.seat) moved result (life body.new.core body.new.input port.new body.new.seat) }
 {
     let none = is_empty(body.input.left());
@@ -159,7 +153,7 @@ fn input_on<P: StreamPort, D: Desk, L: Link>(
     ensures at { IsAt (P.fits port.new) (places (P.rules port.new)) body.new.core body.new.seat }
     ensures sound { Lives body.new.core result }
     ensures stands { StandsBefore (D.grants desk.now) body.old.core → Leaves (D.grants desk.now) body.new.core result }
-    ensures turn { FromInput (Asked P.fits P.rules P.root P.seen P.count P.wants P.busies) (D.grants desk.now) L.hears
+    ensures turn { FromInput (AskedAlone P.fits P.rules P.root P.seen P.count P.wants P.busies P.adds P.kin P.branches) (D.grants desk.now) L.hears
         (life body.old.core body.old.input port.old body.old.seat) link.old moved result (life body.new.core body.new.input port.new body.new.seat) link.new }
 {
     if !hungry(&body.core) {
@@ -196,7 +190,7 @@ fn send_on<P: StreamPort, D: Desk, L: Link>(
     ensures at { IsAt (P.fits port.new) (places (P.rules port.new)) body.new.core body.new.seat }
     ensures sound { Lives body.new.core result }
     ensures stands { StandsBefore (D.grants desk.now) body.old.core → Leaves (D.grants desk.now) body.new.core result }
-    ensures turn { Sent (Asked P.fits P.rules P.root P.seen P.count P.wants P.busies) (D.grants desk.now) L.hears L.says
+    ensures turn { Sent (AskedAlone P.fits P.rules P.root P.seen P.count P.wants P.busies P.adds P.kin P.branches) (D.grants desk.now) L.hears L.says
         (life body.old.core body.old.input port.old body.old.seat) link.old moved result (life body.new.core body.new.input port.new body.new.seat) link.new }
 {
     match fill(&mut body.core, alloc) {
@@ -234,7 +228,7 @@ fn quit_on<P: StreamPort, D: Desk, L: Link>(
     ensures at { IsAt (P.fits port.new) (places (P.rules port.new)) body.new.core body.new.seat }
     ensures sound { Lives body.new.core result }
     ensures stands { StandsBefore (D.grants desk.now) body.old.core → Leaves (D.grants desk.now) body.new.core result }
-    ensures turn { QuitBy (Asked P.fits P.rules P.root P.seen P.count P.wants P.busies) (D.grants desk.now) L.hears L.says quit
+    ensures turn { QuitBy (AskedAlone P.fits P.rules P.root P.seen P.count P.wants P.busies P.adds P.kin P.branches) (D.grants desk.now) L.hears L.says quit
         (life body.old.core body.old.input port.old body.old.seat) link.old moved result (life body.new.core body.new.input port.new body.new.seat) link.new }
 {
     if quit {
@@ -258,7 +252,7 @@ pub(crate) fn kept_on<P: StreamPort, D: Desk, L: Link>(
     ensures at { IsAt (P.fits port.new) (places (P.rules port.new)) body.new.core body.new.seat }
     ensures sound { Lives body.new.core result }
     ensures stands { StandsBefore (D.grants desk.now) body.old.core → Leaves (D.grants desk.now) body.new.core result }
-    ensures turn { KeptBy (Asked P.fits P.rules P.root P.seen P.count P.wants P.busies) (D.grants desk.now) L.hears L.says body.old.core.kept quit
+    ensures turn { KeptBy (AskedAlone P.fits P.rules P.root P.seen P.count P.wants P.busies P.adds P.kin P.branches) (D.grants desk.now) L.hears L.says body.old.core.kept quit
         (life body.old.core body.old.input port.old body.old.seat) link.old result (life body.new.core body.new.input port.new body.new.seat) link.new }
 {
     match body.core.kept.take() {

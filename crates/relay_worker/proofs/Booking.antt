@@ -27,11 +27,13 @@ use Rattle.stream_model.specs.declared.calls.Entry.{Entry}
 use Rattle.stream_model.specs.declared.calls.Shape.{Shape}
 use Rattle.stream_model.specs.declared.replies.Reply.{Reply}
 use Rattle.stream_registry.specs.Names.{PortRules}
+use Rattle.stream_registry.specs.Splits.{Kin}
 use Rattle.stream_registry.specs.Told.{Step, Histories}
+use Rattle.turn_gate.specs.declared.view.Branch.{Branch}
 use Rattle.turn_gate.specs.Histories.{Begins}
 use Rattle.relay_session.specs.Decided.{IsDecided}
 use Rattle.relay_session.specs.Onward.{GoesOn}
-use Rattle.relay_session.specs.Places.{Asked}
+use Rattle.relay_session.specs.Places.{Asked, AskedAlone}
 use Rattle.relay_session.specs.Session.{session}
 use Rattle.relay_session.specs.SeatState.{AllMade, GoOn, IsActive, IsGranted, IsMade, IsNoted, KeptMade, KeptOrMade, LastMade, LeavesFrom, Leaves, Makes, SeatState, active_at, active_then, is_over, known, last_of, left_at, place_of, stays}
 use Rattle.relay_session.specs.SeatVisits.{AllStand, Visit, calls_at, calls_of}
@@ -164,6 +166,10 @@ module _ {P Q : Type 0} (rules : P → PortRules) (root : P → Histories) (seen
   pub on_asked : (fits : P → ℕ → Q → Type 0) (count : Q → ℕ) (wants : Entry → Type 0) (busies : P → ℕ) (x : P) (s : SeatState Q) (place : ℕ) (e : Entry) (r : Made) (y : P) (t : SeatState Q)
       → Asked fits rules root seen count wants busies x s place e r y t → On x s y t
   on_asked fits count wants busies x s place e r y t a h = called x y s t place e r a.fixed a.knows a.spot a.active a.makes a.noted h
+
+  pub on_alone : (fits : P → ℕ → Q → Type 0) (count : Q → ℕ) (wants : Entry → Type 0) (busies : P → ℕ) (adds : List Step → List Step → List Step → Type 0) (kin : P → Kin) (branches : Q → List Branch) (x : P) (s : SeatState Q) (place : ℕ) (e : Entry) (r : Made) (y : P) (t : SeatState Q)
+      → AskedAlone fits rules root seen count wants busies adds kin branches x s place e r y t → On x s y t
+  on_alone fits count wants busies adds kin branches x s place e r y t a = on_asked fits count wants busies x s place e r y t a.asked
 
 -- ---- the calls by which a session leaves
 
@@ -316,14 +322,15 @@ module _ {P Q : Type 0} (fits : P → ℕ → Q → Type 0) (rules : P → PortR
         granted = subst (λ (o : Option (ℕ × Q)). HasGrant o t.active t.visits) (sym at) tt;
       }
 
-  holds_closed : (o : Option ℕ) (x y : P) (s t : SessionState Q) (answer : Leaving) → place_of s.seat.spot ≡ o → Closes fits rules root seen count wants busies x s answer y t → Holds rules root seen x s.seat → Holds rules root seen y t.seat
-  holds_closed None x y s t answer at c h =
-      let l : LeavesFrom None s.parts.who s.parts.fed s.parts.kept s.seat.active s.seat.visits answer t.parts.kept t.seat.active t.seat.visits =
-      subst (λ (p : Option ℕ). LeavesFrom p s.parts.who s.parts.fed s.parts.kept s.seat.active s.seat.visits answer t.parts.kept t.seat.active t.seat.visits) at c.leaves in
-      holds_nowhere x y s.seat t.seat c.fixed c.roots (nowhere s.seat.spot at) (nowhere t.seat.spot (c.spot ∙ (ap (λ (r : Leaving). left_at r (place_of s.seat.spot)) l.0))) l.1 h
-  holds_closed (Some place) x y s t answer at c h =
-      let after = c.stands (record { calls = h.calls; granted = active_of s.seat.spot place s.seat.active s.seat.visits at h.granted }) in
-      record { calls = after.calls; granted = granted_of t.seat.spot t.seat.active t.seat.visits after.granted }
+  module _ (adds : List Step → List Step → List Step → Type 0) (kin : P → Kin) (branches : Q → List Branch) where
+    holds_closed : (o : Option ℕ) (x y : P) (s t : SessionState Q) (answer : Leaving) → place_of s.seat.spot ≡ o → Closes fits rules root seen count wants busies adds kin branches x s answer y t → Holds rules root seen x s.seat → Holds rules root seen y t.seat
+    holds_closed None x y s t answer at c h =
+        let l : LeavesFrom None s.parts.who s.parts.fed s.parts.kept s.seat.active s.seat.visits answer t.parts.kept t.seat.active t.seat.visits =
+        subst (λ (p : Option ℕ). LeavesFrom p s.parts.who s.parts.fed s.parts.kept s.seat.active s.seat.visits answer t.parts.kept t.seat.active t.seat.visits) at c.leaves in
+        holds_nowhere x y s.seat t.seat c.fixed c.roots (nowhere s.seat.spot at) (nowhere t.seat.spot (c.spot ∙ (ap (λ (r : Leaving). left_at r (place_of s.seat.spot)) l.0))) l.1 h
+    holds_closed (Some place) x y s t answer at c h =
+        let after = c.stands (record { calls = h.calls; granted = active_of s.seat.spot place s.seat.active s.seat.visits at h.granted }) in
+        record { calls = after.calls; granted = granted_of t.seat.spot t.seat.active t.seat.visits after.granted }
 
 -- it has left
 pub left_nowhere : (r : Leaving) (o : Option ℕ) → has_left r ≡ true → left_at r o ≡ None
@@ -492,16 +499,16 @@ module _ {P Q L : Type 0} (rules : P → PortRules) (root : P → Histories) (se
 
   -- ---- its turn
 
-  module _ (fits : P → ℕ → Q → Type 0) (count : Q → ℕ) (wants : Entry → Type 0) (busies : P → ℕ) (goes : P → SeatState Q → P → SeatState Q → Type 0)
+  module _ (fits : P → ℕ → Q → Type 0) (count : Q → ℕ) (wants : Entry → Type 0) (busies : P → ℕ) (adds : List Step → List Step → List Step → Type 0) (kin : P → Kin) (branches : Q → List Branch) (goes : P → SeatState Q → P → SeatState Q → Type 0)
       (hears : L → ℕ → Came → L → Type 0) (hears_mean : (l : L) (room : ℕ) (answer : Came) (m : L) → 0 < room → hears l room answer m → HearStep room (told l) (told m) (counts l) (counts m) answer)
       (says : L → List ℕ → Said → L → Type 0) (says_mean : (l : L) (piece : List ℕ) (answer : Said) (m : L) → 0 < length piece → says l piece answer m → SayStep piece (told l) (told m) (counts l) (counts m) answer) (decided : Deciding) where
     abbrev Asks : P → SeatState Q → ℕ → Entry → Made → P → SeatState Q → Type 0
-    Asks = Asked fits rules root seen count wants busies
+    Asks = AskedAlone fits rules root seen count wants busies adds kin branches
 
     lives_turned : (x y : P) (accounts : List Account) (s s' : Seated P L Q) (a : Turn) → s.session.ended ≡ None → TakesTurn Asks goes desk hears says x s a y s' → Here x accounts s → Here y accounts s'
     lives_turned x y accounts s s' a n u w =
-        let l = leaves told counts (λ (z : SeatState Q). z.visits) s.session.quit desk decided Asks (λ z v place e r z' v' k. k.makes) hears hears_mean says says_mean s.session.ended (life_at s.session x) s.link a (life_at s'.session y) s'.link n u.turn in
-        let h = moves_turned (On rules root seen) (on_stays rules root seen) (on_chain rules root seen) Asks (on_asked rules root seen fits count wants busies) desk hears says s.session.ended s.session.quit
+        let l = leaves told counts (λ (z : SeatState Q). z.visits) s.session.quit desk decided Asks (λ z v place e r z' v' k. k.asked.makes) hears hears_mean says says_mean s.session.ended (life_at s.session x) s.link a (life_at s'.session y) s'.link n u.turn in
+        let h = moves_turned (On rules root seen) (on_stays rules root seen) (on_chain rules root seen) Asks (on_alone rules root seen fits count wants busies adds kin branches) desk hears says s.session.ended s.session.quit
         (life_at s.session x) s.link a (life_at s'.session y) s'.link u.turn (holds_of x accounts s w) in
         let tied : Tied desk s'.session.ended (told s'.link) (counts s'.link) s'.session.parts s'.session.input =
         subst (λ (o : Option End). Tied desk o (told s'.link) (counts s'.link) s'.session.parts s'.session.input) (sym u.ended)
@@ -521,9 +528,9 @@ module _ {P Q L : Type 0} (rules : P → PortRules) (root : P → Histories) (se
 
   -- ---- its close
 
-  module _ (fits : P → ℕ → Q → Type 0) (count : Q → ℕ) (wants : Entry → Type 0) (busies : P → ℕ) where
+  module _ (fits : P → ℕ → Q → Type 0) (count : Q → ℕ) (wants : Entry → Type 0) (busies : P → ℕ) (adds : List Step → List Step → List Step → Type 0) (kin : P → Kin) (branches : Q → List Branch) where
     abbrev Close : P → SessionState Q → Leaving → P → SessionState Q → Type 0
-    Close = Closes fits rules root seen count wants busies
+    Close = Closes fits rules root seen count wants busies adds kin branches
 
     -- what a close leaves of it
     record IsLeaving (left : Bool) (y : P) (e : End) (accounts : List Account) (link : L) (now : SessionState Q) : Type 0 where
@@ -546,7 +553,7 @@ module _ {P Q L : Type 0} (rules : P → PortRules) (root : P → Histories) (se
           max = ap (λ (g : Gone). g.max) (ap gone_but_kept c.parts) ∙ w.max;
           waited = stopped.waited;
           gone = subst (HasGone (told s.link) (counts s.link) desk e stopped.waited) (sym (ap gone_but_kept c.parts)) stopped.gone;
-          holds = holds_closed fits rules root seen count wants busies (place_of s.session.seat.spot) x y s.session now answer refl c (holds_of x accounts s w);
+          holds = holds_closed fits rules root seen count wants busies adds kin branches (place_of s.session.seat.spot) x y s.session now answer refl c (holds_of x accounts s w);
           calls = subst (λ (l : List Own). LeftAs (has_left answer) stopped.waited l now.seat.visits now.parts.kept) (sym (ap (λ (g : Gone). g.calls) (ap gone_but_kept c.parts)))
               (left_from (place_of s.session.seat.spot) answer stopped.waited s.session.parts.kept s.session.parts.calls s.session.parts.who s.session.parts.fed s.session.seat.active s.session.seat.visits now.parts.kept now.seat.active now.seat.visits c.leaves
               (record { left = stopped.left; calls_are = stopped.calls_are; leaving = stopped.leaving }));
@@ -885,17 +892,17 @@ module _ {P D Q L : Type 0} (rules : P → PortRules) (root : P → Histories) (
 
   -- ---- turns and closes
 
-  module _ (fits : P → ℕ → Q → Type 0) (count : Q → ℕ) (wants : Entry → Type 0) (busies : P → ℕ) where
+  module _ (fits : P → ℕ → Q → Type 0) (count : Q → ℕ) (wants : Entry → Type 0) (busies : P → ℕ) (adds : List Step → List Step → List Step → Type 0) (kin : P → Kin) (branches : Q → List Branch) where
     module _ (hears : L → ℕ → Came → L → Type 0) (hears_mean : (l : L) (room : ℕ) (answer : Came) (m : L) → 0 < room → hears l room answer m → HearStep room (told l) (told m) (counts l) (counts m) answer)
         (says : L → List ℕ → Said → L → Type 0) (says_mean : (l : L) (piece : List ℕ) (answer : Said) (m : L) → 0 < length piece → says l piece answer m → SayStep piece (told l) (told m) (counts l) (counts m) answer) (decided : Deciding) where
       abbrev Turned : P → Seated P L Q → Turn → P → Seated P L Q → Type 0
-      Turned = TakesTurn (Asked fits rules root seen count wants busies) (GoesOn fits rules root seen busies) desk hears says
+      Turned = TakesTurn (AskedAlone fits rules root seen count wants busies adds kin branches) (GoesOn fits rules root seen busies) desk hears says
 
       kept_turned : (key : ℕ) (s : Seated P L Q) (b b' : Bench P D Q L) → get b.sessions key ≡ Some s → s.session.ended ≡ None → IsTurned Turned key s b b' → Kept b → Kept b'
       kept_turned key s b b' here n i k =
           kept_put b b' key s i.now here i.there i.count (ap (λ (x : Bench P D Q L). (doors x.door).back) i.same) (ap (λ (x : Bench P D Q L). x.had) i.same)
           (λ r. or_first b.refused _ (sym (ap (λ (x : Bench P D Q L). x.refused) i.same) ∙ r)) (λ r. or_first b.worn _ (sym (ap (λ (x : Bench P D Q L). x.worn) i.same) ∙ r)) i.turn.goes_on.fixed i.turn.goes_on.roots i.turn.who k
-          (lives_turned rules root seen told counts desk t fits count wants busies (GoesOn fits rules root seen busies) hears hears_mean says says_mean decided b.port b'.port k.works.accounts s i.now i.answer n i.turn (k.works.lives key s here))
+          (lives_turned rules root seen told counts desk t fits count wants busies adds kin branches (GoesOn fits rules root seen busies) hears hears_mean says says_mean decided b.port b'.port k.works.accounts s i.now i.answer n i.turn (k.works.lives key s here))
           (λ r. subst (λ (o : Option End). o ≢ Some end.OutOfMemory) (sym i.turn.ended) (unspent_by i.answer (or_last b.refused _ (sym (ap (λ (x : Bench P D Q L). x.refused) i.same) ∙ r))))
           (λ r. subst (λ (o : Option End). o ≢ Some end.Worn) (sym i.turn.ended) (unfilled_by i.answer (or_last b.worn _ (sym (ap (λ (x : Bench P D Q L). x.worn) i.same) ∙ r))))
 
@@ -911,18 +918,18 @@ module _ {P D Q L : Type 0} (rules : P → PortRules) (root : P → Histories) (
       kept_turns_at key b b' i k = kept_turns_if (get b.sessions key) key b b' refl i k
 
     abbrev Ends : P → SessionState Q → Leaving → P → SessionState Q → Type 0
-    Ends = Closes fits rules root seen count wants busies
+    Ends = Closes fits rules root seen count wants busies adds kin branches
 
     kept_gone : (key : ℕ) (s : Seated P L Q) (e : End) (answer : Leaving) (now : SessionState Q) (b b' : Bench P D Q L) → get b.sessions key ≡ Some s → s.session.ended ≡ Some e → has_left answer ≡ true → Ends b.port s.session answer b'.port now
         → IsGone told counts doors key s b b' → Kept b → Kept b'
     kept_gone key s e answer now b b' here n left c i k =
         let w = k.works in
-        let l = subst (λ (x : Bool). IsLeaving rules root seen told counts desk t fits count wants busies x b'.port e w.accounts s.link now) left
-        (leaving_of rules root seen told counts desk t fits count wants busies b.port b'.port e w.accounts s answer now n c (w.lives key s here)) in
+        let l = subst (λ (x : Bool). IsLeaving rules root seen told counts desk t fits count wants busies adds kin branches x b'.port e w.accounts s.link now) left
+        (leaving_of rules root seen told counts desk t fits count wants busies adds kin branches b.port b'.port e w.accounts s answer now n c (w.lives key s here)) in
         let away = nowhere now.seat.spot (c.spot ∙ left_nowhere answer (place_of s.session.seat.spot) left) in
         elim i.back [
           | inl h ↦ kept_back b b' key s here i.gone c.fixed c.roots (ap (λ (x : Bench P D Q L). x.had) h.1) (ap (λ (x : Bench P D Q L). x.worn) h.1) k (record { who = now.parts.who; end = e; link = told_of (told s.link) (counts s.link) l.gone.ending.y now.parts.sent }) l.gone.ending.y now.parts.sent
-              (ap (λ (g : Gone). g.who) (ap gone_but_kept c.parts)) refl (accounted_of rules root seen told counts desk t fits count wants busies b'.port e w.accounts s.link now away l) i.count (ap (λ (x : DoorTold). x.back) h.0)
+              (ap (λ (g : Gone). g.who) (ap gone_but_kept c.parts)) refl (accounted_of rules root seen told counts desk t fits count wants busies adds kin branches b'.port e w.accounts s.link now away l) i.count (ap (λ (x : DoorTold). x.back) h.0)
               (λ r. sym (ap (λ (x : Bench P D Q L). x.refused) h.1) ∙ r) l.fresh n
           | inr h ↦ kept_dropped b b' key s here i.gone c.fixed c.roots (ap (λ (x : Bench P D Q L). x.had) h.1) (ap (λ (x : Bench P D Q L). x.worn) h.1) k (ap (λ (x : DoorTold). x.back) h.0) (ap (λ (x : Bench P D Q L). x.refused) h.1)
         ]
@@ -931,11 +938,11 @@ module _ {P D Q L : Type 0} (rules : P → PortRules) (root : P → Histories) (
         → IsLeft told counts doors key s now b b' → Kept b → Kept b'
     kept_left key s e answer now b b' here n stays c i k =
         let w = k.works in
-        let l = subst (λ (x : Bool). IsLeaving rules root seen told counts desk t fits count wants busies x b'.port e w.accounts s.link now) stays
-        (leaving_of rules root seen told counts desk t fits count wants busies b.port b'.port e w.accounts s answer now n c (w.lives key s here)) in
+        let l = subst (λ (x : Bool). IsLeaving rules root seen told counts desk t fits count wants busies adds kin branches x b'.port e w.accounts s.link now) stays
+        (leaving_of rules root seen told counts desk t fits count wants busies adds kin branches b.port b'.port e w.accounts s answer now n c (w.lives key s here)) in
         kept_put b b' key s (record s { session = now; over = true }) here i.there i.count (ap (λ (x : Bench P D Q L). (doors x.door).back) i.same) (ap (λ (x : Bench P D Q L). x.had) i.same)
         (λ r. sym (ap (λ (x : Bench P D Q L). x.refused) i.same) ∙ r) (λ r. sym (ap (λ (x : Bench P D Q L). x.worn) i.same) ∙ r) c.fixed c.roots (ap (λ (g : Gone). g.who) (ap gone_but_kept c.parts)) k
-        (lives_left rules root seen told counts desk t fits count wants busies b'.port e w.accounts (record s { session = now; over = true }) (c.ended ∙ ap (λ (o : Option End). Some (end_or_quit o)) n) l)
+        (lives_left rules root seen told counts desk t fits count wants busies adds kin branches b'.port e w.accounts (record s { session = now; over = true }) (c.ended ∙ ap (λ (o : Option End). Some (end_or_quit o)) n) l)
         (λ r. subst (λ (o : Option End). o ≢ Some end.OutOfMemory) (n ∙ sym (c.ended ∙ ap (λ (o : Option End). Some (end_or_quit o)) n))
         (w.unspent (sym (ap (λ (x : Bench P D Q L). x.refused) i.same) ∙ r) key s here))
         (λ r. subst (λ (o : Option End). o ≢ Some end.Worn) (n ∙ sym (c.ended ∙ ap (λ (o : Option End). Some (end_or_quit o)) n))

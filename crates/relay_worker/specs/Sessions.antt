@@ -7,11 +7,14 @@ use Rattle.command_dialog.specs.declared.types.Ask.{Ask}
 use Rattle.command_dialog.specs.declared.types.Grant.{Grant}
 use Rattle.stream_model.specs.declared.calls.Entry.{Entry}
 use Rattle.stream_registry.specs.Names.{PortRules}
+use Rattle.stream_registry.specs.Splits.{Kin}
 use Rattle.stream_registry.specs.Told.{Step, Histories}
+use Rattle.turn_gate.specs.declared.view.Branch.{Branch}
+use Rattle.relay_session.specs.Alone.{GrowsFrom, LeavesSplit}
 use Rattle.session_owed.specs.Standing.{new_past}
 use Rattle.relay_session.specs.Keeping.{past_of}
 use Rattle.relay_session.specs.Owing.{nothing}
-use Rattle.relay_session.specs.SeatState.{GoOn, HasFit, LeaveFails, LeaveTries, LeavesFrom, SeatState, StandsAt, left_at, place_of}
+use Rattle.relay_session.specs.SeatState.{GoOn, HasFit, LeaveFails, LeaveTries, LeavesFrom, SeatState, StandsAt, known, left_at, place_of}
 use Rattle.relay_session.specs.SeatVisits.{calls_of}
 use Rattle.relay_session.specs.SessionState.{SessionState, StandsFor, end_or_quit, ended_by, life_at}
 use Rattle.relay_session.specs.Turns.{EndedBy}
@@ -99,6 +102,7 @@ pub record TakesTurn {P Q L : Type 0} (asks : P → SeatState Q → ℕ → Entr
 -- ONE CLOSE of a session that has ended
 pub record Closes {P Q : Type 0} (fits : P → ℕ → Q → Type 0) (rules : P → PortRules) (root : P → Histories)
     (seen : Q → List Step) (count : Q → ℕ) (wants : Entry → Type 0) (busies : P → ℕ)
+    (adds : List Step → List Step → List Step → Type 0) (kin : P → Kin) (branches : Q → List Branch)
     (port : P) (s : SessionState Q) (answer : Leaving) (port' : P) (s' : SessionState Q) : Type 0 where
   pub fit : HasFit (fits port') s'.seat.spot
   pub spot : place_of s'.seat.spot ≡ left_at answer (place_of s.seat.spot)
@@ -106,6 +110,9 @@ pub record Closes {P Q : Type 0} (fits : P → ℕ → Q → Type 0) (rules : P 
       answer s'.parts.kept s'.seat.active s'.seat.visits
   pub fails : LeaveFails (fits port') count wants (place_of s.seat.spot) s.parts.who s.parts.fed s.parts.kept (busies port) (busies port') answer
   pub tries : LeaveTries (busies port) (busies port') answer
+  pub grows : GrowsFrom adds (rules port).limits (root port) (known root seen port s.seat) (place_of s.seat.spot) s.seat.visits s'.seat.visits
+      (root port') (known root seen port' s'.seat)
+  pub splits : LeavesSplit (place_of s.seat.spot) branches (kin port) s.seat.spot s.seat.visits s'.seat.visits (kin port') s'.seat.spot
   pub stands : StandsAt rules root seen port s.seat → StandsAt rules root seen port' s'.seat
   pub roots : GoOn (root port) (root port')
   pub fixed : rules port' ≡ rules port

@@ -2,7 +2,7 @@
 ghost use Rattle.std.specs.Prelude.{◌≡◌, ◌≢◌, All, length, map, true, None, is_some};
 ghost use Rattle.stream_registry.specs.Names.{places};
 ghost use Rattle.relay_session.specs.Onward.{GoesOn};
-ghost use Rattle.relay_session.specs.Places.{Asked, IsAt, IsOffered};
+ghost use Rattle.relay_session.specs.Places.{AskedAlone, IsAt, IsOffered};
 ghost use Rattle.relay_session.specs.SeatState.{HasFit};
 ghost use Rattle.relay_session.specs.SessionState.{ended_by};
 ghost use Rattle.relay_worker.specs.Benches.{AreFiled, IsFiled, IsSound};
@@ -51,7 +51,8 @@ impl<P: StreamPort, L: Link> Seated<P, L> {
         ensures at { IsAt (P.fits port.new) (places (P.rules port.new)) self.new.session.parts self.new.session.seat }
         ensures over { self.new.over ≡ is_some self.new.session.ended }
         ensures ahead { GoesAhead P.fits P.rules P.root port.old port.new }
-        ensures turn { TakesTurn (Asked P.fits P.rules P.root P.seen P.count P.wants P.busies) (GoesOn P.fits P.rules P.root P.seen P.busies)
+        ensures turn { TakesTurn (AskedAlone P.fits P.rules P.root P.seen P.count P.wants P.busies P.adds P.kin P.branches)
+            (GoesOn P.fits P.rules P.root P.seen P.busies)
             (G.grants desk.now) L.hears L.says port.old self.old result port.new self.new }
     {
         decided_law();
@@ -82,7 +83,8 @@ impl<P: StreamPort, L: Link> Seated<P, L> {
         ensures over { is_some self.new.session.ended ≡ true }
         ensures who { self.new.session.parts.who ≡ self.old.session.parts.who }
         ensures ahead { GoesAhead P.fits P.rules P.root port.old port.new }
-        ensures closes { Closes P.fits P.rules P.root P.seen P.count P.wants P.busies port.old self.old.session result port.new self.new.session }
+        ensures closes { Closes P.fits P.rules P.root P.seen P.count P.wants P.busies P.adds P.kin P.branches
+            port.old self.old.session result port.new self.new.session }
     {
         self.session.close(port)
     }
@@ -243,7 +245,8 @@ impl<P: StreamPort, D: Door> Bench<P, D> {
         requires offered { IsOffered (G.grants desk.now) (places (P.rules self.old.port)) }
         ensures sound { IsSound P.fits P.rules D.told terms.now self.new }
         ensures ahead { GoesAhead P.fits P.rules P.root self.old.port self.new.port }
-        ensures turns { TurnsAt (TakesTurn (Asked P.fits P.rules P.root P.seen P.count P.wants P.busies) (GoesOn P.fits P.rules P.root P.seen P.busies)
+        ensures turns { TurnsAt (TakesTurn (AskedAlone P.fits P.rules P.root P.seen P.count P.wants P.busies P.adds P.kin P.branches)
+            (GoesOn P.fits P.rules P.root P.seen P.busies)
             (G.grants desk.now) D.Link.hears D.Link.says) key self.old self.new }
     {
         let _ = terms;
@@ -268,7 +271,8 @@ impl<P: StreamPort, D: Door> Bench<P, D> {
         requires sound { IsSound P.fits P.rules D.told terms.now self.old }
         ensures sound { IsSound P.fits P.rules D.told terms.now self.new }
         ensures ahead { GoesAhead P.fits P.rules P.root self.old.port self.new.port }
-        ensures closes { ClosesAt D.Link.told D.Link.counts D.told (Closes P.fits P.rules P.root P.seen P.count P.wants P.busies) key self.old self.new }
+        ensures closes { ClosesAt D.Link.told D.Link.counts D.told
+            (Closes P.fits P.rules P.root P.seen P.count P.wants P.busies P.adds P.kin P.branches) key self.old self.new }
     {
         let Some(seated) = self.sessions.get(key) else {
             return;
@@ -319,7 +323,7 @@ impl<P: StreamPort, D: Door> Bench<P, D> {
         requires offered { IsOffered (G.grants desk.now) (places (P.rules self.old.port)) }
         ensures sound { IsSound P.fits P.rules D.told terms.now self.new }
         ensures ahead { GoesAhead P.fits P.rules P.root self.old.port self.new.port }
-        ensures turns { WalksAll (TurnsAt (TakesTurn (Asked P.fits P.rules P.root P.seen P.count P.wants P.busies)
+        ensures turns { WalksAll (TurnsAt (TakesTurn (AskedAlone P.fits P.rules P.root P.seen P.count P.wants P.busies P.adds P.kin P.branches)
             (GoesOn P.fits P.rules P.root P.seen P.busies) (G.grants desk.now) D.Link.hears D.Link.says)) self.old self.new }
     {
         for key in 0..self.sessions.capacity() {
@@ -332,7 +336,8 @@ impl<P: StreamPort, D: Door> Bench<P, D> {
         requires sound { IsSound P.fits P.rules D.told terms.now self.old }
         ensures sound { IsSound P.fits P.rules D.told terms.now self.new }
         ensures ahead { GoesAhead P.fits P.rules P.root self.old.port self.new.port }
-        ensures closes { WalksAll (ClosesAt D.Link.told D.Link.counts D.told (Closes P.fits P.rules P.root P.seen P.count P.wants P.busies)) self.old self.new }
+        ensures closes { WalksAll (ClosesAt D.Link.told D.Link.counts D.told
+            (Closes P.fits P.rules P.root P.seen P.count P.wants P.busies P.adds P.kin P.branches)) self.old self.new }
     {
         for key in 0..self.sessions.capacity() {
             self.close_at(terms, key);

@@ -1,6 +1,7 @@
 //! A recorder with its file.
 ghost use Rattle.std.specs.Prelude.{◌≡◌, ◌≢◌, ◌<◌, ◌++◌, length, true, Some};
 ghost use Rattle.turn_gate.specs.Histories.{Begins};
+ghost use Rattle.media_recorder.specs.Alone.{LeavesAlone, OneAtMost};
 ghost use Rattle.media_recorder.specs.Joined.{joined_from};
 ghost use Rattle.media_recorder.specs.Ports.{FitsIf, Serves};
 ghost use Rattle.media_recorder.specs.Says.{Says};
@@ -8,7 +9,7 @@ ghost use Rattle.media_recorder.specs.Seats.{StandIf};
 ghost use Rattle.media_recorder.specs.Taken.{taken};
 ghost use Rattle.media_recorder.specs.Turns.{Turns};
 ghost use Rattle.relay_worker.specs.Benches.{IsFiled};
-ghost use Rattle.relay_worker.specs.Filed.{Leaves, Tallies, form_of, is_ready, sink_of, state_of, text_of};
+ghost use Rattle.relay_worker.specs.Filed.{Leaves, Tallies, form_of, is_ready, left_by, sink_of, state_of, text_of};
 ghost use Rattle.relay_worker.specs.Running.{GoesAhead, label_of};
 
 use media_recorder::{FlvRecorder, Leaving, RecEnd, RecTurn, TsRecorder};
@@ -106,6 +107,7 @@ impl<P: StreamPort, K: Sink> Recorder<P, K> {
         ensures form { form_of self.new ≡ form_of self.old }
         ensures longest { (state_of self.new).tape.longest ≡ (state_of self.old).tape.longest }
         ensures port { Serves P.rules P.root P.busies P.fits (state_of self.old).seat.place port.old port.new }
+        ensures alone { OneAtMost P.rules P.adds P.root P.seen P.kin P.branches port.old port.new (state_of self.old).seat (state_of self.new).seat }
         ensures turn { Turns P.rules P.root P.busies P.seen P.mine P.count K.takes (state_of self.old).end port.old port.new
             (sink_of self.old) (sink_of self.new) (state_of self.old) result (state_of self.new) }
         ensures took { K.holds (sink_of self.old) ≡ Some (state_of self.old).tape.sent → K.holds (sink_of self.new) ≡ Some (state_of self.new).tape.sent }
@@ -147,6 +149,7 @@ impl<P: StreamPort, K: Sink> Recorder<P, K> {
         requires fits { FitsIf (P.fits port.old (state_of self).seat.place) (state_of self).seat.pass }
         ensures port { Serves P.rules P.root P.busies P.fits (state_of self).seat.place port.old port.new }
         ensures leaves { Leaves P.rules P.root P.busies P.seen P.mine P.count port.old port.new self result }
+        ensures alone { LeavesAlone P.rules P.adds P.root P.seen P.kin P.branches port.old port.new (state_of self).seat (left_by result) }
     {
         match self {
             Recorder::Flv(recorder, sink) => match recorder.leave(port) {

@@ -9,7 +9,7 @@ ghost use Rattle.relay_outside.specs.Heard.{Came, HearStep};
 ghost use Rattle.relay_outside.specs.Said.{SayStep};
 ghost use Rattle.relay_outside.specs.declared.link.Said.{Said};
 ghost use Rattle.relay_session.specs.Onward.{GoesOn};
-ghost use Rattle.relay_session.specs.Places.{Asked, IsOffered};
+ghost use Rattle.relay_session.specs.Places.{AskedAlone, IsOffered};
 ghost use Rattle.relay_worker.specs.Benches.{AreFiled, IsFiled, IsSound};
 ghost use Rattle.relay_worker.specs.Books.{HasBooks, Settled};
 ghost use Rattle.relay_worker.specs.Filed.{TakesTurn as FileTurn, Tallies, is_ready};
@@ -158,9 +158,9 @@ impl<P: StreamPort, D: Door, R: Rest, K: Sink> Worker<P, D, R, K> {
     pub fn round<G: Desk>(&mut self, desk: &G) -> Round
         requires offered { IsOffered (G.grants desk.now) (places (P.rules self.old.bench.port)) }
         ensures rounds { Rounds D.Link.told D.Link.counts D.told
-            (TakesTurn (Asked P.fits P.rules P.root P.seen P.count P.wants P.busies) (GoesOn P.fits P.rules P.root P.seen P.busies)
+            (TakesTurn (AskedAlone P.fits P.rules P.root P.seen P.count P.wants P.busies P.adds P.kin P.branches) (GoesOn P.fits P.rules P.root P.seen P.busies)
             (G.grants desk.now) D.Link.hears D.Link.says)
-            (Closes P.fits P.rules P.root P.seen P.count P.wants P.busies)
+            (Closes P.fits P.rules P.root P.seen P.count P.wants P.busies P.adds P.kin P.branches)
             (FileTurn P.fits P.rules P.root P.busies P.seen P.mine P.count K.takes K.holds) self.old result self.new }
         ensures keeps { KeepsOn P.fits P.rules P.root self.old self.new }
         ensures tallies { All (Tallies P.count K.holds K.faults) self.old.recorders → All (Tallies P.count K.holds K.faults) self.new.recorders }

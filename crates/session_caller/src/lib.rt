@@ -3,7 +3,7 @@
 
 ghost use Rattle.std.specs.Prelude.{◌≡◌, ◌≤◌};
 ghost use Rattle.std.specs.Option.{IfSome};
-ghost use Rattle.relay_session.specs.Places.{Asked, IsAt, IsOffered};
+ghost use Rattle.relay_session.specs.Places.{AskedAlone, IsAt, IsOffered};
 ghost use Rattle.relay_session.specs.SessionState.{StandsFor};
 ghost use Rattle.stream_registry.specs.Names.{places};
 ghost use Rattle.session_caller.specs.Often.{Often, moved_by};
@@ -44,7 +44,7 @@ pub fn turn_often<P: StreamPort, D: Desk, L: Link>(
     ensures at { IsAt (P.fits port.new) (places (P.rules port.new)) session.new.parts session.new.seat }
     ensures stands { StandsFor (D.grants desk.now) session.old → StandsFor (D.grants desk.now) session.new }
     ensures fixed { P.rules port.new ≡ P.rules port.old }
-    ensures turns { Often (Asked P.fits P.rules P.root P.seen P.count P.wants P.busies) (D.grants desk.now) L.hears L.says most
+    ensures turns { Often (AskedAlone P.fits P.rules P.root P.seen P.count P.wants P.busies P.adds P.kin P.branches) (D.grants desk.now) L.hears L.says most
         (record { session = session.old; port = port.old; link = link.old }) result (record { session = session.new; port = port.new; link = link.new }) }
 {
     let mut moved = 0u64;

@@ -1,13 +1,49 @@
 use Rattle.std.proofs.Common.{◌∙◌, ap, refl, subst, sym, false, Ok, Err}
-use Rattle.relay_session.specs.Keeping.{IsOver, waiting}
-use Rattle.relay_session.specs.Places.{Asked}
+use Rattle.stream_model.specs.declared.calls.Entry.{Entry}
+use Rattle.relay_session.specs.Feeding.{IsCalled}
+use Rattle.relay_session.specs.Keeping.{IsOver, StandsBefore, waiting}
+use Rattle.relay_session.specs.Places.{AskedAlone}
 use Rattle.relay_session.specs.Turns.{life}
 use Rattle.relay_session.specs.declared.end.End.TheVariants as end
 use Rattle.relay_session.specs.declared.seat_answers.Made.TheVariants as made
 use Rattle.relay_session.specs.declared.core_fields.Core.{Core}
-use Rattle.relay_session.proofs.Stopping.{over_here}
-use Rattle.relay_session.proofs.Turning.{tried_busy, tried_memory, tried_worn}
+use Rattle.relay_session.proofs.Stopping.{over_here, read_here}
+use Rattle.relay_session.proofs.Turning.{tried_busy, tried_heard, tried_memory, tried_unheard, tried_worn}
 use Rattle.relay_session.proofs.calls.make.Goals as goal
+
+pub returns-in-Ok-clause-tried : goal.returns-in-Ok-clause-tried
+returns-in-Ok-clause-tried g c =
+    let P = g.P.StreamPort in
+    let b = c.args.body.now in
+    let e = c.in-Answer.ensures in
+    let h = c.in-Ok.ensures in
+    let d = c.hear_reply.new.core in
+    tried_heard (AskedAlone P.fits P.rules P.root P.seen P.count P.wants P.busies P.adds P.kin P.branches) (life (waiting b.core c.args.entry) b.input c.args.port.now b.seat) (life d b.input c.make.new.port c.make.new.self) c.args.entry c.in-Answer.reply
+    c.in-Some.place c.in-Some.is
+    (record {
+      asked = record { spot = e.spot; active = e.active; makes = e.makes; calls = e.calls; noted = e.noted; fails = e.fails; tries = e.tries; knows = e.knows; stands = e.stands; roots = e.roots; others = e.others; fixed = e.fixed; later = e.busies; passes = e.passes };
+      fit = e.fit;
+      grows = e.adds;
+      splits = e.splits;
+    })
+    (subst (λ (x : Entry). IsCalled (waiting b.core x) x c.in-Answer.reply d) c.of-asked.ensures h.called) h.others
+    (λ desk. record { stands = subst (λ (x : Entry). StandsBefore desk (waiting b.core x) → StandsBefore desk d) c.of-asked.ensures (h.stands desk); read = read_here d h.sound }) refl
+
+pub returns-in-Answer-clause-tried : goal.returns-in-Answer-clause-tried
+returns-in-Answer-clause-tried g c =
+    let P = g.P.StreamPort in
+    let b = c.args.body.now in
+    let e = c.in-Answer.ensures in
+    let d = c.hear_reply.new.core in
+    tried_unheard (AskedAlone P.fits P.rules P.root P.seen P.count P.wants P.busies P.adds P.kin P.branches) (life (waiting b.core c.args.entry) b.input c.args.port.now b.seat) (life d b.input c.make.new.port c.make.new.self) c.args.entry c.in-Answer.reply
+    c.in-Some.place c.in-Some.is
+    (record {
+      asked = record { spot = e.spot; active = e.active; makes = e.makes; calls = e.calls; noted = e.noted; fails = e.fails; tries = e.tries; knows = e.knows; stands = e.stands; roots = e.roots; others = e.others; fixed = e.fixed; later = e.busies; passes = e.passes };
+      fit = e.fit;
+      grows = e.adds;
+      splits = e.splits;
+    })
+    (subst (λ (x : Entry). IsCalled (waiting b.core x) x c.in-Answer.reply d) c.of-asked.ensures c.in-Err.ensures.called) refl
 
 pub returns-in-Busy-clause-tried : goal.returns-in-Busy-clause-tried
 returns-in-Busy-clause-tried g c =
@@ -16,9 +52,14 @@ returns-in-Busy-clause-tried g c =
     let e = c.in-Busy.ensures in
     let f = c.in-Busy.entry in
     let k = c.keep in
-    tried_busy (Asked P.fits P.rules P.root P.seen P.count P.wants P.busies) (life (waiting b.core c.args.entry) b.input c.args.port.now b.seat) (life k.new.core b.input c.make.new.port c.make.new.self) c.args.entry (made.Busy f) f (Ok false)
+    tried_busy (AskedAlone P.fits P.rules P.root P.seen P.count P.wants P.busies P.adds P.kin P.branches) (life (waiting b.core c.args.entry) b.input c.args.port.now b.seat) (life k.new.core b.input c.make.new.port c.make.new.self) c.args.entry (made.Busy f) f (Ok false)
     c.in-Some.place refl c.in-Some.is
-    (record { spot = e.spot; active = e.active; makes = e.makes; calls = e.calls; noted = e.noted; fails = e.fails; tries = e.tries; knows = e.knows; stands = e.stands; roots = e.roots; others = e.others; fixed = e.fixed; later = e.busies; passes = e.passes })
+    (record {
+      asked = record { spot = e.spot; active = e.active; makes = e.makes; calls = e.calls; noted = e.noted; fails = e.fails; tries = e.tries; knows = e.knows; stands = e.stands; roots = e.roots; others = e.others; fixed = e.fixed; later = e.busies; passes = e.passes };
+      fit = e.fit;
+      grows = e.adds;
+      splits = e.splits;
+    })
     (k.ensures ∙ ap (waiting b.core) e.makes.0) refl refl
 
 pub returns-in-Worn-clause-tried : goal.returns-in-Worn-clause-tried
@@ -28,9 +69,14 @@ returns-in-Worn-clause-tried g c =
     let e = c.in-Worn.ensures in
     let f = c.in-Worn.entry in
     let k = c.keep-in-Worn in
-    tried_worn (Asked P.fits P.rules P.root P.seen P.count P.wants P.busies) (life (waiting b.core c.args.entry) b.input c.args.port.now b.seat) (life k.new.core b.input c.make.new.port c.make.new.self) c.args.entry (made.Worn f) f (Err end.Worn)
+    tried_worn (AskedAlone P.fits P.rules P.root P.seen P.count P.wants P.busies P.adds P.kin P.branches) (life (waiting b.core c.args.entry) b.input c.args.port.now b.seat) (life k.new.core b.input c.make.new.port c.make.new.self) c.args.entry (made.Worn f) f (Err end.Worn)
     c.in-Some.place refl c.in-Some.is
-    (record { spot = e.spot; active = e.active; makes = e.makes; calls = e.calls; noted = e.noted; fails = e.fails; tries = e.tries; knows = e.knows; stands = e.stands; roots = e.roots; others = e.others; fixed = e.fixed; later = e.busies; passes = e.passes })
+    (record {
+      asked = record { spot = e.spot; active = e.active; makes = e.makes; calls = e.calls; noted = e.noted; fails = e.fails; tries = e.tries; knows = e.knows; stands = e.stands; roots = e.roots; others = e.others; fixed = e.fixed; later = e.busies; passes = e.passes };
+      fit = e.fit;
+      grows = e.adds;
+      splits = e.splits;
+    })
     (k.ensures ∙ ap (waiting b.core) e.makes.0) refl refl
 
 pub returns-clause-tried : goal.returns-clause-tried
@@ -40,9 +86,14 @@ returns-clause-tried g c =
     let e = c.in-OutOfMemory.ensures in
     let f = c.in-OutOfMemory.entry in
     let k = c.keep-in-OutOfMemory in
-    tried_memory (Asked P.fits P.rules P.root P.seen P.count P.wants P.busies) (life (waiting b.core c.args.entry) b.input c.args.port.now b.seat) (life k.new.core b.input c.make.new.port c.make.new.self) c.args.entry (made.OutOfMemory f) f (Err end.OutOfMemory)
+    tried_memory (AskedAlone P.fits P.rules P.root P.seen P.count P.wants P.busies P.adds P.kin P.branches) (life (waiting b.core c.args.entry) b.input c.args.port.now b.seat) (life k.new.core b.input c.make.new.port c.make.new.self) c.args.entry (made.OutOfMemory f) f (Err end.OutOfMemory)
     c.in-Some.place refl c.in-Some.is
-    (record { spot = e.spot; active = e.active; makes = e.makes; calls = e.calls; noted = e.noted; fails = e.fails; tries = e.tries; knows = e.knows; stands = e.stands; roots = e.roots; others = e.others; fixed = e.fixed; later = e.busies; passes = e.passes })
+    (record {
+      asked = record { spot = e.spot; active = e.active; makes = e.makes; calls = e.calls; noted = e.noted; fails = e.fails; tries = e.tries; knows = e.knows; stands = e.stands; roots = e.roots; others = e.others; fixed = e.fixed; later = e.busies; passes = e.passes };
+      fit = e.fit;
+      grows = e.adds;
+      splits = e.splits;
+    })
     (k.ensures ∙ ap (waiting b.core) e.makes.0) refl refl
 
 pub returns-in-Worn-clause-stands : goal.returns-in-Worn-clause-stands

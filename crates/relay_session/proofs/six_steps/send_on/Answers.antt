@@ -1,10 +1,11 @@
 use Rattle.std.proofs.Common.{rules, refl}
 use Rattle.relay_outside.specs.declared.link.Said.TheVariants as said
-use Rattle.relay_session.specs.Places.{Asked}
+use Rattle.relay_session.specs.Places.{AskedAlone}
 use Rattle.relay_session.specs.Turns.{life}
 use Rattle.relay_session.specs.declared.end.End.TheVariants as end
 use Rattle.relay_session.specs.declared.turn.Turn.TheVariants.{Ended}
 use Rattle.relay_session.proofs.Rounds.{first_pending, sent_some, sent_something, sent_within, some_pending}
+use Rattle.relay_session.proofs.Stopping.{read_here}
 use Rattle.relay_session.proofs.six_steps.send_on.Goals as goal
 
 pub send-requires : goal.send-requires
@@ -19,7 +20,7 @@ returns-in-NotYet-clause-turn g c =
     let L = g.L.Link in
     let b = c.args.body.now in
     let d = c.fill.new.core in
-    sent_some (Asked P.fits P.rules P.root P.seen P.count P.wants P.busies) (g.D.Desk.grants c.args.desk.now) L.hears L.says (life b.core b.input c.args.port.now b.seat) (life c.input_on-in-NotYet.new.body.core c.input_on-in-NotYet.new.body.input c.input_on-in-NotYet.new.port c.input_on-in-NotYet.new.body.seat) c.args.link.now c.send.new.self c.input_on-in-NotYet.new.link d c.first.result.now said.NotYet c.args.moved c.input_on-in-NotYet.result c.in-Ok.ensures.filled
+    sent_some (AskedAlone P.fits P.rules P.root P.seen P.count P.wants P.busies P.adds P.kin P.branches) (g.D.Desk.grants c.args.desk.now) L.hears L.says (life b.core b.input c.args.port.now b.seat) (life c.input_on-in-NotYet.new.body.core c.input_on-in-NotYet.new.body.input c.input_on-in-NotYet.new.port c.input_on-in-NotYet.new.body.seat) c.args.link.now c.send.new.self c.input_on-in-NotYet.new.link d c.first.result.now said.NotYet c.args.moved c.input_on-in-NotYet.result c.in-Ok.ensures.filled
     (some_pending d.outgoing (search rules)) (first_pending d.outgoing c.first.result.now (search rules) c.in-Ok.ensures.ready) c.in-NotYet.ensures.step c.input_on-in-NotYet.ensures.turn
 
 pub returns-in-Failed-clause-turn : goal.returns-in-Failed-clause-turn
@@ -28,7 +29,7 @@ returns-in-Failed-clause-turn g c =
     let L = g.L.Link in
     let b = c.args.body.now in
     let d = c.fill.new.core in
-    sent_some (Asked P.fits P.rules P.root P.seen P.count P.wants P.busies) (g.D.Desk.grants c.args.desk.now) L.hears L.says (life b.core b.input c.args.port.now b.seat) (life d b.input c.args.port.now b.seat) c.args.link.now c.send.new.self c.send.new.self d c.first.result.now said.Failed c.args.moved (Ended end.LinkFault) c.in-Ok.ensures.filled
+    sent_some (AskedAlone P.fits P.rules P.root P.seen P.count P.wants P.busies P.adds P.kin P.branches) (g.D.Desk.grants c.args.desk.now) L.hears L.says (life b.core b.input c.args.port.now b.seat) (life d b.input c.args.port.now b.seat) c.args.link.now c.send.new.self c.send.new.self d c.first.result.now said.Failed c.args.moved (Ended end.LinkFault) c.in-Ok.ensures.filled
     (some_pending d.outgoing (search rules)) (first_pending d.outgoing c.first.result.now (search rules) c.in-Ok.ensures.ready) c.in-Failed.ensures.step (record { ended = refl; gone = refl; port = refl; seat = refl }, refl)
 
 pub returns-in-OutOfMemory-clause-turn : goal.returns-in-OutOfMemory-clause-turn
@@ -37,7 +38,7 @@ returns-in-OutOfMemory-clause-turn g c =
     let L = g.L.Link in
     let b = c.args.body.now in
     let d = c.fill.new.core in
-    sent_some (Asked P.fits P.rules P.root P.seen P.count P.wants P.busies) (g.D.Desk.grants c.args.desk.now) L.hears L.says (life b.core b.input c.args.port.now b.seat) (life d b.input c.args.port.now b.seat) c.args.link.now c.send.new.self c.send.new.self d c.first.result.now said.OutOfMemory c.args.moved (Ended end.OutOfMemory) c.in-Ok.ensures.filled
+    sent_some (AskedAlone P.fits P.rules P.root P.seen P.count P.wants P.busies P.adds P.kin P.branches) (g.D.Desk.grants c.args.desk.now) L.hears L.says (life b.core b.input c.args.port.now b.seat) (life d b.input c.args.port.now b.seat) c.args.link.now c.send.new.self c.send.new.self d c.first.result.now said.OutOfMemory c.args.moved (Ended end.OutOfMemory) c.in-Ok.ensures.filled
     (some_pending d.outgoing (search rules)) (first_pending d.outgoing c.first.result.now (search rules) c.in-Ok.ensures.ready) c.in-OutOfMemory.ensures.step (record { ended = refl; gone = refl; port = refl; seat = refl }, refl)
 
 pub returns-in-Took-clause-turn : goal.returns-in-Took-clause-turn
@@ -46,5 +47,5 @@ returns-in-Took-clause-turn g c =
     let L = g.L.Link in
     let b = c.args.body.now in
     let d = c.fill.new.core in
-    sent_some (Asked P.fits P.rules P.root P.seen P.count P.wants P.busies) (g.D.Desk.grants c.args.desk.now) L.hears L.says (life b.core b.input c.args.port.now b.seat) (life c.input_on-in-Took.new.body.core c.input_on-in-Took.new.body.input c.input_on-in-Took.new.port c.input_on-in-Took.new.body.seat) c.args.link.now c.send.new.self c.input_on-in-Took.new.link d c.first.result.now (said.Took c.in-Took.count) c.args.moved c.input_on-in-Took.result c.in-Ok.ensures.filled
-    (some_pending d.outgoing (search rules)) (first_pending d.outgoing c.first.result.now (search rules) c.in-Ok.ensures.ready) c.in-Took.ensures.step (c.note_sent.new.core, (c.note_sent.ensures.sent, c.input_on-in-Took.ensures.turn))
+    sent_some (AskedAlone P.fits P.rules P.root P.seen P.count P.wants P.busies P.adds P.kin P.branches) (g.D.Desk.grants c.args.desk.now) L.hears L.says (life b.core b.input c.args.port.now b.seat) (life c.input_on-in-Took.new.body.core c.input_on-in-Took.new.body.input c.input_on-in-Took.new.port c.input_on-in-Took.new.body.seat) c.args.link.now c.send.new.self c.input_on-in-Took.new.link d c.first.result.now (said.Took c.in-Took.count) c.args.moved c.input_on-in-Took.result c.in-Ok.ensures.filled
+    (some_pending d.outgoing (search rules)) (first_pending d.outgoing c.first.result.now (search rules) c.in-Ok.ensures.ready) c.in-Took.ensures.step (c.note_sent.new.core, (c.note_sent.ensures.sent, c.input_on-in-Took.ensures.turn, λ desk. record { stands = c.note_sent.ensures.stands desk; read = read_here c.note_sent.new.core c.note_sent.ensures.sound }))

@@ -1,4 +1,5 @@
-use Rattle.std.proofs.Common.{◌≡◌, ap, ◌∙◌, None}
+use Rattle.std.proofs.Common.{◌≡◌, ap, inr, ◌∙◌, None}
+use Rattle.stream_model.specs.declared.calls.Call.TheVariants as call
 use Rattle.std.specs.Option.{option_or}
 use Rattle.media_recorder.specs.Joined.{from_answered}
 use Rattle.media_recorder.specs.Taken.{taken}
@@ -18,3 +19,6 @@ invariant_of-self g c =
           (written_live i.end i.tape.items (taken i.seat.calls) live c.self.invariant.written) made;
       from_is = from_join i.seat.who i.seat.calls c.call-answer.new.self.calls c.call-answer.result i.from c.or-self-inside.result c.self.invariant.from_is made kept;
     }
+
+pub returns-clause-alone : goal.returns-clause-alone
+returns-clause-alone g c = rw (← c.self.view_is) (inr (call.Join, (c.call-answer.result, c.call-answer.ensures.alone)))

@@ -1,4 +1,5 @@
-use Rattle.std.proofs.Common.{◌≡◌, ap, ◌∙◌, None}
+use Rattle.std.proofs.Common.{◌≡◌, ap, inr, ◌∙◌, None}
+use Rattle.stream_model.specs.declared.calls.Call.TheVariants as call
 use Rattle.media_recorder.specs.Taken.{taken}
 use Rattle.media_recorder.specs.Turns.{RecorderState, all}
 use Rattle.media_recorder.proofs.Joining.{from_take}
@@ -15,3 +16,6 @@ invariant_of-self g c =
           (written_live i.end i.tape.items (taken i.seat.calls) live c.self.invariant.written) c.take_ends.ensures made;
       from_is = from_take i.seat.who c.args.player all i.seat.calls c.call-answer.new.self.calls c.call-answer.result i.from c.self.invariant.from_is made;
     }
+
+pub returns-clause-alone : goal.returns-clause-alone
+returns-clause-alone g c = rw (← c.self.view_is) (inr ((call.Take c.args.player all), (c.call-answer.result, c.call-answer.ensures.alone)))

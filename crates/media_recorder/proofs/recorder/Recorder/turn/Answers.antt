@@ -1,4 +1,4 @@
-use Rattle.std.proofs.Common.{refl}
+use Rattle.std.proofs.Common.{inl, refl}
 use Rattle.media_recorder.specs.Turns.{is_empty}
 use Rattle.media_recorder.proofs.Joining.{works_join}
 use Rattle.media_recorder.proofs.Longest.{works_leave}
@@ -33,3 +33,6 @@ pub returns-in-None-clause-from : goal.returns-in-None-clause-from
 returns-in-None-clause-from g c =
     let P = g.P.StreamPort in
     works_join P.rules P.root P.busies P.seen P.mine P.count g.K.Sink.takes (is_empty c.args.self.now.tape.pending) c.args.port.now c.work.new.port c.args.sink.now c.work.new.sink c.args.self.now c.work.result c.work.new.self c.work.ensures.works
+
+pub returns-in-Some-clause-alone : goal.returns-in-Some-clause-alone
+returns-in-Some-clause-alone g c = inl (refl, refl)

@@ -1,5 +1,6 @@
 use Rattle.std.proofs.Common.{rules, Option, sym, subst, refl}
 use Rattle.turn_gate.specs.Histories.{Begins}
+use Rattle.media_recorder.specs.Alone.{GivesBack}
 use Rattle.media_recorder.specs.Ports.{FitsIf, seen_of}
 use Rattle.media_recorder.proofs.Standing.{begins_same}
 use Rattle.media_recorder.proofs.Parting.{parts}
@@ -24,3 +25,14 @@ returns-clause-parts g c =
     subst (λ (o : Option _). Begins (seen_of P.seen (P.root c.args.port.now i.place) o) (P.root c.args.port.now i.place)) (sym c.in-None.is) (begins_same _ _ refl) in
     rw (← c.self.view_is) (parts P.rules P.root P.seen P.mine P.limits (P.fits c.args.port.now i.place) c.args.port.now c.args.port.now i.who i.place i.pass i.calls
     (λ p f. g.met.P.StreamPort.ruled c.args.port.now i.place p f) fits c.self.invariant seen)
+
+pub returns-in-Some-clause-gives : goal.returns-in-Some-clause-gives
+returns-in-Some-clause-gives g c =
+    let P = g.P.StreamPort in
+    let d = c.detach in
+    rw (← c.self.view_is) (subst (λ (o : Option _). GivesBack P.rules P.adds P.root P.seen P.kin P.branches c.args.port.now d.new.self c.self.inside.place o) (sym c.in-Some.is) (d.ensures.adds, d.ensures.taken))
+
+pub returns-clause-gives : goal.returns-clause-gives
+returns-clause-gives g c =
+    let P = g.P.StreamPort in
+    rw (← c.self.view_is) (subst (λ (o : Option _). GivesBack P.rules P.adds P.root P.seen P.kin P.branches c.args.port.now c.args.port.now c.self.inside.place o) (sym c.in-None.is) refl)

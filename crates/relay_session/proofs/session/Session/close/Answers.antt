@@ -1,6 +1,8 @@
-use Rattle.std.proofs.Common.{subst, sym}
+use Rattle.std.proofs.Common.{refl, subst, sym}
+use Rattle.relay_session.proofs.ActingTurns.{closed_acts}
 use Rattle.relay_session.proofs.Coming.{closed_come, done_come}
 use Rattle.relay_session.proofs.Whole.{left_kept, living_closed}
+use Rattle.relay_session.specs.Acting.{Acting}
 use Rattle.relay_session.specs.Coming.{HasCome}
 use Rattle.relay_session.specs.SeatState.{place_of}
 use Rattle.relay_session.specs.SessionState.{SessionState}
@@ -27,3 +29,10 @@ returns-clause-waits g c = λ h n. (
     let l = c.leave in
     let was = subst (λ (s : SessionState g.row.P-Pass.Denot). HasCome s.parts s.seat) (sym c.self.view_is) h in
     closed_come (place_of b.seat.spot) (place_of l.new.self.spot) b.core.place b.core.who b.core.fed b.core.kept b.seat.active b.seat.visits l.result l.new.kept l.new.self.active l.new.self.visits was l.ensures.leaves l.ensures.spot n)
+
+pub returns-clause-acts : goal.returns-clause-acts
+returns-clause-acts g c = λ h. (
+    let b = c.self.inside.body in
+    let l = c.leave in
+    let was = subst (λ (s : SessionState g.row.P-Pass.Denot). Acting s.parts s.seat) (sym c.self.view_is) h in
+    closed_acts b.core (record b.core { kept = l.new.kept }) b.seat l.new.self b.core.who b.core.fed refl was l.result l.ensures.spot l.ensures.leaves)

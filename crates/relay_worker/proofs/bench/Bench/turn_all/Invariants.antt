@@ -1,5 +1,5 @@
 use Rattle.relay_session.specs.Onward.{GoesOn}
-use Rattle.relay_session.specs.Places.{Asked, IsOffered}
+use Rattle.relay_session.specs.Places.{AskedAlone, IsOffered}
 use Rattle.stream_registry.specs.Names.{places}
 use Rattle.relay_worker.specs.Benches.{IsSound}
 use Rattle.relay_worker.specs.Rounds.{TurnsAt, Walks}
@@ -12,5 +12,5 @@ invariant-loop-key g l = record {
   sound : IsSound g.P.StreamPort.fits g.P.StreamPort.rules g.D.Door.told l.terms l.self;
   ahead : GoesAhead g.P.StreamPort.fits g.P.StreamPort.rules g.P.StreamPort.root l.fn.self.port l.self.port;
   offered : IsOffered (g.G.Desk.grants l.desk) (places (g.P.StreamPort.rules l.self.port));
-  walk : Walks (TurnsAt (TakesTurn (Asked g.P.StreamPort.fits g.P.StreamPort.rules g.P.StreamPort.root g.P.StreamPort.seen g.P.StreamPort.count g.P.StreamPort.wants g.P.StreamPort.busies) (GoesOn g.P.StreamPort.fits g.P.StreamPort.rules g.P.StreamPort.root g.P.StreamPort.seen g.P.StreamPort.busies) (g.G.Desk.grants l.desk) g.D.Link.Link.hears g.D.Link.Link.says)) l.key l.fn.self l.self;
+  walk : Walks (TurnsAt (TakesTurn (AskedAlone g.P.StreamPort.fits g.P.StreamPort.rules g.P.StreamPort.root g.P.StreamPort.seen g.P.StreamPort.count g.P.StreamPort.wants g.P.StreamPort.busies g.P.StreamPort.adds g.P.StreamPort.kin g.P.StreamPort.branches) (GoesOn g.P.StreamPort.fits g.P.StreamPort.rules g.P.StreamPort.root g.P.StreamPort.seen g.P.StreamPort.busies) (g.G.Desk.grants l.desk) g.D.Link.Link.hears g.D.Link.Link.says)) l.key l.fn.self l.self;
 }

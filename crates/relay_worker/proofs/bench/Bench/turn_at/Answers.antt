@@ -1,7 +1,7 @@
 use Rattle.std.proofs.Common.{refl, sym}
 use Rattle.slab.specs.Slab.{get}
 use Rattle.relay_session.specs.Onward.{GoesOn}
-use Rattle.relay_session.specs.Places.{Asked}
+use Rattle.relay_session.specs.Places.{AskedAlone}
 use Rattle.relay_worker.specs.Sessions.{TakesTurn}
 use Rattle.relay_worker.proofs.Slabs.{put_len, put_updates}
 use Rattle.relay_worker.proofs.Sounding.{goes_of, living_at, over_if, seated_turned, sound_put, turns_lives, turns_over}
@@ -9,7 +9,7 @@ use Rattle.relay_worker.proofs.bench.Bench.turn_at.Goals as goal
 
 pub returns-then-seated-clause-turns : goal.returns-then-seated-clause-turns
 returns-then-seated-clause-turns g c =
-    let asks = Asked g.P.StreamPort.fits g.P.StreamPort.rules g.P.StreamPort.root g.P.StreamPort.seen g.P.StreamPort.count g.P.StreamPort.wants g.P.StreamPort.busies in
+    let asks = AskedAlone g.P.StreamPort.fits g.P.StreamPort.rules g.P.StreamPort.root g.P.StreamPort.seen g.P.StreamPort.count g.P.StreamPort.wants g.P.StreamPort.busies g.P.StreamPort.adds g.P.StreamPort.kin g.P.StreamPort.branches in
     let goes = GoesOn g.P.StreamPort.fits g.P.StreamPort.rules g.P.StreamPort.root g.P.StreamPort.seen g.P.StreamPort.busies in
     let b = c.args.self.now in
     let s = c.in-Some.seated.now in
@@ -43,7 +43,7 @@ returns-clause-sound g c =
 
 pub returns-clause-turns : goal.returns-clause-turns
 returns-clause-turns g c =
-    let asks = Asked g.P.StreamPort.fits g.P.StreamPort.rules g.P.StreamPort.root g.P.StreamPort.seen g.P.StreamPort.count g.P.StreamPort.wants g.P.StreamPort.busies in
+    let asks = AskedAlone g.P.StreamPort.fits g.P.StreamPort.rules g.P.StreamPort.root g.P.StreamPort.seen g.P.StreamPort.count g.P.StreamPort.wants g.P.StreamPort.busies g.P.StreamPort.adds g.P.StreamPort.kin g.P.StreamPort.branches in
     let goes = GoesOn g.P.StreamPort.fits g.P.StreamPort.rules g.P.StreamPort.root g.P.StreamPort.seen g.P.StreamPort.busies in
     let b = c.args.self.now in
     let s = c.in-Some.seated.now in

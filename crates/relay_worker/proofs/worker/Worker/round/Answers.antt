@@ -85,6 +85,6 @@ returns-clause-books g c works =
     let r = returns-clause-rounds g c in
     let sound = subst (λ v. IsSound fits rules g.D.Door.told v.terms v.bench) c.self.view_is c.self.invariant.0 in
     subst (λ t. Works rules root g.P.StreamPort.seen g.D.Link.Link.told g.D.Link.Link.counts g.D.Door.told desk t c.record_all.new.self) (sym r.terms)
-    (round_works rules root g.P.StreamPort.seen g.D.Link.Link.told g.D.Link.Link.counts g.D.Door.told desk w.terms fits g.P.StreamPort.count g.P.StreamPort.wants g.P.StreamPort.busies files
+    (round_works rules root g.P.StreamPort.seen g.D.Link.Link.told g.D.Link.Link.counts g.D.Door.told desk w.terms fits g.P.StreamPort.count g.P.StreamPort.wants g.P.StreamPort.busies g.P.StreamPort.adds g.P.StreamPort.kin g.P.StreamPort.branches files
     (λ x q a y q' k. let s = ahead_serves fits rules root g.P.StreamPort.busies (state_of q).seat.place x y k.serves in (s.fixed, s.roots))
     g.D.Link.Link.hears c.link_law.ensures.heard g.D.Link.Link.says c.link_law.ensures.said c.decided_law.ensures fits w _ c.round.result refl sound r works)
