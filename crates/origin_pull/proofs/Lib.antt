@@ -1,0 +1,10 @@
+pub mod Tags
+pub mod Owing
+pub mod Room
+pub mod Short
+pub mod Walking
+pub mod Turning
+pub mod Calling
+pub mod Staying
+pub mod Standing
+pub mod Granting

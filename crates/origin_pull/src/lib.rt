@@ -1,0 +1,27 @@
+//! An edge: what publishes here the stream that a client pulls from another relay, its origin.
+//!
+//! An edge stands between a client and one place of this relay. What its origin tells of the stream begins and ends broadcasts there, and
+//! each unit that comes is pushed.
+//!
+//! Read `Edge::turn` first. Which calls it makes is `origin_calls`, where their laws stand too; the rules of a turn are `specs/Turns.antt`. It
+//! plays nothing, and it connects nothing: it is handed a client, a port and a link.
+#![tactic(auto)]
+
+mod body;
+mod calls;
+mod core_fields;
+mod due;
+mod edge;
+mod end;
+mod granted;
+mod held;
+mod pulling;
+mod steps;
+mod turn;
+
+pub use core_fields::Core;
+pub use due::Due;
+pub use edge::Edge;
+pub use end::EdgeEnd;
+pub use granted::granted_law;
+pub use turn::EdgeTurn;
