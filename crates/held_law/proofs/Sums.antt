@@ -1,9 +1,10 @@
 -- Sums of numbers that are each within a bound
-use Rattle.std.proofs.Common.{ℕ, ◌+◌, ◌*◌, ◌≤◌, List, [], ◌∷◌, length, sum, sum_by, All, mul_assoc, arith}
+use Rattle.std.proofs.Common.{◌≡◌, ℕ, ◌+◌, ◌*◌, ◌≤◌, List, [], ◌∷◌, length, sum, sum_by, All, mul_assoc, ap, sym, subst, ◌∙◌, arith}
 use Rattle.std.proofs.lemmas.List.Sums.{sum_by-cons, sum_by-le}
 use Rattle.std.proofs.Math.Nat.{add-mul}
 use Rattle.std.proofs.lemmas.Nat.{mul-le}
-use Rattle.relay_config.specs.Sum.{configured_sum, name_bytes, names_of, recorders_of, session_bytes}
+use Rattle.http_flv.specs.PlayerState.{most_held as most_played}
+use Rattle.relay_config.specs.Sum.{configured_sum, http_workers, name_bytes, names_of, recorder_bytes, recorders_of, session_bytes, stream_bytes}
 use Rattle.relay_base.specs.declared.limits.Limits.{Limits}
 use Rattle.relay_config.specs.declared.config.Config.{Config}
 use Rattle.relay_config.specs.declared.config.OpenRule.{OpenRule}
@@ -22,7 +23,18 @@ tables_are limits (o ∷ opens) (n ∷ tables) a =
     let one = a.0 in
     omega (arith, one, sum_by-cons (λ (k : ℕ). k) n tables, tables_are limits opens tables a.1, add-mul o.names (names_of opens) (name_bytes limits))
 
-module _ (config : Config) (streams tables : List ℕ) (workers : List (List ℕ)) (recorders : List ℕ) (h : AreWithin config streams tables workers recorders) where
+-- the links of some workers and of some more
+links_are : (workers more links bytes : ℕ) → workers * (links * bytes) + more * links * bytes ≡ (workers + more) * links * bytes
+links_are workers more links bytes =
+    ap (λ (n : ℕ). n + more * links * bytes) (sym (mul_assoc workers links bytes))
+    ∙ (sym (add-mul (workers * links) (more * links) bytes) ∙ ap (λ (n : ℕ). n * bytes) (sym (add-mul workers more links)))
+
+-- five sums, each within its own bound
+together : (a b c d e ma mb mc md me : ℕ) → a ≤ ma → b ≤ mb → c ≤ mc → d ≤ md → e ≤ me → a + b + c + d + e ≤ ma + mb + (mc + md) + me
+together a b c d e ma mb mc md me p q r s t = omega (arith, p, q, r, s, t)
+
+module _ (config : Config) (streams tables : List ℕ) (workers : List (List ℕ)) (players recorders : List ℕ)
+    (h : AreWithin config streams tables workers players recorders) where
   abbrev m : ℕ
   m = config.limits.max_message
 
@@ -40,8 +52,24 @@ module _ (config : Config) (streams tables : List ℕ) (workers : List (List ℕ
         mul-le config.links (most_held m m) config.links (session_bytes config.limits) (omega arith) session_is,
       ))
 
+  player_is : most_played m ≤ session_bytes config.limits
+  player_is = omega arith
+
+  players_are : sum_by (λ n. n) players ≤ http_workers config * config.links * session_bytes config.limits
+  players_are = within (λ n. n) (session_bytes config.limits) (http_workers config * config.links) players h.few_players
+      (λ k d lt. let own = h.each_player k d lt in omega (arith, own, player_is))
+
   recorders_are : sum_by (λ n. n) recorders ≤ recorders_of config.places * most_recorded m
   recorders_are = within (λ n. n) (most_recorded m) (recorders_of config.places) recorders h.few_recorders h.each_recorder
 
-  pub all_are : sum streams + sum tables + sum_by sum workers + sum recorders ≤ configured_sum config
-  all_are = omega (arith, streams_are, tables_are config.limits config.opens tables h.each_table, sessions_are, recorders_are, mul_assoc config.workers config.links (session_bytes config.limits))
+  -- all but the links
+  abbrev rest : ℕ → ℕ
+  rest n =
+      length config.places * stream_bytes config.limits + names_of config.opens * name_bytes config.limits + n + recorders_of config.places * recorder_bytes config.limits
+
+  pub all_are : sum streams + sum tables + sum_by sum workers + sum players + sum recorders ≤ configured_sum config
+  all_are =
+      subst (λ (n : ℕ). sum streams + sum tables + sum_by sum workers + sum players + sum recorders ≤ rest n)
+      (links_are config.workers (http_workers config) config.links (session_bytes config.limits))
+      (together (sum streams) (sum tables) (sum_by sum workers) (sum players) (sum recorders) _ _ _ _ _ streams_are
+      (tables_are config.limits config.opens tables h.each_table) sessions_are players_are recorders_are)

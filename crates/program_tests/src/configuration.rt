@@ -125,6 +125,19 @@ workers = 2.0
 window = 1
 players = 1
 @
+http = \"\"
+@
+http = 8080
+@
+http = \"127.0.0.1:8080\"
+@
+http = \"aaaaaaaaaaaaaaaaaaaaaaaaaaaaaaaaaaaaaaaaaaaaaaaaaaaaaaaaaaaaaaaa\"
+@
+http = \"aaaaaaaaaaaaaaaaaaaaaaaaaaaaaaaaaaaaaaaaaaaaaaaaaaaaaaaaaaaaaaaaa\"
+@
+workers = 0
+http = \"\"
+@
 port = 1
 workers = 0
 @
@@ -172,6 +185,12 @@ bad configuration range workers
 bad configuration range workers
 bad configuration range workers
 bad configuration range players
+bad configuration range http
+bad configuration range http
+sum 849674240
+sum 849674240
+bad configuration range http
+bad configuration range http
 bad configuration unknown port
 bad configuration unknown a
 bad configuration unknown a?b
@@ -718,7 +737,7 @@ listen = \"127.0.0.1:1935\"
 workers = 2
 links = 32
 
-# After how many links it accepts no more; 0 stands for no such number. default: 0
+# After how many links it accepts no more; 0: it always accepts. default: 0
 # accept = 0
 
 # The longest message that it takes, in bytes. default: 4194304

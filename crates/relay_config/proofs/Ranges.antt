@@ -57,17 +57,17 @@ number_inside (Some value) least most default low high h = go (number_in value) 
 
 in_rows : (d : Data) (streams opens : List Data) → Each (is_outside d) relay_rows → InRange (config_of d streams opens)
 in_rows d streams opens h =
-    let message = number_inside (value_at key.MaxMessage d) 4096 4194304 4194304 (lit≤ tt) (lit≤ tt) h.1.1.1.1.0 in
-    let window = number_inside (value_at key.Window d) 1000 2147483647 2500000 (lit≤ tt) (lit≤ tt) h.1.1.1.1.1.1.1.1.0 in
+    let message = number_inside (value_at key.MaxMessage d) 4096 4194304 4194304 (lit≤ tt) (lit≤ tt) h.1.1.1.1.1.0 in
+    let window = number_inside (value_at key.Window d) 1000 2147483647 2500000 (lit≤ tt) (lit≤ tt) h.1.1.1.1.1.1.1.1.1.0 in
     record {
-      workers = number_inside (value_at key.Workers d) 1 16 2 (lit≤ tt) (lit≤ tt) h.1.0;
-      links = number_inside (value_at key.Links d) 1 64 32 (lit≤ tt) (lit≤ tt) h.1.1.0;
-      accept = (number_inside (value_at key.Accept d) 0 1000000 0 (lit≤ tt) (lit≤ tt) h.1.1.1.0).1;
+      workers = number_inside (value_at key.Workers d) 1 16 2 (lit≤ tt) (lit≤ tt) h.1.1.0;
+      links = number_inside (value_at key.Links d) 1 64 32 (lit≤ tt) (lit≤ tt) h.1.1.1.0;
+      accept = (number_inside (value_at key.Accept d) 0 1000000 0 (lit≤ tt) (lit≤ tt) h.1.1.1.1.0).1;
       max_message = message;
       ring_bytes = number_inside (value_at key.RingBytes d) (number_or key.MaxMessage 4194304 d + 64) 268435456 33554432
-          (omega (arith, message.1)) (lit≤ tt) h.1.1.1.1.1.0;
-      ring_items = number_inside (value_at key.RingItems d) 16 65536 16384 (lit≤ tt) (lit≤ tt) h.1.1.1.1.1.1.0;
-      players = number_inside (value_at key.Players d) 4 256 256 (lit≤ tt) (lit≤ tt) h.1.1.1.1.1.1.1.0;
+          (omega (arith, message.1)) (lit≤ tt) h.1.1.1.1.1.1.0;
+      ring_items = number_inside (value_at key.RingItems d) 16 65536 16384 (lit≤ tt) (lit≤ tt) h.1.1.1.1.1.1.1.0;
+      players = number_inside (value_at key.Players d) 4 256 256 (lit≤ tt) (lit≤ tt) h.1.1.1.1.1.1.1.1.0;
       window = (window.0, omega (arith, window.1));
     }
 

@@ -1,7 +1,7 @@
 -- How the keys of a configuration are written
 use Rattle.std.specs.Prelude.{ℕ, List, codes}
 use Rattle.relay_config.specs.declared.key.Key.{Key}
-use Rattle.relay_config.specs.declared.key.Key.TheVariants.{Relay, Stream, Open, Listen, Workers, Links, Accept, MaxMessage, RingBytes, RingItems, Players}
+use Rattle.relay_config.specs.declared.key.Key.TheVariants.{Relay, Stream, Open, Listen, Http, Workers, Links, Accept, MaxMessage, RingBytes, RingItems, Players}
 use Rattle.relay_config.specs.declared.key.Key.TheVariants.{Window, App, Name, Names, Publish, Play, Digest, Flv, Ts}
 
 abbrev pub name_of : Key → List ℕ
@@ -9,6 +9,7 @@ name_of Relay = codes "relay"
 name_of Stream = codes "stream"
 name_of Open = codes "open"
 name_of Listen = codes "listen"
+name_of Http = codes "http"
 name_of Workers = codes "workers"
 name_of Links = codes "links"
 name_of Accept = codes "accept"

@@ -39,6 +39,7 @@ whole_rows = required key.Relay Table ∷ optional key.Stream Tables ∷ optiona
 abbrev pub relay_rows : List Row
 relay_rows =
     required key.Listen (Text 64)
+    ∷ optional key.Http (Text 64)
     ∷ optional key.Workers (Number 1 16)
     ∷ optional key.Links (Number 1 64)
     ∷ optional key.Accept (Number 0 1000000)

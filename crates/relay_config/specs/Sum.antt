@@ -1,5 +1,5 @@
 -- The bound on the memory that a relay holds, in bytes
-use Rattle.std.specs.Prelude.{ℕ, ◌+◌, ◌*◌, ◌<◌, ◌≤◌, ◌^◌, List, [], ◌∷◌, length, count_by, is_some}
+use Rattle.std.specs.Prelude.{ℕ, ◌+◌, ◌*◌, ◌<◌, ◌≤◌, ◌^◌, List, [], ◌∷◌, length, count_by, is_some, if◌then◌else◌}
 use Rattle.std.specs.Int.{div_ceil}
 use Rattle.relay_base.specs.declared.limits.Limits.{Limits}
 use Rattle.relay_config.specs.declared.config.Config.{Config}
@@ -34,10 +34,15 @@ abbrev pub names_of : List OpenRule → ℕ
 names_of [] = 0
 names_of (o ∷ opens) = o.names + names_of opens
 
+-- the workers that serve players that speak HTTP
+abbrev pub http_workers : Config → ℕ
+http_workers config = if is_some config.http then 1 else 0
+
 -- the configured sum
 abbrev pub configured_sum : Config → ℕ
 configured_sum config =
-    total_of config.limits (length config.places) (names_of config.opens) (config.workers * config.links) (recorders_of config.places)
+    total_of config.limits (length config.places) (names_of config.opens) ((config.workers + http_workers config) * config.links)
+    (recorders_of config.places)
 
 -- the ranges of a configuration's numbers
 pub record InRange (config : Config) : Type 0 where

@@ -14,7 +14,7 @@ use Rattle.relay_config.specs.declared.config.Config.{Config}
 use Rattle.relay_config.specs.declared.config.PlaceRule.{PlaceRule}
 use Rattle.relay_config.specs.declared.config.OpenRule.{OpenRule}
 use Rattle.relay_config.specs.declared.key.Key.{Key}
-use Rattle.relay_config.specs.declared.key.Key.TheVariants.{Stream, Open, Listen, Workers, Links, Accept, MaxMessage, RingBytes, RingItems, Players}
+use Rattle.relay_config.specs.declared.key.Key.TheVariants.{Stream, Open, Listen, Http, Workers, Links, Accept, MaxMessage, RingBytes, RingItems, Players}
 use Rattle.relay_config.specs.declared.key.Key.TheVariants.{Window, App, Name, Names, Publish, Play, Digest, Flv, Ts}
 use Rattle.relay_config.specs.Forms.{value_at, elements, number_or, text_at, is_true_at}
 
@@ -79,6 +79,7 @@ limits_of relay = record {
 abbrev pub config_of : Data → List Data → List Data → Config
 config_of relay streams opens = record {
   listen = unwrap_or (text_at Listen relay) [];
+  http = text_at Http relay;
   workers = number_or Workers 2 relay;
   links = number_or Links 32 relay;
   accept = number_or Accept 0 relay;

@@ -8,11 +8,13 @@ use relay_base::Limits;
 pub struct Config {
     /// The address at which it listens, as it was written.
     pub listen: Bytes,
-    /// How many workers serve it.
+    /// The address at which it listens for players that speak HTTP, as it was written.
+    pub http: Option<Bytes>,
+    /// How many workers serve the links of `listen`; one more serves those of `http`.
     pub workers: u32,
     /// How many links each worker has at most.
     pub links: u32,
-    /// After how many links it accepts no more; 0 stands for no such number.
+    /// After how many links it accepts no more; 0: it always accepts.
     pub accept: u32,
     /// What its readers take and its streams keep.
     pub limits: Limits,

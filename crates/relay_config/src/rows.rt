@@ -73,11 +73,12 @@ pub(crate) fn whole() -> [Row; 3]
 }
 
 /// What the table `relay` has.
-pub(crate) fn relay() -> [Row; 9]
+pub(crate) fn relay() -> [Row; 10]
     ensures { result ≡ relay_rows }
 {
     [
         Row::required(Key::Listen, Form::Text { most: 64 }),
+        Row::optional(Key::Http, Form::Text { most: 64 }),
         number(Key::Workers, 1, 16),
         number(Key::Links, 1, 64),
         number(Key::Accept, 0, 1_000_000),

@@ -1,5 +1,5 @@
 ghost use Rattle.std.specs.Prelude.{◌≡◌, ◌+◌, ◌*◌, ◌≤◌, ◌<◌, ◌^◌, length};
-ghost use Rattle.relay_config.specs.Sum.{stream_bytes, name_bytes, session_bytes, recorder_bytes, total_of, recorders_of, names_of, configured_sum, InRange};
+ghost use Rattle.relay_config.specs.Sum.{stream_bytes, name_bytes, session_bytes, recorder_bytes, total_of, recorders_of, names_of, http_workers, configured_sum, InRange};
 
 use crate::{Config, OpenRule, PlaceRule};
 use relay_base::Limits;
@@ -72,6 +72,14 @@ fn names_of(opens: &[OpenRule]) -> u32
     names
 }
 
+/// How many workers serve players that speak HTTP: one, where there is an address for them.
+pub fn http_workers(config: &Config) -> u32
+    ensures value { result ≡ http_workers config.now }
+    ensures most { result ≤ 1 }
+{
+    if config.http.is_some() { 1 } else { 0 }
+}
+
 /// How many bytes a relay of this configuration holds at most: the configured sum.
 pub fn sum(config: &Config) -> u64
     requires numbers { InRange config.now }
@@ -79,7 +87,7 @@ pub fn sum(config: &Config) -> u64
     ensures { result ≡ configured_sum config.now }
 {
     let places = config.places.as_slice();
-    let sessions = config.workers * config.links;
+    let sessions = (config.workers + http_workers(config)) * config.links;
     let recorders = recorders_of(places);
     sum_of(
         &config.limits,

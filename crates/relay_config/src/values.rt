@@ -169,6 +169,7 @@ pub(crate) fn config(
 {
     Ok(Config {
         listen: required_text(alloc, relay, Key::Listen)?,
+        http: optional_text(alloc, relay, Key::Http)?,
         workers: number_or(relay, Key::Workers, 2),
         links: number_or(relay, Key::Links, 32),
         accept: number_or(relay, Key::Accept, 0),

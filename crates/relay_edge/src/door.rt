@@ -2,7 +2,7 @@
 ghost use Rattle.std.specs.Prelude.{◌≡◌, None, false};
 
 use crate::cells::{DOOR, READABLE};
-use crate::link::{Guest, RealLink};
+use crate::link::{Guest, RealLink, Wire};
 use crate::post::Post;
 use mio::net::TcpListener;
 use mio::{Interest, Registry, Token};
@@ -27,11 +27,17 @@ fn is_shortage(error: &io::Error) -> bool {
 /// A worker's door. The doors of all workers share one listening socket; a worker that has clearly more links than
 /// another leaves new ones to that one, as long as it looks at its door. All doors together give so many links, and are closed
 /// when all of these are gone. Once the server stops they give none, and are closed when all that were given are gone.
+///
+/// The peer of a link that comes back, and was answered why it isn't served, is seen off: it is told that no more comes, and what it
+/// still sends is passed over, until it has closed too or for three seconds. A connection that is closed with bytes unread is reset, and
+/// the peer may lose the answer. So long it counts as a link.
 #[derive(Drop)]
 pub struct RealDoor {
     listener: TcpListener,
     registry: Registry,
     post: Arc<Post, Global>,
+    // Those that are seen off.
+    leaving: Vec<Wire>,
     accept: u32,
     count: u64,
     failed: u64,
@@ -57,15 +63,24 @@ impl RealDoor {
     ) -> RealDoor
         ensures { result ≡ record { given = 0; faults = 0; closed = false; back = None } }
     {
+        let leaving = Vec::new(post.alloc);
         RealDoor {
             listener,
             registry,
             post,
+            leaving,
             accept,
             count: 0,
             failed: 0,
             over: false,
         }
+    }
+
+    // Goes on with the farewells. The socket of one that is over is closed.
+    fn see_off(&mut self)
+        ensures { self.new ≡ self.old }
+    {
+        self.leaving.retain_mut(|wire| !wire.is_seen_off());
     }
 
     // Whether there may be a connection for this worker.
@@ -128,6 +143,7 @@ impl Door for RealDoor {
         if self.over {
             return Knock::Closed;
         }
+        self.see_off();
         if self.post.is_done(self.accept) {
             self.over = true;
             return Knock::Closed;
@@ -147,7 +163,10 @@ impl Door for RealDoor {
 
     fn back(&mut self, link: RealLink) -> Result<(), AllocError> {
         let _ = &self.over;
-        drop(link);
+        if let Some(wire) = link.leave() {
+            let _ = self.leaving.push(wire);
+            self.see_off();
+        }
         Ok(())
     }
 }

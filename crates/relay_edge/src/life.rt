@@ -45,6 +45,8 @@ pub struct Life {
     took: u64,
     // Turns since then with nothing to send.
     quiet: u32,
+    // It was answered why it isn't served.
+    answered: Cell<bool>,
     // When nobody published any more, after the server was told to stop.
     alone: Option<u64>,
     cause: Cause,
@@ -60,6 +62,7 @@ impl Life {
             gave: now,
             took: now,
             quiet: 0,
+            answered: Cell::new(false),
             alone: None,
             cause: Cause::Peer,
         }
@@ -121,6 +124,11 @@ impl Life {
     /// Whether it plays.
     pub fn plays(&self) -> bool {
         self.doing.get() == Doing::Plays
+    }
+
+    /// Whether it was answered why it isn't served.
+    pub fn is_answered(&self) -> bool {
+        self.answered.get()
     }
 
     /// Whether it ends, since the server stops: at once, or where it plays once all publishers are gone and it was sent what they
@@ -192,6 +200,10 @@ impl Life {
             News::Publishes => self.change(post, token, Doing::Publishes, app, name),
             News::Plays => self.change(post, token, Doing::Plays, app, name),
             News::Left => self.change(post, token, Doing::Connected, app, b""),
+            News::Ended {
+                ending: Ending::Answered(_),
+                at: _,
+            } => self.answered.set(true),
             News::Denied(_) | News::Ended { .. } => {}
         }
         let line = Line {

@@ -18,10 +18,10 @@ use std::marker::Model;
 use std::net::{Shutdown, SocketAddr};
 use std::sync::Arc;
 
-/// One that was sent all, once its server stops, has so many milliseconds to close too.
+/// One that was sent all, once its server stops or it was answered why it isn't served, has so many milliseconds to close too.
 const FAREWELL: u64 = 3_000;
 
-/// As many pieces are passed over in a turn then.
+/// As many pieces are passed over at a time then.
 const LAST_PIECES: u32 = 16;
 
 /// A connection, with the address of its peer.
@@ -119,7 +119,7 @@ enum Flushed {
 
 /// A socket with its cell, the bytes that it is to be sent and those that were received from it. What is kept when it is
 /// dropped is handed to the system once more.
-struct Wire {
+pub(crate) struct Wire {
     stream: TcpStream,
     cell: Cell,
     outbox: Outbox,
@@ -251,18 +251,33 @@ impl Wire {
         if now.saturating_sub(self.shut) >= FAREWELL {
             return true;
         }
+        if !self.cell.has(READABLE) {
+            return false;
+        }
         let mut room = [0u8; 4096];
         for _ in 0..LAST_PIECES {
             match self.stream.read(&mut room) {
                 Ok(0) => return true,
                 Ok(_) => {}
-                Err(error) => {
-                    let waits = error.kind() == ErrorKind::WouldBlock;
-                    return !waits && error.kind() != ErrorKind::Interrupted;
+                Err(error) if error.kind() == ErrorKind::WouldBlock => {
+                    self.cell.remove(READABLE);
+                    return false;
                 }
+                Err(error) => return error.kind() != ErrorKind::Interrupted,
             }
         }
         false
+    }
+
+    /// Sends what is kept, and sees the peer off. Whether that is over.
+    pub(crate) fn is_seen_off(&mut self) -> bool {
+        let flushed = self.flush();
+        self.tell_kept();
+        match flushed {
+            Flushed::All => self.is_shut(),
+            Flushed::Some => self.is_stuck(FAREWELL),
+            Flushed::Failed => true,
+        }
     }
 
     // Tells the cell whether the worker is to go on for what is kept.
@@ -425,6 +440,26 @@ impl RealLink {
             waited: 0,
             ended: 0,
         }
+    }
+
+    /// The link is gone, but for its socket, where its peer was answered why it isn't served: that one is to read the answer.
+    pub(crate) fn leave(self) -> Option<Wire> {
+        let RealLink {
+            mut wire,
+            life,
+            failed: _,
+            waited: _,
+            ended: _,
+        } = self;
+        life.end(&wire.cell.post);
+        let answered = life.is_answered();
+        drop(life);
+        if answered {
+            wire.cell.ask();
+            return Some(wire);
+        }
+        drop(wire);
+        None
     }
 }
 

@@ -56,6 +56,7 @@ pub struct RealRest {
     stillness: Option<u64>,
     // When it last looked whether a connection finds no place.
     looked: u64,
+    runs: bool,
     control: Option<Control>,
 }
 
@@ -94,6 +95,7 @@ impl RealRest {
             pauses: 0,
             stillness: None,
             looked: 0,
+            runs: false,
             control,
         }
     }
@@ -126,6 +128,20 @@ impl RealRest {
             warn!(post.watch.log;
                 "relay: a connection waits, since all places for links are taken, {} of them at this worker",
                 post.links()
+            );
+        }
+    }
+
+    // The worker runs. Tells the log where others don't.
+    fn run(&mut self) {
+        let post = &self.post;
+        if !self.runs {
+            self.runs = true;
+            post.watch.run(post.now());
+        }
+        if let Some(waiting) = post.watch.waiting(post.now()) {
+            warn!(post.watch.log;
+                "relay: {waiting} of the workers have no thread, since the system gives no more: they wait until another ends"
             );
         }
     }
@@ -178,6 +194,7 @@ impl RealRest {
 
 impl Rest for RealRest {
     fn pause(&mut self) {
+        self.run();
         self.post.tell_begun();
         if !self.post.take_knocked() {
             self.tell_crowd();
@@ -210,6 +227,7 @@ impl Rest for RealRest {
             self.tell_crowd();
         }
         if self.moves % LOOK == 0 {
+            self.run();
             self.post.age();
             self.wait(0);
         }

@@ -12,6 +12,9 @@ use std::sync::{Arc, Mutex, OnceLock};
 /// As many workers as there may be: sixteen, and one of HTTP.
 pub const MOST_WORKERS: usize = 17;
 
+/// So many milliseconds after the first worker runs each of the others has a thread, if it can have one.
+const STARTING: u64 = 2000;
+
 /// Of so many names broadcasts are counted.
 const MOST_NAMES: usize = 1024;
 
@@ -78,6 +81,11 @@ pub struct Watch {
     waiting: OnceLock<UnixStream>,
     // The log has told that all links are taken, and none is gone since.
     crowded: AtomicBool,
+    // How many workers run, and since when, by the clock, or 0.
+    running: AtomicU64,
+    ran: AtomicU64,
+    // Whether it was looked for workers that don't.
+    counted: AtomicBool,
 }
 
 // One more of a list.
@@ -104,6 +112,9 @@ impl Watch {
             stopped: AtomicU64::new(0),
             waiting: OnceLock::new(),
             crowded: AtomicBool::new(false),
+            running: AtomicU64::new(0),
+            ran: AtomicU64::new(0),
+            counted: AtomicBool::new(false),
         };
         Ok(Arc::new(alloc, watch)?)
     }
@@ -113,6 +124,33 @@ impl Watch {
         if let Some(place) = self.seats.get(worker) {
             let _ = place.try_set(seats);
         }
+    }
+
+    /// It runs.
+    pub fn run(&self, now: u64) {
+        if self.running.fetch_add(1, Ordering::SeqCst) == 0 {
+            self.ran.store(now, Ordering::SeqCst);
+        }
+    }
+
+    /// How many workers don't run, where that is to be told: once, some time after the first one does. The system gave them no
+    /// thread, so each runs when another has ended.
+    pub fn waiting(&self, now: u64) -> Option<usize> {
+        let ran = self.ran.load(Ordering::SeqCst);
+        if ran == 0
+            || now.saturating_sub(ran) < STARTING
+            || self.counted.swap(true, Ordering::SeqCst)
+        {
+            return None;
+        }
+        let all = self
+            .seats
+            .as_slice()
+            .iter()
+            .filter(|place| place.get().is_some())
+            .count();
+        let running = self.running.load(Ordering::SeqCst) as usize;
+        Some(all.saturating_sub(running)).filter(|waiting| *waiting > 0)
     }
 
     /// What is done over all links.

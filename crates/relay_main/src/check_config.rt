@@ -6,7 +6,7 @@ use crate::{BAD_INPUT, NO_MEMORY, READ_FAULT, status, tell, tell_fault};
 use key_guard::Grants;
 use relay_base::Status;
 use relay_config::{
-    Config, ConfigFail, Key, OpenRule, PlaceRule, read_config, report, sum, sum_of,
+    Config, ConfigFail, Key, OpenRule, PlaceRule, http_workers, read_config, report, sum, sum_of,
 };
 use relay_edge::Shown;
 use std::alloc::{AllocError, Global};
@@ -43,6 +43,7 @@ fn range(key: Key) -> &'static str {
         Key::Stream => "there are at most 64 tables [[stream]]",
         Key::Open => "tables [[open]]",
         Key::Listen => "a text of 1 to 64 bytes, as \"127.0.0.1:1935\"",
+        Key::Http => "a text of 1 to 64 bytes and another than listen, as \"127.0.0.1:8080\"",
         Key::Workers => "1 to 16",
         Key::Links => "1 to 64",
         Key::Accept => "0 to 1000000",
@@ -212,6 +213,12 @@ fn names_of(config: &Config) -> u32 {
     names
 }
 
+// How many links all workers have, that of the HTTP players too.
+fn all_links(config: &Config) -> u32 {
+    let workers = config.workers.saturating_add(http_workers(config));
+    workers.saturating_mul(config.links)
+}
+
 // What a configuration allows.
 fn show(alloc: Global, config: &Config, sums: &Sums) -> Result<String, AllocError> {
     let listen = shown(config.listen.as_slice());
@@ -219,6 +226,13 @@ fn show(alloc: Global, config: &Config, sums: &Sums) -> Result<String, AllocErro
     let mut text = format!(in alloc;
         "listens on {listen}\nworkers {workers}, links {links} each\n"
     )?;
+    if let Some(http) = &config.http {
+        let line = format!(in alloc;
+            "listens on {} for HTTP players: 1 worker more\n",
+            shown(http.as_slice())
+        )?;
+        text.push_str(&line)?;
+    }
     for (place, rule) in config.places.as_slice().iter().enumerate() {
         add_stream(alloc, &mut text, place, rule)?;
     }
@@ -262,6 +276,14 @@ fn refuse<R: Eprint>(
     status(BAD_INPUT)
 }
 
+// Whether the players that speak HTTP are to come to the address of all others, where another protocol is spoken.
+fn is_taken(config: &Config) -> bool {
+    match &config.http {
+        Some(at) => config.listen == *at,
+        None => false,
+    }
+}
+
 /// Reads the configuration in the file of that name and prints what it allows, or the first test that it fails.
 pub fn command<R: Eprint + Files<File = File>>(host: &HostRuntime, rt: &R, name: &str) -> Status {
     let alloc = host.alloc();
@@ -275,11 +297,15 @@ pub fn command<R: Eprint + Files<File = File>>(host: &HostRuntime, rt: &R, name:
     };
     match read_config(alloc, bytes.as_slice()) {
         Ok(config) => {
+            if is_taken(&config) {
+                let fail = ConfigFail::Range { key: Key::Http };
+                return refuse(host, rt, name, bytes.as_slice(), &fail);
+            }
             let limits = &config.limits;
             let sums = Sums {
                 all: sum(&config),
                 streams: sum_of(limits, config.places.len() as u32, names_of(&config), 0, 0),
-                links: sum_of(limits, 0, 0, config.workers * config.links, 0),
+                links: sum_of(limits, 0, 0, all_links(&config), 0),
             };
             match show(alloc, &config, &sums) {
                 Ok(text) => tell(host, &text),
@@ -291,18 +317,38 @@ pub fn command<R: Eprint + Files<File = File>>(host: &HostRuntime, rt: &R, name:
     }
 }
 
+// What the file of that name holds, where it is one that can be read anew.
+fn read_anew<R: Files<File = File>>(rt: &R, alloc: Global, name: &str) -> Option<Vec<u8>> {
+    let there = rt.metadata(name).ok()?;
+    if !there.is_file() {
+        return None;
+    }
+    read(rt, alloc, name).ok()
+}
+
+/// Refuses the configuration in the file of that name where one address has both protocols. It says nothing of one that fails another
+/// test, and of what is no file that can be read twice.
+pub fn refuse_address<R: Eprint + Files<File = File>>(
+    host: &HostRuntime,
+    rt: &R,
+    name: &str,
+) -> Option<Status> {
+    let alloc = host.alloc();
+    let text = read_anew(rt, alloc, name)?;
+    let config = read_config(alloc, text.as_slice()).ok()?;
+    if !is_taken(&config) {
+        return None;
+    }
+    let fail = ConfigFail::Range { key: Key::Http };
+    Some(refuse(host, rt, name, text.as_slice(), &fail))
+}
+
 /// Says why the configuration in the file of that name is refused. It is read anew, where it is a file that can be.
 pub fn explain<R: Eprint + Files<File = File>>(rt: &R, alloc: Global, name: &str) {
-    let is_file = match rt.metadata(name) {
-        Ok(there) => there.is_file(),
-        Err(_) => false,
-    };
-    if is_file {
-        if let Ok(bytes) = read(rt, alloc, name) {
-            if let Err(fail) = read_config(alloc, bytes.as_slice()) {
-                tell_why(rt, alloc, name, bytes.as_slice(), &fail);
-                return;
-            }
+    if let Some(bytes) = read_anew(rt, alloc, name) {
+        if let Err(fail) = read_config(alloc, bytes.as_slice()) {
+            tell_why(rt, alloc, name, bytes.as_slice(), &fail);
+            return;
         }
     }
     let _ = eprintln!(rt;

@@ -147,7 +147,7 @@ fn remux<S: Source, K: Sink>(
         let _ = eprintln!(rt; "relay: {left_out}");
     }
     if enhanced {
-        let _ = eprintln!(rt; "relay: pictures in the form of Enhanced RTMP were passed over");
+        let _ = eprintln!(rt; "relay: pictures in the form of Enhanced RTMP were left out");
     }
     status
 }

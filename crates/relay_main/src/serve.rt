@@ -1,7 +1,7 @@
 //! `relay serve`: the file of the configuration, the real house, and what is said on standard error.
 
 use crate::adapters::{ConfigFile, Reading, Writing};
-use crate::check_config::explain;
+use crate::check_config::{explain, refuse_address};
 use crate::watching::{Unfit, tell_unfit, watching};
 use crate::{BAD_INPUT, BAD_WORDS, NO_MEMORY, READ_FAULT, WRITE_FAULT, status, tell_fault};
 use key_guard::Guards;
@@ -42,6 +42,9 @@ pub fn command<
             return status(BAD_WORDS);
         }
     };
+    if let Some(refused) = refuse_address(host, rt, name) {
+        return refused;
+    }
     let mut config = Reading::new(ConfigFile::open(rt, name));
     let mut report = Writing::new(io::writer(host));
     let Ok(mut house) = RealHouse::watched(rt, alloc, watching) else {

@@ -37,10 +37,10 @@ pub const COMMANDS: [(&str, &str); 12] = [
 ];
 
 const SERVE: &str = "relay serve listens as the configuration in FILE says: encoders publish to it
-over RTMP, players pull from it, and recorders write files. It says on standard
-error where it listens. With a bound on its links it ends when the last is gone,
-or else when it is told to stop, and prints a line for each stream. By variables
-of the environment:
+over RTMP, players pull from it, over HTTP too where it has an address for them,
+and recorders write files. It says on standard error where it listens. With a
+bound on its links it ends when the last is gone, or else when it is told to stop,
+and prints a line for each stream. By variables of the environment:
   RELAY_LOG=LEVEL      what is logged on standard error: off, error, warn, info
                        or debug, each with those before it; info if not set
   RELAY_SILENCE=N      a publisher that gives nothing for N seconds ends, and a
@@ -242,8 +242,8 @@ may carry a key behind '?'.
 ";
 
 pub const STATUS: &str = "Exit status:
-  0  the input was read to its end; by serve, all were served; by soak, the run
-     was made; by pull, the stream was played to its end
+  0  the input was read to its end; by serve, it ended and its report is whole;
+     by soak, the run was made; by pull, the stream was played to its end
   2  the command line is none of the above; nothing was read or written
   3  standard input failed, or the FILE of a configuration
   4  a line of the script is none of the above, or may not stand there; or the

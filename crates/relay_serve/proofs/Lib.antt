@@ -12,5 +12,6 @@ pub mod Telling
 pub mod Enlisting
 pub mod Recording
 pub mod Settling
+pub mod Players
 pub mod Having
 pub mod Naming

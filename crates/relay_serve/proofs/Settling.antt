@@ -25,7 +25,7 @@ use Rattle.turn_gate.specs.Known.{PassKnown}
 use Rattle.relay_serve.specs.Recordings.{recordings_of, recordings_upto}
 use Rattle.relay_serve.specs.Settling.{AsksFor, IsBalanced, IsLeft, IsShut, asked_of}
 
-goes_on : (h k : Histories) → Later h k → GoOn h k
+pub goes_on : (h k : Histories) → Later h k → GoOn h k
 goes_on h k l = record { at_each = l.at }
 
 module _ (config : Config) (streams : ℕ → Shape) (h k : Histories) where

@@ -1,7 +1,6 @@
 -- How `serve` ends
 use Rattle.std.specs.Prelude.{◌≡◌, ◌≢◌, ◌⊎◌, ℕ, Bool, true, false, List, Option, Some, length}
 use Rattle.std.specs.Io.KnownBytes.{append_known}
-use Rattle.std.specs.List.{range_with_len}
 use Rattle.relay_base.specs.declared.limits.Status.{Status}
 use Rattle.relay_config.specs.declared.config.Config.{Config}
 use Rattle.relay_config.specs.declared.config.ConfigFail.{ConfigFail}
@@ -24,7 +23,8 @@ use Rattle.relay_serve.specs.Counts.{report_lines}
 use Rattle.relay_serve.specs.Lasts.{AllEnd, IsWorn}
 use Rattle.relay_serve.specs.Recorded.{IsRecorded}
 use Rattle.relay_serve.specs.Recordings.{names_upto, recordings_upto, with_names}
-use Rattle.relay_serve.specs.Settling.{AsksFor, IsShut, TellsMore}
+use Rattle.relay_serve.specs.Http.{AsksAll, ShutAll}
+use Rattle.relay_serve.specs.Settling.{TellsMore}
 use Rattle.stream_model.specs.declared.calls.Shape.{Shape}
 use Rattle.relay_serve.specs.Places.{AreShaped, places_in}
 use Rattle.relay_serve.specs.declared.counting.Counts.{Counts}
@@ -92,18 +92,18 @@ pub record Reports (config : Config) (attempts : ℕ → List Attempt) (old new 
   -- history is the one that the rules give after the calls before it. Or the line tells that the history is full, and it is: the
   -- place was asked as often as it can count
   pub last : AllEnd streams counts attempts
-  -- the histories once no session lived any more
+  -- the histories once neither a session nor a player lived any more
   pub joined : Histories
   pub later : Later joined (tells attempts)
-  -- each worker's door was asked for with the configured address and number of links
-  pub asked : TellsMore (AsksFor config) (range_with_len 0 config.workers) old.asked new.asked
+  -- each worker's door was asked for with the configured address and number of links, and then that of the HTTP players with theirs
+  pub asked : AsksAll config config.workers old.asked new.asked
   -- the file of each recording was made under the configured name, and no other file was
   pub named : new.named ≡ with_names old.named (names_upto config config.workers)
-  -- a session ended as the history of its stream was full: only where the line of its place tells that its history is
+  -- a session or a player ended as the history of its stream was full: only where the line of its place tells that its history is
   pub worn : Bool
   pub full : worn ≡ true → (place : ℕ) × IsWorn counts place
-  -- each worker's door was shut, and what its links were sent is what they were owed
-  pub shut : TellsMore (IsShut config streams joined worn) (range_with_len 0 config.workers) old.house.shut new.house.shut
+  -- each worker's door was shut, that of the HTTP players as the last, and what its links were sent is what they were owed
+  pub shut : ShutAll config streams joined worn old.house.shut new.house.shut
   -- the file of each recording was kept, and holds what its recorder was sent
   pub kept : TellsMore (IsRecorded streams joined (tells attempts) (IsWorn counts) config.places) (recordings_upto config config.workers)
       old.house.kept new.house.kept

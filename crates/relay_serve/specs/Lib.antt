@@ -8,4 +8,6 @@ pub mod Lasts
 pub mod Recordings
 pub mod Recorded
 pub mod Settling
+pub mod Http
+pub mod Beside
 pub mod Ends

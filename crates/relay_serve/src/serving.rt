@@ -1,30 +1,32 @@
 //! `relay serve`.
-ghost use Rattle.std.specs.Prelude.{◌≡◌, ◌≤◌, ℕ, length, map, vec_len, All, IfOk, MatchResult, List, Option};
+ghost use Rattle.std.specs.Prelude.{◌≡◌, ◌≤◌, ℕ, is_some, map, vec_len, All, IfOk, IfSome, MatchResult, List, Option};
 ghost use Rattle.relay_config.specs.Accepts.{Lawful};
 ghost use Rattle.relay_serve.specs.Ends.{EndsAs, HouseCause, RefusesAs, RunsAs, Serves, code_of, outer, seen, unopened_as};
 ghost use Rattle.relay_serve.specs.Places.{AreShaped, HasPlaces, limits_in, places_in};
 ghost use Rattle.relay_serve.specs.Recordings.{names_upto, with_names};
-ghost use Rattle.std.specs.List.{range_with_len};
 ghost use Rattle.relay_outside.specs.Houses.{Asked};
-ghost use Rattle.relay_serve.specs.Settling.{AsksFor, IsServing, TellsMore};
+ghost use Rattle.relay_serve.specs.Http.{AsksAll, IsServingHttp};
+ghost use Rattle.relay_serve.specs.Settling.{IsServing};
 ghost use Rattle.relay_serve.specs.Starts.{AreReady, HasRules};
 ghost use Rattle.relay_serve.specs.Words.{is_serve};
+ghost use Rattle.http_worker.specs.Running.{HasRun as HasRunHttp};
 ghost use Rattle.relay_worker.specs.Running.{EachAt, HasRun};
 ghost use Rattle.stream_registry.specs.Pasts.{Attempt};
 ghost use Rattle.stream_registry.specs.Roots.{seen_at};
 ghost use Rattle.stream_registry.specs.SharedState.{shared_rules};
 
+use crate::beside::run_beside;
 use crate::counting::{count_all, has_worn, report_of};
 use crate::ending::{end_all, take_all_apart};
+use crate::http::{ServeHttp, open_http, own_port, shut_http, take_http_apart};
 use crate::put::{PutFail, put_all};
 use crate::reading::{ReadFail, read_text};
 use crate::starting::{OpenFail, ServeWorker, names_of, open_workers, opens_of};
 use key_guard::Guards;
 use relay_base::Status;
-use relay_config::{Config, ConfigFail, read_config, report};
+use relay_config::{Config, ConfigFail, http_workers, read_config, report};
 use relay_outside::{Door, House, Rest, Sink, Source};
 use relay_session::PlaceDesk;
-use relay_worker::run_all;
 use std::alloc::Global;
 use std::sync::Wait;
 use std::thread::Threads;
@@ -100,6 +102,7 @@ fn unopened(fail: OpenFail) -> Ending
 struct Ready<D: Door, R: Rest, K: Sink> {
     port: Shared<Desk>,
     workers: Vec<ServeWorker<D, R, K>>,
+    http: Option<ServeHttp<D, R>>,
 }
 
 // Asks the house for all doors, rests and files, and makes the workers.
@@ -110,7 +113,7 @@ fn make_ready<H: House>(
 ) -> Result<Ready<H::Door, H::Rest, H::File>, OpenFail>
     requires lawful { Lawful config.now }
     ensures house { MatchResult result (λ _. H.told house.new ≡ H.told house.old) (λ fail. HouseCause fail (H.told house.old) (H.told house.new)) }
-    ensures asked { IfOk result (λ ready. TellsMore (AsksFor config.now) (range_with_len 0 (vec_len ready.workers)) (H.asked house.old) (H.asked house.new)) }
+    ensures asked { IfOk result (λ ready. AsksAll config.now (vec_len ready.workers) (H.asked house.old) (H.asked house.new)) }
     ensures named { IfOk result (λ ready. H.named house.new ≡ with_names (H.named house.old) (names_upto config.now (vec_len ready.workers))) }
     ensures few { IfOk result (λ ready. vec_len ready.workers ≤ 16) }
     ensures places { IfOk result (λ ready. HasPlaces config.now (shared_rules ready.port)) }
@@ -119,6 +122,9 @@ fn make_ready<H: House>(
     ensures each { IfOk result (λ ready. vec_len ready.workers ≡ config.now.workers) }
     ensures serving { IfOk result (λ ready.
         EachAt (IsServing config.now H.Door.Link.told H.Door.Link.counts H.Door.told H.File.holds H.File.faults) ready.workers.items) }
+    ensures http_there { IfOk result (λ ready. is_some ready.http ≡ is_some config.now.http) }
+    ensures http_rules { IfOk result (λ ready. IfSome ready.http (λ w. HasRules (shared_rules ready.port) w.bench.port)) }
+    ensures http_serving { IfOk result (λ ready. IfSome ready.http (IsServingHttp config.now H.Door.Link.told H.Door.Link.counts H.Door.told)) }
 {
     places_law();
     let Ok(names) = names_of(alloc, config.places.as_slice()) else {
@@ -127,15 +133,21 @@ fn make_ready<H: House>(
     let Ok(opens) = opens_of(alloc, config.opens.as_slice()) else {
         return Err(OpenFail::OutOfMemory);
     };
-    let count = config.workers as usize + 1;
+    let count = config.workers as usize + http_workers(config) as usize + 1;
     let Ok(mut ports) = shared_ports(alloc, names, opens, stream_limits(config), count) else {
         return Err(OpenFail::OutOfMemory);
     };
     let Some(port) = ports.pop() else {
         return Err(OpenFail::OutOfMemory);
     };
+    let own = own_port(config, &port, &mut ports);
     let workers = open_workers(alloc, house, config, &port, ports)?;
-    Ok(Ready { port, workers })
+    let http = open_http(alloc, house, config, &port, own)?;
+    Ok(Ready {
+        port,
+        workers,
+        http,
+    })
 }
 
 // What comes after the workers, the report last.
@@ -147,6 +159,7 @@ fn conclude<W: Wait, H: House, K: Sink>(
     out: &mut K,
     port: &mut Shared<Desk>,
     workers: Vec<ServeWorker<H::Door, H::Rest, H::File>>,
+    http: Option<ServeHttp<H::Door, H::Rest>>,
 ) -> Ending
     requires total { places_in config.now ≤ 64 }
     requires places { HasPlaces config.now (shared_rules port.old) }
@@ -156,7 +169,11 @@ fn conclude<W: Wait, H: House, K: Sink>(
     requires rules { All (λ x. HasRules (shared_rules port.old) x.bench.port) workers.items }
     requires each { vec_len workers ≡ config.now.workers }
     requires serving { EachAt (IsServing config.now H.Door.Link.told H.Door.Link.counts H.Door.told H.File.holds H.File.faults) workers.items }
-    ensures { (before : Option (List Asked)) → TellsMore (AsksFor config.now) (range_with_len 0 config.now.workers) before (H.asked house.old)
+    requires http_there { is_some http ≡ is_some config.now.http }
+    requires http_run { IfSome http (HasRunHttp H.Door.told) }
+    requires http_rules { IfSome http (λ w. HasRules (shared_rules port.old) w.bench.port) }
+    requires http_serving { IfSome http (IsServingHttp config.now H.Door.Link.told H.Door.Link.counts H.Door.told) }
+    ensures { (before : Option (List Asked)) → AsksAll config.now config.now.workers before (H.asked house.old)
         → (names : Option (List (List ℕ))) → H.named house.old ≡ with_names names (names_upto config.now config.now.workers)
         → RunsAs config.now (seen_at port.new.roots) (seen (K.holds out.old) (K.faults out.old) (H.told house.old) before names)
         (seen (K.holds out.new) (K.faults out.new) (H.told house.new) (H.asked house.new) (H.named house.new)) result }
@@ -164,8 +181,10 @@ fn conclude<W: Wait, H: House, K: Sink>(
     let Ok(left) = take_all_apart(alloc, config, port, workers) else {
         return Ending::OutOfMemory;
     };
+    let players = take_http_apart(config, port, http);
     let mut full = Vec::new(alloc);
-    let whole = end_all(rt, port, house, &mut full, config, left.list);
+    let ended = end_all(rt, port, house, &mut full, config, left.list);
+    let whole = ended & shut_http(house, config, players.door);
     let streams = config.places.len();
     let count = (streams + config.opens.len()) as u32;
     let Ok(counts) = count_all(rt, alloc, port, count, full.as_slice()) else {
@@ -174,9 +193,10 @@ fn conclude<W: Wait, H: House, K: Sink>(
     let Ok(text) = report_of(alloc, counts.as_slice(), streams) else {
         return Ending::OutOfMemory;
     };
-    let agreed = has_worn(counts.as_slice()) | !left.worn;
+    let agreed = has_worn(counts.as_slice()) | !(left.worn | players.worn);
+    let refused = left.refused | players.refused;
     match put_all(out, text.as_slice()) {
-        Ok(()) if whole && !left.refused && agreed => Ending::Served,
+        Ok(()) if whole && !refused && agreed => Ending::Served,
         Ok(()) => Ending::OutOfMemory,
         Err(PutFail::SinkFault) => Ending::SinkFault,
         Err(PutFail::OutOfMemory) => Ending::OutOfMemory,
@@ -224,11 +244,12 @@ fn ready_workers<W: Wait, D: Door, R: Rest, K: Sink>(
 // All workers run, each in a thread of its own, with the desk of the configuration's streams and open tables.
 fn run_workers<T: Threads + Wait + Sync, D: Door + Send, R: Rest + Send, K: Sink + Send>(
     rt: &T,
-    mut workers: Vec<ServeWorker<D, R, K>>,
+    workers: Vec<ServeWorker<D, R, K>>,
+    http: Option<ServeHttp<D, R>>,
     port: &Shared<Desk>,
     guards: &Guards,
     config: &Config,
-) -> Vec<ServeWorker<D, R, K>>
+) -> (Vec<ServeWorker<D, R, K>>, Option<ServeHttp<D, R>>)
 where
     D::Link: Send,
     requires total { places_in config.now ≤ 64 }
@@ -236,20 +257,26 @@ where
     requires rules { All (λ x. HasRules (shared_rules port.now) x.bench.port) workers.items }
     requires serving { EachAt (IsServing config.now D.Link.told D.Link.counts D.told K.holds K.faults) workers.items }
     requires ready { All AreReady workers.items }
-    ensures run { All (λ x. HasRun D.told x) result.items }
-    ensures rules { All (λ x. HasRules (shared_rules port.now) x.bench.port) result.items }
-    ensures each { vec_len result ≡ vec_len workers }
-    ensures serving { EachAt (IsServing config.now D.Link.told D.Link.counts D.told K.holds K.faults) result.items }
+    requires http_rules { IfSome http (λ w. HasRules (shared_rules port.now) w.bench.port) }
+    requires http_serving { IfSome http (IsServingHttp config.now D.Link.told D.Link.counts D.told) }
+    ensures run { All (λ x. HasRun D.told x) result.0.items }
+    ensures rules { All (λ x. HasRules (shared_rules port.now) x.bench.port) result.0.items }
+    ensures each { vec_len result.0 ≡ vec_len workers }
+    ensures serving { EachAt (IsServing config.now D.Link.told D.Link.counts D.told K.holds K.faults) result.0.items }
+    ensures http_there { is_some result.1 ≡ is_some http }
+    ensures http_run { IfSome result.1 (HasRunHttp D.told) }
+    ensures http_rules { IfSome result.1 (λ w. HasRules (shared_rules port.now) w.bench.port) }
+    ensures http_serving { IfSome result.1 (IsServingHttp config.now D.Link.told D.Link.counts D.told) }
 {
     let _ = port;
     let desk = PlaceDesk::new(guards, &config.places, &config.opens);
-    run_all(rt, workers.as_mut_slice(), &desk);
+    let (workers, http) = run_beside(rt, &desk, workers, http);
     let PlaceDesk {
         guards: _,
         list: _,
         opens: _,
     } = desk;
-    workers
+    (workers, http)
 }
 
 // Serves a configuration that was accepted.
@@ -267,10 +294,16 @@ fn run<T: Threads + Wait + Sync, H: House, K: Sink>(
         (seen (K.holds out.new) (K.faults out.new) (H.told house.new) (H.asked house.new) (H.named house.new)) result }
 {
     match make_ready(alloc, config, house) {
-        Ok(Ready { mut port, workers }) => {
+        Ok(
+            Ready {
+                mut port,
+                workers,
+                http,
+            },
+        ) => {
             let workers = ready_workers(rt, workers, &port, config);
-            let workers = run_workers(rt, workers, &port, guards, config);
-            conclude(rt, alloc, config, house, out, &mut port, workers)
+            let (workers, http) = run_workers(rt, workers, http, &port, guards, config);
+            conclude(rt, alloc, config, house, out, &mut port, workers, http)
         }
         Err(fail) => unopened(fail),
     }
@@ -323,12 +356,13 @@ fn end<T: Threads + Wait + Sync, H: House, S: Source, K: Sink>(
     }
 }
 
-/// Serves by a configuration: sessions over the house's links, and recorders to its files, until each door has closed and no
-/// session lives. It may wait.
+/// Serves by a configuration: sessions over the house's links, players that speak HTTP where it has an address for them, and
+/// recorders to its files, until each door has closed and neither a session nor a player lives. It may wait.
 ///
-/// The words are `serve` and the name of the file that `config` reads. The guards judge the keys of all sessions. Each worker
-/// has a thread, a port to the shared streams, and a door and a rest of the house. The report then has a line for each stream,
-/// and then one for each open table: how many of its calls were answered so, or that its history is full.
+/// The words are `serve` and the name of the file that `config` reads. The guards judge the keys of all sessions and players.
+/// Each worker has a thread, a port to the shared streams, and a door and a rest of the house. That of the HTTP players is one
+/// more, behind the others in number. The report then has a line for each stream, and then one for each open table: how many
+/// of its calls were answered so, or that its history is full.
 ///
 /// The code is
 ///
@@ -338,7 +372,7 @@ fn end<T: Threads + Wait + Sync, H: House, S: Source, K: Sink>(
 /// - 4 exactly where [`read_config`] refuses it, for another cause than memory: the report has the line of the refusal, or a
 ///   beginning of it where the report's faults rose;
 /// - 5 where the report couldn't be written, only where its faults rose;
-/// - 6 where there was too little memory, also for a session or a recorder;
+/// - 6 where there was too little memory, also for a session, a player or a recorder;
 /// - 7 where the house had no door, no rest or no file, only where its faults rose: no worker has run.
 ///
 /// `place` is 0.

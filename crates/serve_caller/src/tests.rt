@@ -21,6 +21,17 @@ const IS_OPEN: &[u8] =
 const KEEPS_NOTHING: &[u8] =
     b"[relay]\nlisten = \"127.0.0.1:1935\"\nworkers = 2\n[[stream]]\napp = \"live\"\nname = \"one\"\n";
 
+const SPEAKS_HTTP: &[u8] =
+    b"[relay]\nlisten = \"127.0.0.1:1935\"\nhttp = \"127.0.0.1:8080\"\nworkers = 2\n[[stream]]\napp = \"live\"\nname = \"one\"\nplay = [\"key\"]\n";
+
+// What an HTTP player is sent at once, also where nobody publishes: the answer and the header of an FLV.
+const PLAYED: &[u8] =
+    b"HTTP/1.1 200 OK\r\nContent-Type: video/x-flv\r\nConnection: close\r\n\r\nFLV\x01\x05\x00\x00\x00\x09\x00\x00\x00\x00";
+
+// And one whose key is wrong.
+const FORBIDDEN: &[u8] =
+    b"HTTP/1.1 403 Forbidden\r\nContent-Length: 0\r\nConnection: close\r\n\r\n";
+
 // What a client sends after its handshake to connect to an app.
 const CONNECTS: &[u8] =
     b"\x03\x00\x00\x00\x00\x00\x23\x14\x00\x00\x00\x00\x02\x00\x07connect\x00\x3f\xf0\x00\x00\x00\x00\x00\x00\x03\x00\x03app\x02\x00\x04live\x00\x00\x09";
@@ -171,6 +182,56 @@ fn serves_until_the_last_link_is_gone(rt: HostRuntime) -> Result<(), Fail> {
         recorded.as_slice(),
         b"0FG+stream 0 began 1 pushed 2 ended 1 joined 2 skips 0\n".as_slice()
     );
+    Ok(())
+}
+
+// The link of a client that asks for a stream over HTTP and ends.
+fn asking(alloc: Global, request: &[u8]) -> Result<MemLink, AllocError>
+    ensures { IfOk result IsNewMemLink }
+{
+    let mut link = MemLink::new(alloc);
+    link.give(request.to_vec(alloc)?)?;
+    link.end();
+    Ok(link)
+}
+
+// Serves over a house whose third door has the link of such a client. What that was sent, and the report.
+fn answered<T: Threads + Wait + Sync>(
+    rt: &T,
+    alloc: Global,
+    request: &[u8],
+) -> Result<Vec<u8>, AllocError> {
+    let links = vec![in alloc; asking(alloc, request)?]?;
+    let doors = vec![in alloc;
+        MemDoor::new(alloc, Vec::new(alloc), Vec::new(alloc)),
+        MemDoor::new(alloc, Vec::new(alloc), Vec::new(alloc)),
+        MemDoor::new(alloc, links, Vec::new(alloc)),
+    ]?;
+    let mut house = MemHouse::new(alloc, doors, Vec::new(alloc));
+    let mut report = MemSink::new(alloc, Vec::new(alloc));
+    let code = served(rt, alloc, SPEAKS_HTTP, &mut house, &mut report)?;
+    let mut told = Vec::new(alloc);
+    told.push(b'0'.saturating_add(code))?;
+    if let Some(sent) = house.link_sent(2, 0) {
+        told.extend_from_slice(sent)?;
+    }
+    told.extend_from_slice(report.bytes())?;
+    Ok(told)
+}
+
+#[test]
+fn players_that_speak_http_come_by_a_door_of_their_own(rt: HostRuntime) -> Result<(), Fail> {
+    let alloc = rt.alloc();
+    let played = answered(&rt, alloc, b"GET /live/one.flv?key HTTP/1.1\r\n\r\n")?;
+    let denied = answered(&rt, alloc, b"GET /live/one.flv?kez HTTP/1.1\r\n\r\n")?;
+    let mut wanted = b"0".to_vec(alloc)?;
+    wanted.extend_from_slice(PLAYED)?;
+    wanted.extend_from_slice(b"stream 0 began 0 pushed 0 ended 0 joined 1 skips 0\n")?;
+    assert_eq!(rt; played.as_slice(), wanted.as_slice());
+    let mut wanted = b"0".to_vec(alloc)?;
+    wanted.extend_from_slice(FORBIDDEN)?;
+    wanted.extend_from_slice(b"stream 0 began 0 pushed 0 ended 0 joined 0 skips 0\n")?;
+    assert_eq!(rt; denied.as_slice(), wanted.as_slice());
     Ok(())
 }
 

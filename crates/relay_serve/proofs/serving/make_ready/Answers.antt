@@ -42,3 +42,10 @@ open_workers-requires-clause-places g c κs within =
     let p = c.in-Ok-shared_ports.ensures in
     let n = (All-pop (IsNewPort c.in-Ok.names c.in-Ok-opens_of.opens p.ids) c.in-Ok-shared_ports.ports.items c.pop.new.self.items (Some c.in-Some.port) c.in-Some.ensures.items p.each).1 in
     sym (ap length n.names_are ∙ (ap length c.in-Ok.ensures ∙ (length-map c.as_slice.result.now name_of ∙ ap length c.as_slice.ensures)))
+
+pub returns-clause-asked : goal.returns-clause-asked
+returns-clause-asked g c = record {
+  mid = g.H.House.asked c.open_workers.new.house;
+  sessions = c.in_ok-workers.ensures.asked;
+  players = c.in_ok-http.ensures.asked;
+}

@@ -1,0 +1,5 @@
+pub mod Booking
+pub mod Crossing
+pub mod Slabs
+pub mod Sounding
+pub mod Turning

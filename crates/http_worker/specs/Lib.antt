@@ -1,0 +1,5 @@
+pub mod Benches
+pub mod Players
+pub mod Rounds
+pub mod Running
+pub mod Books

@@ -1,0 +1,129 @@
+//! What a link is told of its player, each thing once, as it changes.
+
+use command_dialog::{Ask, Grant};
+use http_flv::{HttpEnd, HttpTurn, Stage};
+use http_request::Refusal;
+use relay_outside::{Denied, Ending, Link, News};
+use relay_session::Desk;
+use std::cell::Cell;
+
+// The most bytes of a name that are told.
+const TOLD: usize = 64;
+
+// The first bytes of a text.
+#[derive(Clone, Copy)]
+struct Short {
+    bytes: [u8; TOLD],
+    len: usize,
+}
+
+impl Short {
+    fn of(text: &[u8]) -> Short {
+        let mut bytes = [0; TOLD];
+        for (to, from) in bytes.iter_mut().zip(text) {
+            *to = *from;
+        }
+        Short {
+            bytes,
+            len: text.len(),
+        }
+    }
+
+    fn as_slice(&self) -> &[u8] {
+        &self.bytes[..self.len.min(TOLD)]
+    }
+}
+
+/// What a request asks for: the first 64 bytes of the application and of the name.
+#[derive(Clone, Copy)]
+pub struct Request {
+    app: Short,
+    name: Short,
+}
+
+impl Request {
+    fn of(ask: &Ask) -> Request {
+        Request {
+            app: Short::of(ask.app.as_slice()),
+            name: Short::of(ask.name.as_slice()),
+        }
+    }
+}
+
+// A desk that notes what it was asked last.
+pub(crate) struct NotingDesk<'a, G: Desk> {
+    pub(crate) inner: &'a G,
+    pub(crate) noted: Cell<Option<Request>>,
+}
+
+impl<G: Desk> Desk for NotingDesk<'_, G> {
+    ghost grants = { λ d. G.grants d.inner.now };
+
+    fn grant(&self, ask: &Ask) -> Grant {
+        self.noted.set(Some(Request::of(ask)));
+        self.inner.grant(ask)
+    }
+}
+
+// Tells a link what a turn of its player did, which was so far before it and is so far after it, and has asked for this.
+pub(crate) fn told<L: Link>(
+    link: &L,
+    asked: &Option<Request>,
+    before: Stage,
+    after: Stage,
+    answer: HttpTurn,
+) {
+    if let Some(request) = asked {
+        if before != after {
+            tell(link, request, reached(after));
+        }
+    }
+    if let HttpTurn::Ended(end) = answer {
+        let (app, name) = names(asked);
+        let ending = ending(end);
+        link.tell(News::Ended { ending, at: None }, app, name);
+    }
+}
+
+fn tell<L: Link>(link: &L, request: &Request, news: Option<News>) {
+    if let Some(news) = news {
+        link.tell(news, request.app.as_slice(), request.name.as_slice());
+    }
+}
+
+// The names that were asked for, empty where there are none.
+fn names(asked: &Option<Request>) -> (&[u8], &[u8]) {
+    match asked {
+        None => (b"", b""),
+        Some(request) => (request.app.as_slice(), request.name.as_slice()),
+    }
+}
+
+// What is told of a player that has come so far.
+fn reached(stage: Stage) -> Option<News> {
+    match stage {
+        Stage::Reading | Stage::Joining { .. } => None,
+        Stage::Playing { .. } => Some(News::Plays),
+        Stage::Telling { refusal } => Some(News::Denied(denied(refusal)?)),
+    }
+}
+
+// Why it may not play, where it asks for a play.
+fn denied(refusal: Refusal) -> Option<Denied> {
+    match refusal {
+        Refusal::BadRequest | Refusal::MethodNotAllowed => None,
+        Refusal::NotFound => Some(Denied::NoName),
+        Refusal::Forbidden => Some(Denied::WrongKey),
+        Refusal::ServiceUnavailable => Some(Denied::Full),
+    }
+}
+
+fn ending(end: HttpEnd) -> Ending {
+    match end {
+        HttpEnd::PeerClosed | HttpEnd::Closed => Ending::PeerClosed,
+        HttpEnd::LinkFault => Ending::LinkFault,
+        HttpEnd::Answered { code } => Ending::Answered(code),
+        HttpEnd::Worn => Ending::Worn,
+        HttpEnd::OutOfMemory => Ending::OutOfMemory,
+    }
+}
