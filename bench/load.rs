@@ -23,6 +23,7 @@ One publisher sends a broadcast in real time: 25 pictures a second, of which one
 come while it runs. When each has its first unit, and a second later, the measured time begins.
 
   --players N      players that keep up (10; 0 to 250)
+  --http N         as many more, which pull over HTTP (none; 0 to 64)
   --slow PERCENT   one player more, which reads at that share of the broadcast's rate (none; 1 to 99)
   --seconds S      measured time (10; 1 to 3600)
   --mbit M         the broadcast's rate in Mbit/s (4; 0.2 to 20)
@@ -35,6 +36,7 @@ with --serve:
   --workers N      threads of the server (2; 1 to 16)
   --ring BYTES     the window of its stream (2097152; 1048640 to 268435456)
 with --to:
+  --http-at HOST:PORT  where it listens for players over HTTP
   --app A --name B the stream (live, load); B may have a key, as in cam?s3cret
   --pid P[,P..]    the processes of the server, whose processor time is told
 
@@ -55,6 +57,8 @@ struct Words {
     serve: Option<String>,
     to: Option<String>,
     players: usize,
+    http: usize,
+    http_at: Option<String>,
     slow: Option<u64>,
     seconds: u64,
     mbit: f64,
@@ -87,6 +91,8 @@ impl Words {
             serve: None,
             to: None,
             players: 10,
+            http: 0,
+            http_at: None,
             slow: None,
             seconds: 10,
             mbit: 4.0,
@@ -118,6 +124,8 @@ impl Words {
                 "--serve" => words.serve = Some(text),
                 "--to" => words.to = Some(text),
                 "--players" => words.players = number(&word, &text, 0, 250),
+                "--http" => words.http = number(&word, &text, 0, 64),
+                "--http-at" => words.http_at = Some(text),
                 "--slow" => words.slow = Some(number(&word, &text, 1, 99)),
                 "--seconds" => words.seconds = number(&word, &text, 1, 3600),
                 "--mbit" => words.mbit = number(&word, &text, 0.2, 20.0),
@@ -136,12 +144,23 @@ impl Words {
             wrong("one of --serve and --to is needed")
         }
         if words.links() == 1 {
-            wrong("--players 0 needs --slow")
+            wrong("--players 0 needs --slow or --http")
         }
-        if words.ahead.is_some() && (words.players == 0 || words.seconds > 5) {
+        if words.links() > 252 {
+            wrong("there are at most 250 players in all, and a slow one")
+        }
+        if words.to.is_some() && words.http > 0 && words.http_at.is_none() {
+            wrong("--http needs --http-at")
+        }
+        if words.ahead.is_some() && (words.keeping() == 0 || words.seconds > 5) {
             wrong("--ahead needs players, and takes at most 5 s")
         }
         words
+    }
+
+    /// All players that keep up.
+    fn keeping(&self) -> usize {
+        self.players + self.http
     }
 
     /// How many seconds of the broadcast are planned. With --ahead it runs faster than it plays.
@@ -154,7 +173,7 @@ impl Words {
 
     /// All connections: the publisher's and the players'.
     fn links(&self) -> usize {
-        1 + self.players + usize::from(self.slow.is_some())
+        1 + self.keeping() + usize::from(self.slow.is_some())
     }
 
     fn bytes_a_second(&self) -> f64 {
@@ -369,7 +388,7 @@ struct Message<'a> {
 }
 
 /// Reads chunks. Bodies aren't kept, but for their first bytes.
-struct Reader {
+struct ChunkReader {
     size: usize,
     header: Vec<u8>,
     /// The chunk stream whose payload is read, and how many of its bytes are to come.
@@ -383,9 +402,9 @@ const SMALL: usize = 1024;
 /// So many bytes at the end of each piece of a body are compared.
 const LOOK: usize = 16;
 
-impl Reader {
-    fn new(compare: bool) -> Reader {
-        Reader { size: 128, header: Vec::new(), payload: None, ids: Vec::new(), compare }
+impl ChunkReader {
+    fn new(compare: bool) -> ChunkReader {
+        ChunkReader { size: 128, header: Vec::new(), payload: None, ids: Vec::new(), compare }
     }
 
     /// Reads on, and tells each message that is complete.
@@ -412,7 +431,7 @@ impl Reader {
                 if kept.kind == 1 && kept.head.len() >= 4 {
                     self.size = u32::from_be_bytes([kept.head[0] & 0x7F, kept.head[1], kept.head[2], kept.head[3]]).max(1) as usize;
                 }
-                tell(Message { kind: kept.kind, time: kept.time, length: kept.length, head: &kept.head, good: kept.good });
+                tell(kept.message());
                 kept.got = 0;
             }
         }
@@ -482,6 +501,10 @@ impl Reader {
 }
 
 impl Kept {
+    fn message(&self) -> Message<'_> {
+        Message { kind: self.kind, time: self.time, length: self.length, head: &self.head, good: self.good }
+    }
+
     /// Takes a piece of the body: keeps what belongs to its first bytes, and looks at the rest.
     fn take(&mut self, piece: &[u8], filler: &Filler, compare: bool) {
         let media = matches!(self.kind, 8 | 9);
@@ -501,12 +524,109 @@ impl Kept {
     }
 }
 
+/// The parts of an answer over HTTP.
+#[derive(Clone, Copy, PartialEq)]
+enum Part {
+    /// Its head, up to an empty line.
+    Answer,
+    /// What an FLV begins with.
+    Opening,
+    TagHead,
+    Body,
+    /// The length of the tag, behind it.
+    Back,
+}
+
+/// Reads an answer over HTTP whose content is an FLV. Bodies aren't kept, but for their first bytes.
+struct TagReader {
+    part: Part,
+    /// What came of the part in progress, if it is no body.
+    taken: Vec<u8>,
+    tag: Kept,
+    compare: bool,
+}
+
+impl TagReader {
+    fn new(compare: bool) -> TagReader {
+        TagReader { part: Part::Answer, taken: Vec::new(), tag: Kept::default(), compare }
+    }
+
+    /// Reads on, and tells each tag whose body is complete.
+    fn feed(&mut self, mut bytes: &[u8], filler: &Filler, mut tell: impl FnMut(Message)) -> Result<(), String> {
+        while !bytes.is_empty() {
+            let (piece, rest) = bytes.split_at(bytes.len().min(self.lacks()));
+            bytes = rest;
+            if self.part == Part::Body {
+                self.tag.take(piece, filler, self.compare);
+            } else {
+                self.taken.extend(piece);
+            }
+            if self.lacks() > 0 {
+                continue;
+            }
+            if self.part == Part::Body {
+                tell(self.tag.message());
+            }
+            self.part = self.next_part()?;
+        }
+        Ok(())
+    }
+
+    /// How many bytes the part in progress lacks. Of the answer's head that isn't known: one.
+    fn lacks(&self) -> usize {
+        match self.part {
+            Part::Answer => usize::from(!self.taken.ends_with(b"\r\n\r\n")),
+            Part::Opening => 13 - self.taken.len(),
+            Part::TagHead => 11 - self.taken.len(),
+            Part::Body => self.tag.length - self.tag.got,
+            Part::Back => 4 - self.taken.len(),
+        }
+    }
+
+    /// Takes the part that is complete, and tells which follows.
+    fn next_part(&mut self) -> Result<Part, String> {
+        let taken = std::mem::take(&mut self.taken);
+        let number = |bytes: [u8; 4]| u32::from_be_bytes(bytes);
+        match self.part {
+            Part::Answer if taken.starts_with(b"HTTP/1.1 200 OK\r\n") => Ok(Part::Opening),
+            Part::Answer => Err(format!("the server answered {}", String::from_utf8_lossy(&taken).lines().next().unwrap_or_default())),
+            Part::Opening if taken.starts_with(b"FLV\x01") => Ok(Part::TagHead),
+            Part::Opening => Err("what the server answered is no FLV".into()),
+            Part::TagHead => {
+                let length = number([0, taken[1], taken[2], taken[3]]) as usize;
+                let time = number([taken[7], taken[4], taken[5], taken[6]]);
+                self.tag = Kept { kind: taken[0], length, time, good: true, ..Kept::default() };
+                Ok(Part::Body)
+            }
+            Part::Body => Ok(Part::Back),
+            Part::Back if number([taken[0], taken[1], taken[2], taken[3]]) as usize == 11 + self.tag.length => Ok(Part::TagHead),
+            Part::Back => Err("a tag isn't as long as stands behind it".into()),
+        }
+    }
+}
+
+enum Reader {
+    Chunks(ChunkReader),
+    Tags(TagReader),
+}
+
+impl Reader {
+    fn feed(&mut self, bytes: &[u8], filler: &Filler, tell: impl FnMut(Message)) -> Result<(), String> {
+        match self {
+            Reader::Chunks(reader) => reader.feed(bytes, filler, tell),
+            Reader::Tags(reader) => reader.feed(bytes, filler, tell),
+        }
+    }
+}
+
 // ------------------------------------------------------------------------------------------------------------------ the run
 
 /// What all threads know of one run.
 struct Run {
     words: Words,
     address: SocketAddr,
+    /// Where players over HTTP come.
+    http: SocketAddr,
     units: Vec<Unit>,
     filler: Filler,
     birth: Instant,
@@ -551,6 +671,7 @@ impl Run {
 enum Role {
     Publishes,
     Plays,
+    PlaysOverHttp,
 }
 
 #[derive(Clone, Copy, PartialEq)]
@@ -559,6 +680,20 @@ enum Stage {
     Asks,
     Runs,
     Over,
+}
+
+/// What a link of RTMP begins with.
+fn greeting(run: &Run) -> Vec<u8> {
+    let mut hello = vec![3, 0, 0, 0, 0, 0, 0, 0, 0];
+    hello.extend(run.filler.of(0, 0, 1528));
+    hello
+}
+
+/// What a player over HTTP asks.
+fn request(run: &Run) -> Vec<u8> {
+    let name = &run.words.name;
+    let (name, key) = name.split_at(name.find('?').unwrap_or(name.len()));
+    format!("GET /{}/{name}.flv{key} HTTP/1.1\r\nHost: {}\r\nUser-Agent: load\r\nAccept: */*\r\n\r\n", run.words.app, run.http).into_bytes()
 }
 
 /// One connection, and how far its dialogue is.
@@ -580,21 +715,23 @@ impl Peer {
     const SHAKE: usize = 1 + 2 * 1536;
 
     fn new(run: &Run, role: Role) -> Result<Peer, String> {
-        let link = TcpStream::connect(run.address).map_err(|e| format!("{}: {e}", run.address))?;
+        let (address, stage, reader, hello) = match role {
+            Role::PlaysOverHttp => (run.http, Stage::Runs, Reader::Tags(TagReader::new(run.words.compare)), request(run)),
+            _ => (run.address, Stage::Shakes, Reader::Chunks(ChunkReader::new(run.words.compare)), greeting(run)),
+        };
+        let link = TcpStream::connect(address).map_err(|e| format!("{address}: {e}"))?;
         link.set_nodelay(true).and_then(|_| link.set_nonblocking(true)).map_err(|e| e.to_string())?;
         let peer = Peer {
             link,
             role,
-            stage: Stage::Shakes,
+            stage,
             shake: Vec::new(),
-            reader: Reader::new(run.words.compare),
+            reader,
             stream: 0,
             received: 0,
             acknowledged: 0,
             window: 2_500_000,
         };
-        let mut hello = vec![3, 0, 0, 0, 0, 0, 0, 0, 0];
-        hello.extend(run.filler.of(0, 0, 1528));
         peer.send(&hello)?;
         Ok(peer)
     }
@@ -650,7 +787,7 @@ impl Peer {
         };
         let now = run.clock();
         self.received += came as u64;
-        if self.received - self.acknowledged >= self.window / 2 {
+        if self.role != Role::PlaysOverHttp && self.received - self.acknowledged >= self.window / 2 {
             self.acknowledged = self.received;
             self.control(3, &(self.received as u32).to_be_bytes())?;
         }
@@ -731,7 +868,7 @@ impl Peer {
             let id = self.stream;
             match self.role {
                 Role::Publishes => self.command(id, &[text("publish"), real(3.0), vec![NULL], text(name), text("live")], chunk),
-                Role::Plays => self.command(id, &[text("play"), real(3.0), vec![NULL], text(name), real(-2000.0)], chunk),
+                _ => self.command(id, &[text("play"), real(3.0), vec![NULL], text(name), real(-2000.0)], chunk),
             }
         } else {
             Ok(())
@@ -876,10 +1013,26 @@ impl Sight {
     }
 }
 
-/// Players that keep up: the one with the number `first` and each `threads` further, `count` in all. They come one after the other,
+/// Players that keep up and come in one way, so many in all. The first of them has the number `base` among all that keep up.
+#[derive(Clone, Copy)]
+struct Group {
+    role: Role,
+    base: usize,
+    all: usize,
+}
+
+impl Group {
+    /// How many threads are to have its players, and how many players each of these has.
+    fn shares(self, threads: usize) -> (usize, impl Iterator<Item = usize>) {
+        let threads = threads.min(self.all).max(1);
+        (threads, (0..threads).map(move |i| self.all / threads + usize::from(i < self.all % threads)))
+    }
+}
+
+/// Players of a group: the one with the number `first` in it and each `threads` further, `count` in all. They come one after the other,
 /// and read what there is.
-fn play(run: &Run, first: usize, threads: usize, count: usize) -> Result<Vec<Sight>, String> {
-    let between = Duration::from_millis(1000) / run.words.players.max(1) as u32;
+fn play(run: &Run, group: Group, first: usize, threads: usize, count: usize) -> Result<Vec<Sight>, String> {
+    let between = Duration::from_millis(1000) / group.all.max(1) as u32;
     let (delay, apart) = (between * first as u32, between * threads as u32);
     let begun = Instant::now();
     let mut peers: Vec<Peer> = Vec::new();
@@ -887,7 +1040,7 @@ fn play(run: &Run, first: usize, threads: usize, count: usize) -> Result<Vec<Sig
     let mut room = vec![0; 256 * 1024];
     while !run.players_end.load(Relaxed) && (peers.len() < count || peers.iter().any(|peer| peer.stage != Stage::Over)) {
         if peers.len() < count && begun.elapsed() >= delay + apart * peers.len() as u32 {
-            peers.push(Peer::new(run, Role::Plays)?);
+            peers.push(Peer::new(run, group.role)?);
             sights.push(Sight::default());
         }
         let mut watches: Vec<Watch> = peers.iter().map(|peer| Watch { fd: peer.watched(), events: IN, found: 0 }).collect();
@@ -896,7 +1049,7 @@ fn play(run: &Run, first: usize, threads: usize, count: usize) -> Result<Vec<Sig
             let came = peers[i].read(run, &mut room, &mut sights[i])?;
             run.delivered.fetch_add(came as u64, Relaxed);
             if let Some(next) = sights[i].next {
-                run.nexts[first + i * threads].store(next, Relaxed);
+                run.nexts[group.base + first + i * threads].store(next, Relaxed);
             }
         }
     }
@@ -1000,13 +1153,15 @@ struct Server {
 }
 
 impl Server {
-    fn start(path: &str, words: &Words) -> Result<(Server, SocketAddr), String> {
+    /// The server, and where it listens: for RTMP, and for HTTP where players come so.
+    fn start(path: &str, words: &Words) -> Result<(Server, Vec<SocketAddr>), String> {
         let folder = std::env::temp_dir().join(format!("relay-load-{}", std::process::id()));
         fs::create_dir_all(&folder).map_err(|e| e.to_string())?;
         let config = folder.join("relay.toml");
         let relay = format!(
-            "[relay]\nlisten = \"127.0.0.1:0\"\nworkers = {}\nlinks = 64\naccept = {}\nmax_message = 1048576\nring_bytes = {}\nplayers = {}\n",
-            words.workers.max(words.links().div_ceil(64)),
+            "[relay]\nlisten = \"127.0.0.1:0\"\n{}workers = {}\nlinks = 64\naccept = {}\nmax_message = 1048576\nring_bytes = {}\nplayers = {}\n",
+            if words.http > 0 { "http = \"127.0.0.2:0\"\n" } else { "" },
+            words.workers.max((words.links() - words.http).div_ceil(64)),
             words.links(),
             words.ring,
             words.links().max(4),
@@ -1022,13 +1177,16 @@ impl Server {
             .map_err(|e| format!("{path}: {e}"))?;
         let mut said = BufReader::new(child.stderr.take().unwrap()).lines();
         let server = Server { child, folder };
+        let mut addresses = Vec::new();
         for line in said.by_ref().map_while(Result::ok) {
-            if let Some(address) = line.strip_prefix("relay: listens on ") {
-                let address = address.trim().parse().map_err(|_| format!("{address} is no address"))?;
-                thread::spawn(move || said.map_while(Result::ok).for_each(|line| eprintln!("{line}")));
-                return Ok((server, address));
+            match line.strip_prefix("relay: listens on ") {
+                Some(address) => addresses.push(address.trim().parse().map_err(|_| format!("{address} is no address"))?),
+                None => eprintln!("{line}"),
             }
-            eprintln!("{line}");
+            if addresses.len() == 1 + usize::from(words.http > 0) {
+                thread::spawn(move || said.map_while(Result::ok).for_each(|line| eprintln!("{line}")));
+                return Ok((server, addresses));
+            }
         }
         Err("the server ended before it listened".into())
     }
@@ -1103,9 +1261,23 @@ fn percentile(sorted: &[u32], share: f64) -> f64 {
     sorted.get(place.saturating_sub(1)).map_or(f64::NAN, |&micro| micro as f64 / 1000.0)
 }
 
+/// How long units were under way to these.
+fn ways_of(sights: &[Sight]) -> String {
+    let mut ways: Vec<u32> = sights.iter().flat_map(|sight| sight.ways.iter().copied()).collect();
+    ways.sort_unstable();
+    format!(
+        "median {:.2} ms, 99th percentile {:.2} ms, greatest {:.2} ms, of {}",
+        percentile(&ways, 0.5),
+        percentile(&ways, 0.99),
+        percentile(&ways, 1.0),
+        ways.len()
+    )
+}
+
 struct Seen {
     measured: Measured,
     published: Published,
+    /// Of those over RTMP, and then of those over HTTP.
     keeping: Vec<Sight>,
     slow: Option<(Sight, u64)>,
 }
@@ -1121,11 +1293,15 @@ fn run_load(run: &Arc<Run>, pids: &[u32]) -> Result<Seen, String> {
     let words = &run.words;
     let publisher = start(run, publish);
     until(run, 10, "nothing was published", || run.published.load(Relaxed) > 0)?;
-    let threads = words.threads.min(words.players).max(1);
-    let players: Vec<_> = (0..threads)
-        .map(|i| {
-            let count = words.players / threads + usize::from(i < words.players % threads);
-            start(run, move |run| play(run, i, threads, count))
+    let groups = [
+        Group { role: Role::Plays, base: 0, all: words.players },
+        Group { role: Role::PlaysOverHttp, base: words.players, all: words.http },
+    ];
+    let players: Vec<_> = groups
+        .iter()
+        .flat_map(|&group| {
+            let (threads, shares) = group.shares(words.threads);
+            shares.enumerate().map(move |(i, count)| start(run, move |run| play(run, group, i, threads, count)))
         })
         .collect();
     let slow = words.slow.map(|percent| start(run, move |run| play_slowly(run, percent)));
@@ -1162,8 +1338,9 @@ fn run_load(run: &Arc<Run>, pids: &[u32]) -> Result<Seen, String> {
 fn report(seen: &Seen, words: &Words, load: &str) -> bool {
     let Seen { measured, published, keeping, slow } = seen;
     println!(
-        "{} players{}, {} Mbit/s, {:.1} s; load of the machine {load} before, {} after",
-        words.players,
+        "{} players{}{}, {} Mbit/s, {:.1} s; load of the machine {load} before, {} after",
+        words.keeping(),
+        if words.http > 0 { format!(", {} of them over HTTP,", words.http) } else { String::new() },
         words.slow.map_or(String::new(), |percent| format!(" beside one that reads {percent} %")),
         words.mbit,
         measured.seconds,
@@ -1178,15 +1355,11 @@ fn report(seen: &Seen, words: &Words, load: &str) -> bool {
         sum(|s| s.missing),
         Sight::faults(keeping.iter())
     );
-    let mut ways: Vec<u32> = keeping.iter().flat_map(|sight| sight.ways.iter().copied()).collect();
-    ways.sort_unstable();
-    println!(
-        "under way: median {:.2} ms, 99th percentile {:.2} ms, greatest {:.2} ms, of {}",
-        percentile(&ways, 0.5),
-        percentile(&ways, 0.99),
-        percentile(&ways, 1.0),
-        ways.len()
-    );
+    println!("under way: {}", ways_of(keeping));
+    if words.players > 0 && words.http > 0 {
+        println!("over RTMP: {}", ways_of(&keeping[..words.players]));
+        println!("over HTTP: {}", ways_of(&keeping[words.players..]));
+    }
     if let Some(server) = measured.server {
         println!(
             "server: {server:.3} s of processor time ({:.2} % of one processor), {:.2} s a delivered GB, at most {:.1} MB of memory",
@@ -1218,20 +1391,24 @@ fn main() {
     };
     let mut server = None;
     let mut pids = words.pids.clone();
-    let address = match (&words.serve, &words.to) {
+    let addresses: Vec<SocketAddr> = match (&words.serve, &words.to) {
         (Some(path), _) => {
-            let (started, address) = Server::start(path, &words).unwrap_or_else(|fault| nothing(fault));
+            let (started, addresses) = Server::start(path, &words).unwrap_or_else(|fault| nothing(fault));
             pids = vec![started.child.id()];
             server = Some(started);
-            address
+            addresses
         }
-        (_, to) => to.as_ref().unwrap().parse().unwrap_or_else(|_| wrong("--to wants an IP address and a port")),
+        (_, to) => {
+            let parsed = |text: &String| text.parse().unwrap_or_else(|_| wrong("--to and --http-at want an IP address and a port"));
+            to.iter().chain(&words.http_at).map(parsed).collect()
+        }
     };
     let run = Arc::new(Run {
         units: plan(words.planned(), words.bytes_a_second()),
-        nexts: (0..words.players).map(|_| AtomicU64::new(0)).collect(),
+        nexts: (0..words.keeping()).map(|_| AtomicU64::new(0)).collect(),
         words,
-        address,
+        address: addresses[0],
+        http: addresses[addresses.len() - 1],
         filler: Filler::new(),
         birth: Instant::now(),
         from: AtomicU64::new(u64::MAX),
