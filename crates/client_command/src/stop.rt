@@ -4,6 +4,7 @@ ghost use Rattle.client_command.specs.declared.stop.Stop.TheVariants.{Memory};
 
 use av_unit::OutOfMemory;
 use flv_tags::FlvFail;
+use thiserror::Error;
 
 /// What a step of a command did.
 #[derive(Clone, Copy, Debug, Drop, PartialEq, Eq)]
@@ -17,17 +18,22 @@ pub(crate) enum Step {
 }
 
 /// Why a command ends before.
-#[derive(Clone, Copy, Debug, Drop, PartialEq, Eq)]
+#[derive(Clone, Copy, Debug, Drop, PartialEq, Eq, Error)]
 pub enum Stop {
     /// The client has ended.
+    #[error("the client has ended")]
     Client,
     /// The film is refused at that byte.
+    #[error("the film is refused, at byte {at}")]
     Refused { at: u64 },
     /// The film's source failed.
+    #[error("the film failed")]
     Source,
     /// The sink failed.
+    #[error("the output failed")]
     Sink,
     /// Memory was refused.
+    #[error("out of memory")]
     Memory,
 }
 

@@ -4,6 +4,7 @@ ghost use Rattle.command_dialog.specs.declared.types.DialogFail.TheVariants.{Out
 use crate::lists::{App, MessageList};
 use av_unit::{Bytes, OutOfMemory, Unit, Want};
 use std::alloc::AllocFailed;
+use thiserror::Error;
 
 /// What a peer does on one of its message streams.
 #[derive(Clone, Copy, Debug, PartialEq, Eq)]
@@ -104,12 +105,15 @@ pub enum Meant {
 }
 
 /// Why a message ends the dialogue.
-#[derive(Clone, Copy, Debug, PartialEq, Eq)]
+#[derive(Clone, Copy, Debug, PartialEq, Eq, Error)]
 pub enum DialogFail {
     /// A command body that is no command, and the place in it.
+    #[error("a command message that is no command, at byte {at} of it")]
     BadCommand { at: usize },
     /// A createStream while 16 message streams are open.
+    #[error("too many message streams")]
     TooManyStreams,
+    #[error("out of memory")]
     OutOfMemory,
 }
 

@@ -2,6 +2,7 @@ ghost use Rattle.std.specs.Prelude.{◌≡◌};
 ghost use Rattle.hls_segments.specs.declared.cut.CutFail.TheVariants.{OutOfMemory as Memory};
 
 use av_unit::OutOfMemory;
+use thiserror::Error;
 
 /// What an item did to the segments of those before it.
 #[derive(Clone, Copy, Debug, Drop, PartialEq, Eq)]
@@ -17,11 +18,13 @@ pub enum Cut {
 }
 
 /// Why an item isn't cut.
-#[derive(Clone, Copy, Debug, Drop, PartialEq, Eq)]
+#[derive(Clone, Copy, Debug, Drop, PartialEq, Eq, Error)]
 pub enum CutFail {
     /// It would begin a segment more than 100,000.
+    #[error("more than 100,000 segments")]
     TooMany,
     /// Memory was refused.
+    #[error("out of memory")]
     OutOfMemory,
 }
 

@@ -1,16 +1,24 @@
+use thiserror::Error;
+
 /// Why a player ends.
-#[derive(Clone, Copy, Debug, PartialEq, Eq)]
+#[derive(Clone, Copy, Debug, PartialEq, Eq, Error)]
 pub enum HttpEnd {
     /// The peer has closed the link.
+    #[error("the peer closed the link")]
     PeerClosed,
     /// The link failed.
+    #[error("the link failed")]
     LinkFault,
     /// It was told no, by a text of this status code that was sent whole.
+    #[error("it was told {code}")]
     Answered { code: u16 },
     /// The stream has had as many calls as it can count.
+    #[error("the stream has had as many calls as can be counted")]
     Worn,
     /// Want of memory.
+    #[error("out of memory")]
     OutOfMemory,
     /// It was closed before it had ended.
+    #[error("it was closed")]
     Closed,
 }

@@ -1,9 +1,9 @@
 -- What is known of a configuration that is accepted
-use Rattle.std.proofs.Common.{subst, ◌≡◌, ℕ, zero, suc, ◌+◌, ◌<◌, ◌≤◌, Bool, true, false, not, cond, ◌&&◌, ◌||◌, ◌==◌, nat_le, nat_lt, List, [], ◌∷◌}
+use Rattle.std.proofs.Common.{subst, ◌≡◌, ◌≢◌, ℕ, zero, suc, ◌+◌, ◌<◌, ◌≤◌, Bool, true, false, not, cond, ◌&&◌, ◌||◌, ◌==◌, nat_eq, nat_le, nat_lt, List, [], ◌∷◌}
 use Rattle.std.proofs.Common.{length, take, map, refl, ap, ◌∙◌, sym, Option, Some, None, option_map, is_none, arith, inl, inr}
 use Rattle.std.specs.Option.{unwrap_or, option_and_then, option_map_or, option_or}
 use Rattle.std.specs.List.{AllPass, find, list_any, list_all, range_with_len, slice_get}
-use Rattle.std.specs.Cmp.Lexicographic.{bytes_decides}
+use Rattle.std.specs.Cmp.Lexicographic.{bytes_decides, pointwise}
 use Rattle.std.proofs.lemmas.Bool.{cases_order, cases_Bool}
 use Rattle.std.proofs.lemmas.Bool.Decides.{nat_tests}
 use Rattle.std.proofs.lemmas.List.Sums.{AllPass-from_list_all}
@@ -169,10 +169,19 @@ unless : (b : Bool) (e : ConfigFail) → when b e ≡ None → b ≡ false
 unless true e h = absurd (cc)
 unless false e h = refl
 
+apart_from : (listen : List ℕ) (http : Option (List ℕ)) → option_map_or (pointwise nat_eq listen) http false ≡ false → (at : List ℕ)
+    → http ≡ Some at → listen ≢ at
+apart_from listen http free at is = λ same.
+    let P : Option (List ℕ) → Type 0 = λ o. option_map_or (pointwise nat_eq listen) o false ≡ false in
+    let other : pointwise nat_eq listen at ≡ false = subst P is free in
+    let one : pointwise nat_eq listen at ≡ true = (bytes_decides listen at).1 same in
+    absurd (cc)
+
 pub lawful : (config : Config) (streams tables : List Data) → config.places ≡ map place_of streams → config.opens ≡ map open_of tables
     → tables_refusal stream_rows streams ≡ None → tables_refusal open_rows tables ≡ None → InRange config → whole_refusal config ≡ None → Lawful config
 lawful config streams tables is opens_are read opens_read numbers whole =
-    let (some, rest) = none_of _ _ whole in
+    let (own, rest0) = none_of _ _ whole in
+    let (some, rest) = none_of _ _ rest0 in
     let (few, rest2) = none_of _ _ rest in
     let (room, rest3) = none_of _ _ rest2 in
     let (once, rest4) = none_of _ _ rest3 in
@@ -183,6 +192,7 @@ lawful config streams tables is opens_are read opens_read numbers whole =
     let c : nat_lt 6442450944 (configured_sum config) ≡ false = unless _ (fail.TooMuch (configured_sum config)) small in
     record {
       numbers = numbers;
+      apart = apart_from config.listen config.http (unless _ (fail.Range key.Http) own);
       some = grind (arith, nat_tests, a);
       few = grind (arith, nat_tests, b);
       names = AllPass-from_list_all has_names config.places (rw is (all_named streams read));

@@ -1,5 +1,5 @@
 -- Which texts are accepted as which configuration, and what is answered to the others
-use Rattle.std.specs.Prelude.{◌≡◌, ℕ, ◌+◌, ◌≤◌, Bool, ◌&&◌, nat_le, if◌then◌else◌, List, length, Option, Some, None, option_map}
+use Rattle.std.specs.Prelude.{◌≡◌, ◌≢◌, ℕ, ◌+◌, ◌≤◌, Bool, ◌&&◌, nat_le, if◌then◌else◌, List, length, Option, Some, None, option_map}
 use Rattle.std.specs.Option.{option_map_or}
 use Rattle.std.specs.List.{AllPass, slice_get}
 use Rattle.std.specs.Str.{is_utf8}
@@ -36,12 +36,13 @@ has_names p = is_name p.app && is_name p.name
 abbrev pub has_room : OpenRule → Bool
 has_room o = is_name o.app && is_within 1 64 o.names
 
--- what is known of a configuration that is accepted: its numbers are in their ranges; it has a stream or an open table, each as
--- above, and at most 64 streams and names together; no two streams have the same names, no two open tables the same app; and
--- the sum is within the bound
+-- what is known of a configuration that is accepted: its numbers are in their ranges; its HTTP players have an address of their own;
+-- it has a stream or an open table, each as above, and at most 64 streams and names together; no two streams have the same names, no
+-- two open tables the same app; and the sum is within the bound
 
 pub record Lawful (config : Config) : Type 0 where
   pub numbers : InRange config
+  pub apart : (at : List ℕ) → config.http ≡ Some at → config.listen ≢ at
   pub some : 1 ≤ length config.places + length config.opens
   pub few : length config.places + names_of config.opens ≤ 64
   pub names : AllPass has_names config.places

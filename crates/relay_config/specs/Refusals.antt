@@ -105,7 +105,7 @@ table_refusal rows d = first_of (
     ∷ option_map fail.Range (first_key (is_outside d) rows)
     ∷ [])
 
--- ---- the tests of the streams and open tables together
+-- ---- the tests of the whole: of both addresses, and of the streams and open tables together
 
 abbrev pub same_names : PlaceRule → PlaceRule → Bool
 same_names p q = pointwise nat_eq p.app q.app && pointwise nat_eq p.name q.name
@@ -126,12 +126,17 @@ twice_in same xs = find (repeats same xs) (range_with_len 0 (length xs))
 abbrev pub twice_of : Config → Option ℕ
 twice_of config = option_or (twice_in same_names config.places) (option_map (λ i. length config.places + i) (twice_in same_app config.opens))
 
+-- whether the players that speak HTTP are to come to the address of all others
+abbrev pub is_taken : Config → Bool
+is_taken config = option_map_or (pointwise nat_eq config.listen) config.http false
+
 abbrev pub when : Bool → ConfigFail → Option ConfigFail
 when b e = if b then Some e else None
 
 abbrev pub whole_refusal : Config → Option ConfigFail
 whole_refusal config = first_of (
-    when (length config.places + length config.opens == 0) (fail.Missing key.Stream)
+    when (is_taken config) (fail.Range key.Http)
+    ∷ when (length config.places + length config.opens == 0) (fail.Missing key.Stream)
     ∷ when (nat_lt 64 (length config.places)) (fail.Range key.Stream)
     ∷ when (nat_lt 64 (length config.places + names_of config.opens)) (fail.Range key.Names)
     ∷ option_map fail.Twice (twice_of config)

@@ -2,13 +2,14 @@ use crate::Key;
 use av_unit::{Bytes, Listed, OutOfMemory};
 use key_guard::{Grants, Mode};
 use relay_base::Limits;
+use thiserror::Error;
 
 /// What a relay is told.
 #[derive(Debug, Drop)]
 pub struct Config {
     /// The address at which it listens, as it was written.
     pub listen: Bytes,
-    /// The address at which it listens for players that speak HTTP, as it was written.
+    /// The address at which it listens for players that speak HTTP, as it was written: another text than `listen`.
     pub http: Option<Bytes>,
     /// How many workers serve the links of `listen`; one more serves those of `http`.
     pub workers: u32,
@@ -58,21 +59,28 @@ pub struct OpenRule {
 pub type OpenRules = Listed<OpenRule>;
 
 /// Why a configuration is refused: the first test that it fails.
-#[derive(Debug, PartialEq, Eq, Drop)]
+#[derive(Debug, PartialEq, Eq, Drop, Error)]
 pub enum ConfigFail {
     /// The text is too long, isn't UTF-8, or is no TOML.
+    #[error("it is no TOML")]
     NotToml,
     /// A table has a key that it may not have.
+    #[error("a key that its table may not have")]
     Unknown { key: Bytes },
     /// A table lacks a key, or there is neither a stream nor an open table.
+    #[error("{} isn't there", .key.name())]
     Missing { key: Key },
-    /// A value has a wrong form or is out of its range, or there are too many streams or names.
+    /// A value has a wrong form or is out of its range, there are too many streams or names, or `http` is the text of `listen`.
+    #[error("{} is out of its range", .key.name())]
     Range { key: Key },
     /// The stream at this place has the names of an earlier one, or the open table the application of an earlier one.
+    #[error("table {place} has the names of an earlier one")]
     Twice { place: u32 },
     /// The configured sum passes the bound.
+    #[error("it allows {sum} bytes, which are too many")]
     TooMuch { sum: u64 },
     /// Memory was refused.
+    #[error("out of memory")]
     OutOfMemory,
 }
 

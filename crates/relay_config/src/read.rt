@@ -76,8 +76,9 @@ fn read_whole(alloc: Global, whole: &Value) -> Result<Config, ConfigFail>
 ///
 /// It is Ok exactly where the text is accepted, with its values and defaults. Else it is the first test that the
 /// text fails: `NotToml`; for the whole, the table `relay`, each stream and each open table in order, `Unknown`, then
-/// `Missing`, then `Range` of the first such key; for the streams and open tables together `Missing`, `Range` of the
-/// streams and of the names, `Twice` and `TooMuch`. `OutOfMemory` may come in place of any of these.
+/// `Missing`, then `Range` of the first such key; `Range` of `http` where it is the text of `listen`; for the streams and open
+/// tables together `Missing`, `Range` of the streams and of the names, `Twice` and `TooMuch`. `OutOfMemory` may come in place of
+/// any of these.
 pub fn read_config(alloc: Global, bytes: &[u8]) -> Result<Config, ConfigFail>
     ensures ok { IfOk result (Accepts bytes.now) }
     ensures refused { IfErr result (λ e. (e ≡ ConfigFail.OutOfMemory) ⊎ (refusal bytes.now ≡ Some e)) }

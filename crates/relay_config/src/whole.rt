@@ -2,7 +2,7 @@ ghost use Rattle.std.specs.Prelude.{◌≡◌, ◌≤◌, ◌<◌, ◌+◌, Bool
 ghost use Rattle.std.specs.List.{list_any, AllPass};
 ghost use Rattle.relay_config.specs.Sum.{InRange, names_of};
 ghost use Rattle.relay_config.specs.Accepts.{has_room};
-ghost use Rattle.relay_config.specs.Refusals.{Tells, repeats, twice_in, twice_of, whole_refusal};
+ghost use Rattle.relay_config.specs.Refusals.{Tells, is_taken, repeats, twice_in, twice_of, whole_refusal};
 
 use crate::{Config, ConfigFail, Key, OpenRule, PlaceRule, sum};
 
@@ -96,12 +96,25 @@ fn fit(opens: &[OpenRule], room: u32) -> bool
     true
 }
 
-/// The tests of the streams and open tables together and of the sum.
+// Whether the HTTP players are to come to the address of all others.
+fn is_taken(config: &Config) -> bool
+    ensures { result ≡ is_taken config.now }
+{
+    match &config.http {
+        Some(at) => config.listen == *at,
+        None => false,
+    }
+}
+
+/// The tests of both addresses, of the streams and open tables together and of the sum.
 pub(crate) fn check_whole(config: &Config) -> Result<(), ConfigFail>
     requires numbers { InRange config.now }
     requires rooms { AllPass has_room config.now.opens }
     ensures tells { Tells result (whole_refusal config.now) }
 {
+    if is_taken(config) {
+        return Err(ConfigFail::Range { key: Key::Http });
+    }
     let places = config.places.as_slice();
     let opens = config.opens.as_slice();
     if places.is_empty() && opens.is_empty() {

@@ -28,29 +28,13 @@ pub enum End {
     OutOfMemory,
 }
 
-// Why a byte of a chunk was refused.
-fn put_cause<W: fmt::Write>(f: &mut fmt::Formatter<W>, cause: ReadCause) -> fmt::Result {
-    match cause {
-        ReadCause::NoHead { id } => write!(f, "chunk stream {id} begins without a full header"),
-        ReadCause::TooManyIds => f.write_str("too many chunk streams"),
-        ReadCause::TooLong { length } => write!(f, "a message of {length} bytes is too long"),
-        ReadCause::TooMuch => f.write_str("the messages in progress are too long together"),
-        ReadCause::BadChunkSize { value } => write!(f, "no chunk has a size of {value}"),
-        ReadCause::OutOfMemory => f.write_str("out of memory"),
-        ReadCause::TooFar => f.write_str("more bytes than can be counted"),
-    }
-}
-
 impl fmt::Display for End {
     fn fmt<W: fmt::Write>(&self, f: &mut fmt::Formatter<W>) -> fmt::Result {
         match *self {
             End::PeerClosed => f.write_str("the peer closed the link"),
             End::LinkFault => f.write_str("the link failed"),
             End::BadVersion { at } => write!(f, "another version of RTMP than 3, at byte {at}"),
-            End::BadChunk { cause, at } => {
-                put_cause(f, cause)?;
-                write!(f, ", at byte {at}")
-            }
+            End::BadChunk { cause, at } => write!(f, "{cause}, at byte {at}"),
             End::BadControl { at } => write!(
                 f,
                 "a control message that is too short, at byte {at}"

@@ -10,6 +10,7 @@ ghost use Rattle.rtmp_command.specs.Commands.{parts_of, parts_behind, seen, tran
 use amf0_value::{Amf, AmfFail, AmfList, decode_all};
 use av_unit::Bytes;
 use std::alloc::Global;
+use thiserror::Error;
 
 /// What a peer asks (RTMP 1.0, section 7.2): a name, the transaction by which it knows the answer,
 /// and arguments.
@@ -23,11 +24,13 @@ pub struct Command {
 }
 
 /// Why a body is no command.
-#[derive(Clone, Copy, Debug, PartialEq, Eq)]
+#[derive(Clone, Copy, Debug, PartialEq, Eq, Error)]
 pub enum CommandFail {
     /// The place is the one at which `decode_all` refuses the body, or 0 where its first value is no
     /// text.
+    #[error("no command, at byte {at}")]
     BadCommand { at: usize },
+    #[error("out of memory")]
     OutOfMemory,
 }
 

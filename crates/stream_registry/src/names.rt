@@ -7,6 +7,7 @@ use std::alloc::Global;
 use std::marker::Model;
 use stream_core::ShortName;
 use stream_model::is_name;
+use thiserror::Error;
 
 /// The name of a stream: that of its application, and its own.
 #[derive(Debug, Drop)]
@@ -45,7 +46,8 @@ impl OpenName {
 }
 
 /// No place has a stream of that name, nor does an open table take it.
-#[derive(Clone, Copy, Debug, PartialEq, Eq)]
+#[derive(Clone, Copy, Debug, PartialEq, Eq, Error)]
+#[error("no stream has that name, and no open table takes it")]
 pub struct NotFound;
 
 /// The names of the streams at each place.

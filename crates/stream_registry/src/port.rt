@@ -13,15 +13,19 @@ ghost use Rattle.stream_model.specs.declared.calls.Entry.{Entry};
 
 use crate::names::NotFound;
 use stream_core::{Entry, Reply};
+use thiserror::Error;
 
 /// Why a call wasn't made. The entry comes back.
-#[derive(Debug, Drop)]
+#[derive(Debug, Drop, Error)]
 pub enum PortFail {
     /// Another pass held the turn.
+    #[error("another call was under way")]
     Busy(Entry),
     /// The history is full.
+    #[error("the history is full")]
     Worn(Entry),
     /// There was no memory for the call, which changed nothing.
+    #[error("out of memory")]
     OutOfMemory(Entry),
 }
 

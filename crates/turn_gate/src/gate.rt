@@ -11,6 +11,8 @@ use crate::serve::serve;
 use crate::view::{Kept, View};
 use atomic_table::{Refused, Table};
 use std::alloc::{AllocError, Global};
+use std::error::Error;
+use std::fmt;
 use std::marker::Model;
 
 /// Why a call wasn't made. The call comes back.
@@ -21,6 +23,17 @@ pub enum CallFail<C> {
     /// The history has 2^62 calls, and takes no more.
     Worn(C),
 }
+
+impl<C> fmt::Display for CallFail<C> {
+    fn fmt<W: fmt::Write>(&self, f: &mut fmt::Formatter<W>) -> fmt::Result {
+        f.write_str(match self {
+            CallFail::Busy(_) => "another call was under way",
+            CallFail::Worn(_) => "the history is full",
+        })
+    }
+}
+
+impl<C: fmt::Debug + Drop> Error for CallFail<C> {}
 
 /// A machine that threads share. Each of them calls it through a pass of its own.
 #[derive(Drop)]
