@@ -1,5 +1,10 @@
-//! Tests of one stream and of the ports to it, with threads.
+//! Tests of one stream and of the ports to it, with threads, and the law that a pass belongs to one place.
 #![tactic(auto)]
+
+ghost use Rattle.std.specs.Prelude.{◌≡◌, ℕ, List, slice_get, Some};
+ghost use Rattle.turn_gate.specs.Known.{GateId};
+ghost use Rattle.stream_registry.specs.declared.desk.Site.{Site};
+ghost use Rattle.stream_registry.specs.Sites.{AreApart};
 
 #[cfg(test)]
 mod cursor;
@@ -10,4 +15,13 @@ mod ports;
 #[cfg(test)]
 mod ring;
 #[cfg(test)]
+mod shared;
+#[cfg(test)]
 mod streams;
+
+/// A pass belongs to one place. Where no two places have the same gate, as `shared_ports` makes them, a gate stands at one
+/// place alone.
+pub fn one_place_law()
+    ensures { (ids : List (GateId Site)) → AreApart ids → (p q : ℕ) (g : GateId Site) → slice_get ids p ≡ Some g → slice_get ids q ≡ Some g
+        → p ≡ q }
+{}

@@ -1,0 +1,58 @@
+//! Sessions that are turned as often as they need, and tests of whole sessions, over ports that threads share.
+#![tactic(auto)]
+
+ghost use Rattle.std.specs.Prelude.{◌≡◌, ◌≤◌};
+ghost use Rattle.std.specs.Option.{IfSome};
+ghost use Rattle.relay_session.specs.Places.{AskedAlone, IsAt, IsOffered};
+ghost use Rattle.relay_session.specs.SessionState.{StandsFor};
+ghost use Rattle.stream_registry.specs.Names.{places};
+ghost use Rattle.session_tests.specs.Often.{Often, moved_by};
+
+use relay_outside::Link;
+use relay_session::{Desk, Session, Turn};
+use std::alloc::Global;
+use stream_registry::StreamPort;
+
+#[cfg(test)]
+mod seats;
+#[cfg(test)]
+mod tests;
+
+// How often a turn of that answer moved something; none goes on after one that ended.
+fn moved_by(answer: Turn) -> Option<u64>
+    ensures value { result ≡ moved_by answer }
+    ensures once { IfSome result (λ n. n ≤ 1) }
+{
+    match answer {
+        Turn::Moved => Some(1),
+        Turn::Idle => Some(0),
+        Turn::Ended(_) => None,
+    }
+}
+
+/// Turns a session until it ends, or so often, and answers how often it moved something. It never waits.
+pub fn turn_often<P: StreamPort, D: Desk, L: Link>(
+    session: &mut Session<P>,
+    alloc: Global,
+    port: &mut P,
+    link: &mut L,
+    desk: &D,
+    most: u64,
+) -> u64
+    requires at { IsAt (P.fits port.old) (places (P.rules port.old)) session.old.parts session.old.seat }
+    requires offered { IsOffered (D.grants desk.now) (places (P.rules port.old)) }
+    ensures at { IsAt (P.fits port.new) (places (P.rules port.new)) session.new.parts session.new.seat }
+    ensures stands { StandsFor (D.grants desk.now) session.old → StandsFor (D.grants desk.now) session.new }
+    ensures fixed { P.rules port.new ≡ P.rules port.old }
+    ensures turns { Often (AskedAlone P.fits P.rules P.root P.seen P.count P.wants P.busies P.adds P.kin P.branches) (D.grants desk.now) L.hears L.says most
+        (record { session = session.old; port = port.old; link = link.old }) result (record { session = session.new; port = port.new; link = link.new }) }
+{
+    let mut moved = 0u64;
+    for _ in 0..most {
+        match moved_by(session.turn(alloc, port, link, desk)) {
+            None => return moved,
+            Some(count) => moved += count,
+        }
+    }
+    moved
+}
