@@ -7,6 +7,7 @@ use Rattle.relay_script.specs.ReplayLines.{meaning}
 use Rattle.relay_replay.specs.Stand.{Stand, after_line}
 use Rattle.relay_replay.specs.Scenes.{SceneState, Does, start, stand_of}
 use Rattle.relay_replay.specs.Prints.{Prints}
+use Rattle.relay_replay.specs.Whole.{given_more}
 
 -- what a line does; one outside the grammar does nothing that could be said
 abbrev pub DoesLine : Option ReplayLine → SceneState → SceneState → Type 0
@@ -23,6 +24,18 @@ pub record Printed (script text : List ℕ) : Type 0 where
   pub state : SceneState
   pub run : Goes (lines script) start state
   pub prints : Prints state text
+
+-- the bytes that lines give to each session, behind those given before
+abbrev pub given_line : Option ReplayLine → (ℕ → List ℕ) → ℕ → List ℕ
+given_line None given = given
+given_line (Some line) given = given_more line given
+
+abbrev pub given_then : List Line → (ℕ → List ℕ) → ℕ → List ℕ
+given_then [] given = given
+given_then (line ∷ lines) given = given_then lines (given_line (line_says meaning line) given)
+
+abbrev pub given_in : List ℕ → ℕ → List ℕ
+given_in script = given_then (lines script) (λ (q : ℕ). [])
 
 -- the number of the first line outside the grammar, where this one has number n
 abbrev pub outside_then : ℕ → Option Stand → (Stand → Option ℕ) → Option ℕ

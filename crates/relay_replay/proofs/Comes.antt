@@ -1,5 +1,5 @@
 -- What a run on one thread comes to: each session, each recorder and the histories, after each step
-use Rattle.std.proofs.Common.{inl, inr, ◌≡◌, ◌≢◌, ◌<◌, ◌≤◌, ◌⊎◌, ◌&&◌, ℕ, ◌+◌, ◌^◌, nat_eq, if◌then◌else◌, false, List, [], ◌∷◌, ◌++◌, length, reverse, All, Option, Some, None, refl, sym, ap, ◌∙◌, subst, arith, append_assoc, append-nil, length-append}
+use Rattle.std.proofs.Common.{inl, inr, ◌≡◌, ◌≢◌, ◌≤◌, ◌⊎◌, ℕ, ◌+◌, nat_eq, if◌then◌else◌, false, List, [], ◌∷◌, ◌++◌, length, reverse, All, Option, Some, None, refl, sym, ap, ◌∙◌, subst, arith, append_assoc, append-nil, length-append}
 use Rattle.std.specs.Prelude.{map}
 use Rattle.std.proofs.lemmas.Bool.{cases_eq}
 use Rattle.std.proofs.lemmas.Bool.Decides.{nat_tests}
@@ -31,7 +31,8 @@ use Rattle.relay_session.specs.declared.core_fields.Core.{Core}
 use Rattle.relay_session.specs.declared.end.End.{End}
 use Rattle.relay_session.specs.declared.turn.Turn.{Turn as TurnAnswer}
 use Rattle.relay_session.specs.declared.turn.Turn.TheVariants.{Moved, Idle, Ended}
-use Rattle.relay_replay.specs.Cast.{AfterTurn, ConnState, IsClosed, SessionTurn, SoleAdds, SoleAsks, known_in}
+use Rattle.relay_replay.specs.Guests.{ConnState}
+use Rattle.relay_replay.specs.Cast.{AfterTurn, IsClosed, SessionTurn, SoleAdds, SoleAsks, known_in}
 use Rattle.relay_replay.specs.Served.{StandsIf}
 use Rattle.relay_replay.specs.Whole.{Follows, IsFedBy, IsMadeBy}
 use Rattle.relay_replay.proofs.Following.{Bears, Done, FedAfter, Grown, Makes, Named, grown_same, limits_same, makes_none, makes_then, own_same, turn_done}

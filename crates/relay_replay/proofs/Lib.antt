@@ -3,9 +3,11 @@ pub mod New
 pub mod Limiting
 pub mod Totals
 pub mod Taking
+pub mod TakingMore
 pub mod Serving
 pub mod Naming
 pub mod Acting
+pub mod Opening
 pub mod Recorders
 pub mod Following
 pub mod Comes

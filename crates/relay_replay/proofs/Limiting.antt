@@ -10,21 +10,38 @@ use Rattle.relay_session.specs.declared.end.End.{End}
 use Rattle.relay_session.specs.declared.turn.Turn.{Turn as TurnAnswer}
 use Rattle.relay_session.specs.declared.turn.Turn.TheVariants.{Moved, Idle, Ended}
 use Rattle.relay_script.specs.declared.replay.ReplayLine.{ReplayLine}
-use Rattle.relay_script.specs.declared.replay.ReplayLine.TheVariants.{Nothing, Limits, Stream, Guard, Recorder, Session, Piece, Eof, Room, FailRecv, FailSend, FailPut, Turn, Rec, All as Rounds, Quit, OpenApp, GuardOpen}
+use Rattle.relay_script.specs.declared.replay.ReplayLine.TheVariants.{Nothing, Limits, Stream, Guard, Recorder, Session, Piece, Eof, Room, FailRecv, FailSend, FailPut, Turn, Rec, All as Rounds, Quit, OpenApp, GuardOpen, OpenHttp, OpenEdge}
 use Rattle.stream_registry.specs.Books.{SeenState, SoleState, sole_rules}
 use Rattle.stream_model.specs.Shape.{pool_shape}
 use Rattle.stream_model.specs.declared.calls.StreamLimits.{StreamLimits}
 use Rattle.stream_registry.specs.Names.{places, shape_at, shapes_of}
 use Rattle.stream_registry.specs.declared.names.Name.{Name}
 use Rattle.stream_registry.specs.declared.names.OpenName.{OpenName}
-use Rattle.relay_replay.specs.Cast.{AfterTurn, CastState, ConnState, RecState, RecTurnOf, Round, SessionTurn, SettledBy, TurnOf}
-use Rattle.relay_replay.specs.Plays.{Plays, ToldBy, told_of}
-use Rattle.relay_replay.specs.Scenes.{HaveLimits, IsLimited, IsOpen, IsSound, LimitedBy, LimitedIf, SceneState, stream_limits}
+use Rattle.http_flv.specs.PlayerState as http
+use Rattle.http_flv.specs.PlayerState.{PlayerState}
+use Rattle.http_flv.specs.declared.core_fields.Core.{Core as PlayerCore}
+use Rattle.http_flv.specs.declared.end.HttpEnd.{HttpEnd}
+use Rattle.http_flv.specs.declared.turn.HttpTurn.{HttpTurn}
+use Rattle.http_flv.specs.declared.turn.HttpTurn.TheVariants as http_turn
+use Rattle.origin_pull.specs.EdgeState as edge
+use Rattle.origin_pull.specs.EdgeState.{EdgeState}
+use Rattle.origin_pull.specs.declared.end.EdgeEnd.{EdgeEnd}
+use Rattle.origin_pull.specs.declared.turn.EdgeTurn.{EdgeTurn}
+use Rattle.origin_pull.specs.declared.turn.EdgeTurn.TheVariants as edge_turn
+use Rattle.rtmp_client.specs.ClientState.{ClientState}
+use Rattle.relay_replay.specs.Guests.{ConnState, PlayState, PullState}
+use Rattle.relay_replay.specs.declared.guest.Answered.{Answered}
+use Rattle.relay_replay.specs.declared.guest.Guest.{Guest}
+use Rattle.relay_replay.specs.declared.guest.Guest.TheVariants as guest
+use Rattle.relay_replay.specs.Cast.{AfterTurn, AnsweredTurn, CastState, GuestTurn, RecState, RecTurnOf, Round, SessionTurn, SettledBy, TurnOf}
+use Rattle.relay_replay.specs.Turning.{AfterEdgeTurn, AfterHttpTurn, EdgeTurnBy, PlayerTurn}
+use Rattle.relay_replay.specs.Plays.{Plays, ToldBy, told_guest, told_of}
+use Rattle.relay_replay.specs.Scenes.{max_of, HaveLimits, IsLimited, IsOpen, IsSound, LimitedBy, LimitedIf, SceneState, stream_limits}
 use Rattle.relay_replay.proofs.Serving.{all_at, each_keep, settled_keep, times_keep}
 
 -- it takes messages of at most so many bytes
-abbrev Takes : ℕ → ConnState → Type 0
-Takes m c = c.session.parts.reader.max ≡ m
+abbrev Takes : ℕ → Guest → Type 0
+Takes m g = max_of g ≡ m
 
 -- it writes units of at most so many
 abbrev Writes : ℕ → RecState → Type 0
@@ -37,23 +54,49 @@ after_takes Moved mid port d port' t = ap (λ (s : SessionState SeenState). s.pa
 after_takes Idle mid port d port' t = ap (λ (s : SessionState SeenState). s.parts.reader.max) t.0
 after_takes (Ended e) mid port d port' t = ap (λ (c : Core). c.reader.max) t.2.parts
 
-turn_takes : (m : ℕ) (e : Option End) (desk : Ask → Grant) (port : SoleState) (c : ConnState) (port' : SoleState) (d : ConnState) → SessionTurn e desk port c port' d → Takes m c → Takes m d
+turn_takes : (m : ℕ) (e : Option End) (desk : Ask → Grant) (port : SoleState) (c : ConnState) (port' : SoleState) (d : ConnState) → SessionTurn e desk port c port' d → c.session.parts.reader.max ≡ m → d.session.parts.reader.max ≡ m
 turn_takes m None desk port c port' d t k = after_takes t.answer t.mid t.between d port' t.leads ∙ ap (λ (l : Lasting). l.max) t.lasts ∙ k
-turn_takes m (Some e) desk port c port' d t k = subst (Takes m) (sym t.0) k
+turn_takes m (Some e) desk port c port' d t k = subst (λ (x : ConnState). x.session.parts.reader.max ≡ m) (sym t.0) k
+
+after_player : (a : HttpTurn) (mid : PlayerState SeenState) (port : SoleState) (d : PlayState) (port' : SoleState) → AfterHttpTurn a mid port d.player d.ended port' → d.player.parts.longest ≡ mid.parts.longest
+after_player http_turn.Moved mid port d port' t = ap (λ (s : PlayerState SeenState). s.parts.longest) t.0
+after_player http_turn.Idle mid port d port' t = ap (λ (s : PlayerState SeenState). s.parts.longest) t.0
+after_player (http_turn.Ended e) mid port d port' t = ap (λ (c : PlayerCore). c.longest) t.2.parts
+
+player_sends : (m : ℕ) (e : Option HttpEnd) (desk : Ask → Grant) (port : SoleState) (c : PlayState) (port' : SoleState) (d : PlayState) → PlayerTurn e desk port c port' d → c.player.parts.longest ≡ m → d.player.parts.longest ≡ m
+player_sends m None desk port c port' d t k = after_player t.answer t.mid t.between d port' t.leads ∙ ap (λ (l : http.Lasting). l.longest) t.lasts ∙ k
+player_sends m (Some e) desk port c port' d t k = subst (λ (x : PlayState). x.player.parts.longest ≡ m) (sym t.0) k
+
+after_edge : (a : EdgeTurn) (mid : EdgeState SeenState) (port : SoleState) (d : PullState) (port' : SoleState) → AfterEdgeTurn a mid port d.edge d.ended port' → d.edge.client.parts.reader.max ≡ mid.client.parts.reader.max
+after_edge edge_turn.Moved mid port d port' t = ap (λ (s : EdgeState SeenState). s.client.parts.reader.max) t.0
+after_edge edge_turn.Idle mid port d port' t = ap (λ (s : EdgeState SeenState). s.client.parts.reader.max) t.0
+after_edge (edge_turn.Ended e) mid port d port' t = ap (λ (k : ClientState). k.parts.reader.max) t.2.client
+
+edge_takes : (m : ℕ) (e : Option EdgeEnd) (port : SoleState) (c : PullState) (port' : SoleState) (d : PullState) → EdgeTurnBy e port c port' d → c.edge.client.parts.reader.max ≡ m → d.edge.client.parts.reader.max ≡ m
+edge_takes m None port c port' d t k = after_edge t.answer t.mid t.between d port' t.leads ∙ ap (λ (l : edge.Lasting). l.max) t.lasts ∙ k
+edge_takes m (Some e) port c port' d t k = subst (λ (x : PullState). x.edge.client.parts.reader.max ≡ m) (sym t.0) k
+
+guest_takes : (m : ℕ) (a : Answered) (desk : Ask → Grant) (port : SoleState) (g : Guest) (port' : SoleState) (h : Guest) → GuestTurn a desk port g port' h → Takes m g → Takes m h
+guest_takes m a desk port (guest.Session c) port' h t k = subst (Takes m) (sym t.1) (turn_takes m c.ended desk port c port' t.0 t.2.0 k)
+guest_takes m a desk port (guest.Player c) port' h t k = subst (Takes m) (sym t.1) (player_sends m c.ended desk port c port' t.0 t.2.0 k)
+guest_takes m a desk port (guest.Edge c) port' h t k = subst (Takes m) (sym t.1) (edge_takes m c.ended port c port' t.0 t.2.0 k)
 
 limits_same : (l : AllLimits) (c d : CastState) → sole_rules d.port.rules ≡ sole_rules c.port.rules → HaveLimits l (sole_rules c.port.rules)
     → HaveLimits l (sole_rules d.port.rules)
 limits_same l c d e k = subst (HaveLimits l) (sym e) k
 
-limited_of : (l : AllLimits) (desk : Ask → Grant) (n : ℕ) (c d : CastState) → TurnOf desk n c d → IsLimited l c → IsLimited l d
-limited_of l desk n c d t k =
+limited_by : (l : AllLimits) (desk : Ask → Grant) (n : ℕ) (a : Answered) (c d : CastState) → AnsweredTurn desk n a c d → IsLimited l c → IsLimited l d
+limited_by l desk n a c d t k =
     let m = l.max_message in
-    let new = turn_takes m t.old.ended desk c.port t.old d.port t.new t.turn (all_at (Takes m) c.sessions n t.old t.there k.sessions) in
+    let new = guest_takes m a desk c.port t.old d.port t.new t.turn (all_at (Takes m) c.sessions n t.old t.there k.sessions) in
     record {
       streams = limits_same l c d t.fixed k.streams;
       sessions = subst (All (Takes m)) (sym t.sessions) (All-set (Takes m) c.sessions n t.new new k.sessions);
       recorders = subst (All (Writes m)) (sym t.recorders) k.recorders;
     }
+
+limited_of : (l : AllLimits) (desk : Ask → Grant) (n : ℕ) (c d : CastState) → TurnOf desk n c d → IsLimited l c → IsLimited l d
+limited_of l desk n c d t k = limited_by l desk n t.0 c d t.1 k
 
 limited_rec : (l : AllLimits) (n : ℕ) (c d : CastState) → RecTurnOf n c d → IsLimited l c → IsLimited l d
 limited_rec l n c d t k =
@@ -72,25 +115,14 @@ limited_round l desk c d r k =
 
 -- ---- lines
 
-told_takes : (m : ℕ) (line : ReplayLine) (c : ConnState) → Takes m c → Takes m (told_of line c)
-told_takes m (Piece n bytes) c k = k
-told_takes m (Eof n) c k = k
-told_takes m (Room n left) c k = k
-told_takes m (FailRecv n) c k = k
-told_takes m (FailSend n) c k = k
-told_takes m (Quit n) c k = k
-told_takes m Nothing c k = k
-told_takes m (Limits a b i q w) c k = k
-told_takes m (Stream app name) c k = k
-told_takes m (Guard n side mode key) c k = k
-told_takes m (OpenApp app n) c k = k
-told_takes m (GuardOpen n side mode key) c k = k
-told_takes m (Recorder n form) c k = k
-told_takes m Session c k = k
-told_takes m (FailPut n) c k = k
-told_takes m (Turn n j) c k = k
-told_takes m (Rec n j) c k = k
-told_takes m (Rounds j) c k = k
+told_session : (m : ℕ) (line : ReplayLine) (c : ConnState) → c.session.parts.reader.max ≡ m → (told_of line c).session.parts.reader.max ≡ m
+told_session m (Quit n) c k = k
+told_session m _ c k = k
+
+told_takes : (m : ℕ) (line : ReplayLine) (g : Guest) → Takes m g → Takes m (told_guest line g)
+told_takes m line (guest.Session c) k = told_session m line c k
+told_takes m line (guest.Player c) k = k
+told_takes m line (guest.Edge c) k = k
 
 told_limited : (o : Option ℕ) (line : ReplayLine) (l : AllLimits) (c d : CastState) → ToldBy o line c d → IsLimited l c → IsLimited l d
 told_limited None line l c d t k = subst (IsLimited l) (sym t) k
@@ -99,14 +131,24 @@ told_limited (Some n) line l c d t k =
     let new = told_takes m line t.old (all_at (Takes m) c.sessions n t.old t.there k.sessions) in
     record {
       streams = subst (λ (x : SoleState). HaveLimits l (sole_rules x.rules)) (sym t.port) k.streams;
-      sessions = subst (All (Takes m)) (sym t.sessions) (All-set (Takes m) c.sessions n (told_of line t.old) new k.sessions);
+      sessions = subst (All (Takes m)) (sym t.sessions) (All-set (Takes m) c.sessions n (told_guest line t.old) new k.sessions);
       recorders = subst (All (Writes m)) (sym t.recorders) k.recorders;
     }
 
 plays_limited : (line : ReplayLine) (l : AllLimits) (desk : Ask → Grant) (c d : CastState) → Plays l desk line c d → IsLimited l c → IsLimited l d
 plays_limited Session l desk c d p k = record {
   streams = subst (λ (x : SoleState). HaveLimits l (sole_rules x.rules)) (sym p.port) k.streams;
-  sessions = subst (All (Takes l.max_message)) (sym p.sessions) (All-push (Takes l.max_message) c.sessions p.new k.sessions p.fresh.max);
+  sessions = subst (All (Takes l.max_message)) (sym p.sessions) (All-push (Takes l.max_message) c.sessions (guest.Session p.new) k.sessions p.fresh.max);
+  recorders = subst (All (Writes l.max_message)) (sym p.recorders) k.recorders;
+}
+plays_limited OpenHttp l desk c d p k = record {
+  streams = subst (λ (x : SoleState). HaveLimits l (sole_rules x.rules)) (sym p.port) k.streams;
+  sessions = subst (All (Takes l.max_message)) (sym p.sessions) (All-push (Takes l.max_message) c.sessions (guest.Player p.new) k.sessions p.fresh.fixed.1);
+  recorders = subst (All (Writes l.max_message)) (sym p.recorders) k.recorders;
+}
+plays_limited (OpenEdge n app name) l desk c d p k = record {
+  streams = subst (λ (x : SoleState). HaveLimits l (sole_rules x.rules)) (sym p.port) k.streams;
+  sessions = subst (All (Takes l.max_message)) (sym p.sessions) (All-push (Takes l.max_message) c.sessions (guest.Edge p.new) k.sessions p.fresh.max);
   recorders = subst (All (Writes l.max_message)) (sym p.recorders) k.recorders;
 }
 plays_limited (FailPut n) l desk c d p k =

@@ -33,7 +33,7 @@ places_few streams opens n = omega (arith, n.few, tables_few opens n.some)
 
 -- ---- a stream more
 
-both : (a b : Bool) → (a && b) ≡ true → (a ≡ true) × (b ≡ true)
+pub both : (a b : Bool) → (a && b) ≡ true → (a ≡ true) × (b ≡ true)
 both true true e = (refl, refl)
 both true false e = absurd (cc)
 both false b e = absurd (cc)

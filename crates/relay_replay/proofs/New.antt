@@ -13,7 +13,7 @@ use Rattle.media_recorder.specs.Seats.{SeatState}
 use Rattle.relay_replay.specs.declared.recording.Plan.{Plan}
 use Rattle.relay_replay.specs.Stand.{no_plan}
 use Rattle.relay_replay.specs.Cast.{RecState}
-use Rattle.relay_replay.specs.Scenes.{AreNamed, AreNew, Fits, IsNewRecorder, IsPortOf, Ready, Sits, name_of, open_name}
+use Rattle.relay_replay.specs.Scenes.{AreNamed, AreNew, Fits, IsNewRecorder, IsPortOf, ReadyGuest, Sits, name_of, open_name}
 
 -- ---- one recorder more
 
@@ -76,7 +76,7 @@ new_sits streams opens ps port rs p a spots =
     record {
       port = p;
       few = omega arith;
-      sessions = All-nil (Ready port);
+      sessions = All-nil (ReadyGuest port);
       count = as_many 0 ps rs a;
       recorders = all_fit port 0 ps rs a (subst (λ (k : ℕ). All (λ p. p.stream < k) ps) (sym many) spots);
     }

@@ -8,7 +8,7 @@ use Rattle.media_recorder.specs.Taken.{taken}
 use Rattle.relay_base.specs.declared.limits.Limits.{Limits as AllLimits}
 use Rattle.relay_script.specs.declared.replay.Form.{Form}
 use Rattle.relay_script.specs.declared.replay.ReplayLine.{ReplayLine}
-use Rattle.relay_script.specs.declared.replay.ReplayLine.TheVariants.{Nothing, Limits, Stream, Guard, Recorder, Session, Piece, Eof, Room, FailRecv, FailSend, FailPut, Turn, Rec, All as Rounds, Quit, OpenApp, GuardOpen}
+use Rattle.relay_script.specs.declared.replay.ReplayLine.TheVariants.{Nothing, Limits, Stream, Guard, Recorder, Session, Piece, Eof, Room, FailRecv, FailSend, FailPut, Turn, Rec, All as Rounds, Quit, OpenApp, GuardOpen, OpenHttp, OpenEdge}
 use Rattle.stream_registry.specs.Books.{SoleState, SeenState}
 use Rattle.relay_replay.specs.declared.recording.Plan.{Plan}
 use Rattle.relay_replay.specs.Cast.{CastState, RecState, RecTurnOf, RecorderTurn, Round, TurnOf, text_in}
@@ -47,7 +47,7 @@ recorded_rec n c d t s =
     subst (All IsRecorded) (sym t.recorders) (All-set IsRecorded c.recorders n t.new new s)
 
 recorded_of : (desk : Ask → Grant) (n : ℕ) (c d : CastState) → TurnOf desk n c d → RecordedIn c → RecordedIn d
-recorded_of desk n c d t s = subst (All IsRecorded) (sym t.recorders) s
+recorded_of desk n c d t s = subst (All IsRecorded) (sym t.1.recorders) s
 
 recorded_round : (desk : Ask → Grant) (c d : CastState) → Round desk c d → RecordedIn c → RecordedIn d
 recorded_round desk c d r s =
@@ -62,6 +62,8 @@ told_recorded (Some n) line c d t s = subst (All IsRecorded) (sym t.recorders) s
 
 plays_recorded : (line : ReplayLine) (limits : AllLimits) (desk : Ask → Grant) (c d : CastState) → Plays limits desk line c d → RecordedIn c → RecordedIn d
 plays_recorded Session limits desk c d p s = subst (All IsRecorded) (sym p.recorders) s
+plays_recorded OpenHttp limits desk c d p s = subst (All IsRecorded) (sym p.recorders) s
+plays_recorded (OpenEdge n app name) limits desk c d p s = subst (All IsRecorded) (sym p.recorders) s
 plays_recorded (FailPut n) limits desk c d p s =
     let was = all_at IsRecorded c.recorders n p.old p.there s in
     let new : RecState = record p.old { file = record p.old.file { put_fails = true } } in

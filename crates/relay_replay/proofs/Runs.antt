@@ -1,5 +1,5 @@
 -- A run on one thread, after each line
-use Rattle.std.proofs.Common.{inl, inr, ◌≡◌, ◌≢◌, ◌<◌, ◌≤◌, ◌⊎◌, ◌&&◌, ℕ, zero, suc, ◌+◌, ◌^◌, nat_eq, nat_lt, if◌then◌else◌, Bool, true, false, List, [], ◌∷◌, ◌++◌, length, reverse, slice_get, slice_set, All, Option, Some, None, Result, Ok, Err, IfOk, refl, sym, ap, ◌∙◌, subst, arith, append_assoc, append-nil, length-append}
+use Rattle.std.proofs.Common.{inl, inr, ◌≡◌, ◌≢◌, ◌<◌, ◌≤◌, ◌&&◌, ℕ, zero, suc, ◌+◌, ◌^◌, nat_eq, nat_lt, if◌then◌else◌, Bool, true, false, List, [], ◌∷◌, ◌++◌, length, reverse, slice_get, slice_set, All, Option, Some, None, Result, Ok, Err, IfOk, refl, sym, ap, ◌∙◌, subst, arith, append_assoc, append-nil, length-append}
 use Rattle.std.specs.List.{concat}
 use Rattle.std.specs.Option.{option_map}
 use Rattle.std.proofs.lemmas.Bool.{cases_eq}
@@ -31,15 +31,19 @@ use Rattle.media_recorder.specs.Alone.{ReachesIf}
 use Rattle.media_recorder.specs.Ports.{FitsIf}
 use Rattle.media_recorder.specs.Seats.{SeatState as RecSeat, calls_after, entry_of}
 use Rattle.relay_script.specs.declared.replay.ReplayLine.{ReplayLine}
-use Rattle.relay_script.specs.declared.replay.ReplayLine.TheVariants.{Nothing, Limits, Stream, Guard, Recorder, Session, Piece, Eof, Room, FailRecv, FailSend, FailPut, Turn, Rec, All as Rounds, Quit, OpenApp, GuardOpen}
+use Rattle.relay_script.specs.declared.replay.ReplayLine.TheVariants.{Nothing, Limits, Stream, Guard, Recorder, Session, Piece, Eof, Room, FailRecv, FailSend, FailPut, Turn, Rec, All as Rounds, Quit, OpenApp, GuardOpen, OpenHttp, OpenEdge}
 use Rattle.relay_replay.specs.declared.recording.Plan.{Plan}
-use Rattle.relay_replay.specs.Cast.{CastState, ConnState, OneAsk, RecState, RecTurnOf, RecorderTurn, Round, TurnOf}
-use Rattle.relay_replay.specs.Plays.{IsNewSession, Plays, Told, told_of}
+use Rattle.relay_replay.specs.Guests.{ConnState}
+use Rattle.relay_replay.specs.declared.guest.Answered.{Answered}
+use Rattle.relay_replay.specs.declared.guest.Guest.{Guest}
+use Rattle.relay_replay.specs.declared.guest.Guest.TheVariants as guest
+use Rattle.relay_replay.specs.Cast.{CastState, GuestTurn, OneAsk, RecState, RecTurnOf, RecorderTurn, Round, SessionTurn, TurnOf}
+use Rattle.relay_replay.specs.Plays.{IsNewSession, Plays, Told, told_guest, told_of}
 use Rattle.relay_replay.specs.Recorded.{IsRecorded}
 use Rattle.relay_replay.specs.Scenes.{Acts, AreNew, CastBy, Does, IsNewRecorder, IsOpen, SceneState, SettledIn, desk_of, is_acting, stand_of}
 use Rattle.relay_replay.specs.Served.{StandsIf}
 use Rattle.relay_replay.specs.Stand.{after, allows, count, is_setting}
-use Rattle.relay_replay.specs.Whole.{Follows, IsFedBy, IsMadeBy, IsOurs, IsRun, Records, Runs, RunsIf, given_more, recorder_name}
+use Rattle.relay_replay.specs.Whole.{AreSessions, Follows, IsFedBy, IsMadeBy, IsOurs, IsRun, IsSession, Records, RunOf, Runs, RunsIf, given_more, recorder_name}
 use Rattle.relay_replay.proofs.Comes.{Followed, begins_whole, followed_turn, whole_same}
 use Rattle.relay_replay.proofs.Following.{Bears, Grown, Lawful, grown_all, grown_one, grown_others, grown_same, limits_same, own_other, own_same}
 use Rattle.relay_replay.proofs.Recorders.{are_recorded}
@@ -66,6 +70,46 @@ length_put (y ∷ ys) (suc n) x = ap suc (length_put ys n x)
 
 some_is : {A : Type 0} → (x y : A) → Some x ≡ Some y → x ≡ y
 some_is x y e = let s : x ≡ y = cc in s
+
+session_is : (x y : ConnState) → guest.Session x ≡ guest.Session y → x ≡ y
+session_is x y e = let s : x ≡ y = cc in s
+
+get_last : {A : Type 0} → (xs : List A) (x : A) → slice_get (xs ++ x ∷ []) (length xs) ≡ Some x
+get_last [] x = refl
+get_last (y ∷ ys) x = get_last ys x
+
+get_first : {A : Type 0} → (xs : List A) (x : A) (m : ℕ) → m ≢ length xs → slice_get (xs ++ x ∷ []) m ≡ slice_get xs m
+get_first [] x zero d = absurd (d refl)
+get_first [] x (suc m) d = refl
+get_first (y ∷ ys) x zero d = refl
+get_first (y ∷ ys) x (suc m) d = get_first ys x m (λ e. d (ap suc e))
+
+-- ---- sessions alone
+
+-- where one was put for another, and where one more was opened
+alone_put : (gs : List Guest) (n : ℕ) (old new : Guest) → slice_get gs n ≡ Some old → (IsSession new → IsSession old) → AreSessions (slice_set gs n new) → AreSessions gs
+alone_put gs n old new there back all = λ m g e. elim (cases_eq m n) [
+  | inl i ↦
+      let is : old ≡ g = some_is old g (sym there ∙ subst (λ (p : ℕ). slice_get gs p ≡ Some g) i e) in
+      subst IsSession is (back (all n new (get_put gs n new old there)))
+  | inr x ↦ all m g (get_away gs n m new x ∙ e)
+]
+
+alone_first : (gs : List Guest) (g : Guest) → AreSessions (gs ++ g ∷ []) → AreSessions gs
+alone_first gs g all = λ m x e.
+    let within : m < length gs = slice_get_within gs m x e in
+    all m x (get_first gs g m (λ i. absurd (omega (arith, i, within))) ∙ e)
+
+-- a turn keeps the kind, and so does what a line says
+turn_kind : (a : Answered) (desk : Ask → Grant) (port : SoleState) (g : Guest) (port' : SoleState) (h : Guest) → GuestTurn a desk port g port' h → IsSession h → IsSession g
+turn_kind a desk port (guest.Session c) port' h t k = tt
+turn_kind a desk port (guest.Player c) port' h t k = absurd (subst IsSession t.1 k)
+turn_kind a desk port (guest.Edge c) port' h t k = absurd (subst IsSession t.1 k)
+
+told_kind : (line : ReplayLine) (g : Guest) → IsSession (told_guest line g) → IsSession g
+told_kind line (guest.Session c) k = tt
+told_kind line (guest.Player c) k = k
+told_kind line (guest.Edge c) k = k
 
 -- ---- the names are apart
 
@@ -104,12 +148,13 @@ ours_in c d who a b (inr h) = inr (h.0, (omega (arith, b, h.1.0), h.1.1))
 
 -- ---- a session's turn
 
-run_of : (desk : Ask → Grant) (given : ℕ → List ℕ) (n : ℕ) (c d : CastState) → TurnOf desk n c d → IsRun desk given c → IsRun desk given d
-run_of desk given n c d t r =
-    let k : Followed desk (given n) n c.port t.old d.port t.new = followed_turn t.old.ended desk (given n) n c.port t.old d.port t.new refl t.turn (r.sessions n t.old t.there) in
-    let there : n < length c.sessions = slice_get_within c.sessions n t.old t.there in
-    let many : length d.sessions ≡ length c.sessions = ap length t.sessions ∙ length_put c.sessions n t.new in
-    let files : length d.recorders ≡ length c.recorders = ap length t.recorders in
+run_session : (desk : Ask → Grant) (given : ℕ → List ℕ) (n : ℕ) (c d : CastState) (old new : ConnState) → slice_get c.sessions n ≡ Some (guest.Session old) → SessionTurn old.ended desk c.port old d.port new
+    → d.sessions ≡ slice_set c.sessions n (guest.Session new) → d.recorders ≡ c.recorders → IsRun desk given c → IsRun desk given d
+run_session desk given n c d old new at_old turn changed files_same r =
+    let k : Followed desk (given n) n c.port old d.port new = followed_turn old.ended desk (given n) n c.port old d.port new refl turn (r.sessions n old at_old) in
+    let there : n < length c.sessions = slice_get_within c.sessions n (guest.Session old) at_old in
+    let many : length d.sessions ≡ length c.sessions = ap length changed ∙ length_put c.sessions n (guest.Session new) in
+    let files : length d.recorders ≡ length c.recorders = ap length files_same in
     let small : n < 64 = omega (arith, there, r.few) in
     let others : (m q : ℕ) → m ≢ n → own m (reverse (journal_at d.port.books q)) ≡ own m (reverse (journal_at c.port.books q)) =
     λ m q e. grown_others m n (journal_at c.port.books q) (journal_at d.port.books q) e (k.makes.grown q) in
@@ -121,16 +166,29 @@ run_of desk given n c d t r =
       unopened = λ m le. r.unopened m (omega (arith, many, le));
       sessions = λ m s e. elim (cases_eq m n) [
         | inl i ↦
-            let at : slice_get d.sessions n ≡ Some t.new = ap (λ (l : List ConnState). slice_get l n) t.sessions ∙ get_put c.sessions n t.new t.old t.there in
-            let is : t.new ≡ s = some_is t.new s (sym at ∙ subst (λ (p : ℕ). slice_get d.sessions p ≡ Some s) i e) in
-            subst (λ (p : ℕ). Follows desk (journal_at d.port.books) (given p) p s) (sym i) (subst (Follows desk (journal_at d.port.books) (given n) n) is k.follows)
+            let at : slice_get d.sessions n ≡ Some (guest.Session new) = ap (λ (l : List Guest). slice_get l n) changed ∙ get_put c.sessions n (guest.Session new) (guest.Session old) at_old in
+            let same : guest.Session new ≡ guest.Session s = some_is (guest.Session new) (guest.Session s) (sym at ∙ subst (λ (p : ℕ). slice_get d.sessions p ≡ Some (guest.Session s)) i e) in
+            subst (λ (p : ℕ). Follows desk (journal_at d.port.books) (given p) p s) (sym i) (subst (Follows desk (journal_at d.port.books) (given n) n) (session_is new s same) k.follows)
         | inr x ↦
-            let at : slice_get c.sessions m ≡ Some s = sym (get_away c.sessions n m t.new x) ∙ (sym (ap (λ (l : List ConnState). slice_get l m) t.sessions) ∙ e) in
+            let at : slice_get c.sessions m ≡ Some (guest.Session s) = sym (get_away c.sessions n m (guest.Session new) x) ∙ (sym (ap (λ (l : List Guest). slice_get l m) changed) ∙ e) in
             follows_other desk (journal_at c.port.books) (journal_at d.port.books) (given m) m s (λ q. others m q x) (r.sessions m s at)
       ];
       recorders = λ m s e. records_other (journal_at c.port.books) (journal_at d.port.books) m s (λ q. others (recorder_name m) q (names_apart n m small))
-          (r.recorders m s (sym (ap (λ (l : List RecState). slice_get l m) t.recorders) ∙ e));
+          (r.recorders m s (sym (ap (λ (l : List RecState). slice_get l m) files_same) ∙ e));
     }
+
+run_guest : (desk : Ask → Grant) (given : ℕ → List ℕ) (n : ℕ) (c d : CastState) (a : Answered) (old new : Guest) → slice_get c.sessions n ≡ Some old → GuestTurn a desk c.port old d.port new
+    → d.sessions ≡ slice_set c.sessions n new → d.recorders ≡ c.recorders → IsSession old → IsRun desk given c → IsRun desk given d
+run_guest desk given n c d a (guest.Session old) new there t e files k r =
+    run_session desk given n c d old t.0 there t.2.0 (e ∙ ap (λ (g : Guest). slice_set c.sessions n g) t.1) files r
+run_guest desk given n c d a (guest.Player old) new there t e files k r = absurd k
+run_guest desk given n c d a (guest.Edge old) new there t e files k r = absurd k
+
+run_of : (desk : Ask → Grant) (given : ℕ → List ℕ) (n : ℕ) (c d : CastState) → TurnOf desk n c d → RunOf desk given c → RunOf desk given d
+run_of desk given n c d u r = λ all.
+    let t = u.1 in
+    let alone : AreSessions c.sessions = alone_put c.sessions n t.old t.new t.there (turn_kind u.0 desk c.port t.old d.port t.new t.turn) (subst AreSessions t.sessions all) in
+    run_guest desk given n c d u.0 t.old t.new t.there t.turn t.sessions t.recorders (alone n t.old t.there) (r alone)
 
 -- ---- a recorder's turn
 
@@ -234,8 +292,8 @@ rec_followed m port port' c d t f = by t.alone
     by (inl e) = rec_still m port port' c d t.served.fixed (λ q. ap (λ (p : SoleState). journal_at p.books q) e.0) t.label.0 t.label.1 (ap (λ (s : RecSeat SeenState). s.calls) e.1) told f
     by (inr k) = rec_answered m port port' c d k.0 k.1.0 t k.1.1.history k.1.1.calls k.1.1.laws told f
 
-run_rec : (desk : Ask → Grant) (given : ℕ → List ℕ) (m : ℕ) (c d : CastState) → RecTurnOf m c d → IsRun desk given c → IsRun desk given d
-run_rec desk given m c d t r =
+run_recorder : (desk : Ask → Grant) (given : ℕ → List ℕ) (m : ℕ) (c d : CastState) → RecTurnOf m c d → IsRun desk given c → IsRun desk given d
+run_recorder desk given m c d t r =
     let k : RecFollowed m c.port d.port t.new = rec_followed m c.port d.port t.old t.new t.turn (r.recorders m t.old t.there) in
     let there : m < length c.recorders = slice_get_within c.recorders m t.old t.there in
     let many : length d.sessions ≡ length c.sessions = ap length t.sessions in
@@ -249,8 +307,8 @@ run_rec desk given m c d t r =
       few = omega (arith, many, r.few);
       unopened = λ n le. r.unopened n (omega (arith, many, le));
       sessions = λ n s e.
-          let at : slice_get c.sessions n ≡ Some s = sym (ap (λ (l : List ConnState). slice_get l n) t.sessions) ∙ e in
-          let small : n < 64 = omega (arith, slice_get_within c.sessions n s at, r.few) in
+          let at : slice_get c.sessions n ≡ Some (guest.Session s) = sym (ap (λ (l : List Guest). slice_get l n) t.sessions) ∙ e in
+          let small : n < 64 = omega (arith, slice_get_within c.sessions n (guest.Session s) at, r.few) in
           follows_other desk (journal_at c.port.books) (journal_at d.port.books) (given n) n s (λ q. others n q (λ x. names_apart n m small (sym x))) (r.sessions n s at);
       recorders = λ j s e. elim (cases_eq j m) [
         | inl i ↦
@@ -262,10 +320,13 @@ run_rec desk given m c d t r =
       ];
     }
 
-run_round : (desk : Ask → Grant) (given : ℕ → List ℕ) (c d : CastState) → Round desk c d → IsRun desk given c → IsRun desk given d
+run_rec : (desk : Ask → Grant) (given : ℕ → List ℕ) (m : ℕ) (c d : CastState) → RecTurnOf m c d → RunOf desk given c → RunOf desk given d
+run_rec desk given m c d t r = λ all. run_recorder desk given m c d t (r (subst AreSessions t.sessions all))
+
+run_round : (desk : Ask → Grant) (given : ℕ → List ℕ) (c d : CastState) → Round desk c d → RunOf desk given c → RunOf desk given d
 run_round desk given c d t r =
-    each_keep (IsRun desk given) RecTurnOf (run_rec desk given) (length t.between.recorders) t.between d t.recorders
-    (each_keep (IsRun desk given) (TurnOf desk) (run_of desk given) (length c.sessions) c t.between t.sessions r)
+    each_keep (RunOf desk given) RecTurnOf (run_rec desk given) (length t.between.recorders) t.between d t.recorders
+    (each_keep (RunOf desk given) (TurnOf desk) (run_of desk given) (length c.sessions) c t.between t.sessions r)
 
 -- ---- lines about one session
 
@@ -316,6 +377,8 @@ follows_told (OpenApp app k) desk h g n c f = f
 follows_told (GuardOpen k side mode key) desk h g n c f = f
 follows_told (Recorder k form) desk h g n c f = f
 follows_told Session desk h g n c f = f
+follows_told OpenHttp desk h g n c f = f
+follows_told (OpenEdge k app name) desk h g n c f = f
 follows_told (FailPut k) desk h g n c f = f
 follows_told (Turn k m) desk h g n c f = f
 follows_told (Rec k m) desk h g n c f = f
@@ -332,35 +395,47 @@ gives_piece n bytes given = record {
   away = λ q d. let t : nat_eq n q ≡ false = grind (arith, nat_tests) in rw t refl;
 }
 
-run_told : (line : ReplayLine) (desk : Ask → Grant) (n : ℕ) (given given' : ℕ → List ℕ) (c d : CastState) → Gives line n given given' → Told line n c d → IsRun desk given c → IsRun desk given' d
-run_told line desk n given given' c d g t r =
-    let new = told_of line t.old in
-    let there : n < length c.sessions = slice_get_within c.sessions n t.old t.there in
-    let many : length d.sessions ≡ length c.sessions = ap length t.sessions ∙ length_put c.sessions n new in
-    let files : length d.recorders ≡ length c.recorders = ap length t.recorders in
-    let j : (q : ℕ) → journal_at d.port.books q ≡ journal_at c.port.books q = λ q. ap (λ (p : SoleState). journal_at p.books q) t.port in
+told_session : (line : ReplayLine) (desk : Ask → Grant) (n : ℕ) (given given' : ℕ → List ℕ) (c d : CastState) (old : ConnState) → slice_get c.sessions n ≡ Some (guest.Session old)
+    → d.sessions ≡ slice_set c.sessions n (guest.Session (told_of line old)) → d.recorders ≡ c.recorders → d.port ≡ c.port → Gives line n given given' → IsRun desk given c → IsRun desk given' d
+told_session line desk n given given' c d old at_old changed files_same port_same g r =
+    let new = told_of line old in
+    let there : n < length c.sessions = slice_get_within c.sessions n (guest.Session old) at_old in
+    let many : length d.sessions ≡ length c.sessions = ap length changed ∙ length_put c.sessions n (guest.Session new) in
+    let files : length d.recorders ≡ length c.recorders = ap length files_same in
+    let j : (q : ℕ) → journal_at d.port.books q ≡ journal_at c.port.books q = λ q. ap (λ (p : SoleState). journal_at p.books q) port_same in
     let others : (m q : ℕ) → own m (reverse (journal_at d.port.books q)) ≡ own m (reverse (journal_at c.port.books q)) = λ m q. ap (λ (h : List Step). own m (reverse h)) (j q) in
     record {
-      lawful = λ q. subst (λ (p : SoleState). Keeps ((sole_rules p.rules).limits q) (journal_at p.books q)) (sym t.port) (r.lawful q);
+      lawful = λ q. subst (λ (p : SoleState). Keeps ((sole_rules p.rules).limits q) (journal_at p.books q)) (sym port_same) (r.lawful q);
       ours = λ q. subst (λ (h : List Step). All (λ (s : Step). IsOurs d s.0.who) h) (sym (j q))
           (All-weaker (λ (s : Step). IsOurs c s.0.who) (λ (s : Step). IsOurs d s.0.who) (λ s. ours_in c d s.0.who many files) (journal_at c.port.books q) (r.ours q));
       few = omega (arith, many, r.few);
       unopened = λ m le. g.away m (λ e. absurd (omega (arith, e, there, many, le))) ∙ r.unopened m (omega (arith, many, le));
       sessions = λ m s e. elim (cases_eq m n) [
         | inl i ↦
-            let at : slice_get d.sessions n ≡ Some new = ap (λ (l : List ConnState). slice_get l n) t.sessions ∙ get_put c.sessions n new t.old t.there in
-            let is : new ≡ s = some_is new s (sym at ∙ subst (λ (p : ℕ). slice_get d.sessions p ≡ Some s) i e) in
-            let f : Follows desk (journal_at c.port.books) (given_told line (given n)) n new = follows_told line desk (journal_at c.port.books) (given n) n t.old (r.sessions n t.old t.there) in
+            let at : slice_get d.sessions n ≡ Some (guest.Session new) = ap (λ (l : List Guest). slice_get l n) changed ∙ get_put c.sessions n (guest.Session new) (guest.Session old) at_old in
+            let is : new ≡ s = session_is new s (some_is (guest.Session new) (guest.Session s) (sym at ∙ subst (λ (p : ℕ). slice_get d.sessions p ≡ Some (guest.Session s)) i e)) in
+            let f : Follows desk (journal_at c.port.books) (given_told line (given n)) n new = follows_told line desk (journal_at c.port.books) (given n) n old (r.sessions n old at_old) in
             let h : Follows desk (journal_at d.port.books) (given_told line (given n)) n new = follows_other desk (journal_at c.port.books) (journal_at d.port.books) (given_told line (given n)) n new (others n) f in
             subst (λ (p : ℕ). Follows desk (journal_at d.port.books) (given' p) p s) (sym i)
             (subst (λ (y : List ℕ). Follows desk (journal_at d.port.books) y n s) (sym g.here) (subst (Follows desk (journal_at d.port.books) (given_told line (given n)) n) is h))
         | inr x ↦
-            let at : slice_get c.sessions m ≡ Some s = sym (get_away c.sessions n m new x) ∙ (sym (ap (λ (l : List ConnState). slice_get l m) t.sessions) ∙ e) in
+            let at : slice_get c.sessions m ≡ Some (guest.Session s) = sym (get_away c.sessions n m (guest.Session new) x) ∙ (sym (ap (λ (l : List Guest). slice_get l m) changed) ∙ e) in
             subst (λ (y : List ℕ). Follows desk (journal_at d.port.books) y m s) (sym (g.away m x))
             (follows_other desk (journal_at c.port.books) (journal_at d.port.books) (given m) m s (others m) (r.sessions m s at))
       ];
-      recorders = λ m s e. records_other (journal_at c.port.books) (journal_at d.port.books) m s (others (recorder_name m)) (r.recorders m s (sym (ap (λ (l : List RecState). slice_get l m) t.recorders) ∙ e));
+      recorders = λ m s e. records_other (journal_at c.port.books) (journal_at d.port.books) m s (others (recorder_name m)) (r.recorders m s (sym (ap (λ (l : List RecState). slice_get l m) files_same) ∙ e));
     }
+
+told_run : (line : ReplayLine) (desk : Ask → Grant) (n : ℕ) (given given' : ℕ → List ℕ) (c d : CastState) (old : Guest) → slice_get c.sessions n ≡ Some old
+    → d.sessions ≡ slice_set c.sessions n (told_guest line old) → d.recorders ≡ c.recorders → d.port ≡ c.port → Gives line n given given' → IsSession old → IsRun desk given c → IsRun desk given' d
+told_run line desk n given given' c d (guest.Session old) there e files port g k r = told_session line desk n given given' c d old there e files port g r
+told_run line desk n given given' c d (guest.Player old) there e files port g k r = absurd k
+told_run line desk n given given' c d (guest.Edge old) there e files port g k r = absurd k
+
+run_told : (line : ReplayLine) (desk : Ask → Grant) (n : ℕ) (given given' : ℕ → List ℕ) (c d : CastState) → Gives line n given given' → Told line n c d → RunOf desk given c → RunOf desk given' d
+run_told line desk n given given' c d g t r = λ all.
+    let alone : AreSessions c.sessions = alone_put c.sessions n t.old (told_guest line t.old) t.there (told_kind line t.old) (subst AreSessions t.sessions all) in
+    told_run line desk n given given' c d t.old t.there t.sessions t.recorders t.port g (alone n t.old t.there) (r alone)
 
 -- ---- a new session
 
@@ -377,16 +452,6 @@ not_ours c n who e small (inr h) is = names_apart n h.0 small (sym h.1.1 ∙ is)
 absent : (desk : Ask → Grant) (given : ℕ → List ℕ) (c : CastState) (n q : ℕ) → IsRun desk given c → n ≡ length c.sessions → n < 64 → own n (reverse (journal_at c.port.books q)) ≡ []
 absent desk given c n q r e small =
     absent_in n (journal_at c.port.books q) [] (All-weaker (λ (s : Step). IsOurs c s.0.who) (λ (s : Step). s.0.who ≢ n) (λ s o. not_ours c n s.0.who e small o) (journal_at c.port.books q) (r.ours q))
-
-get_last : {A : Type 0} → (xs : List A) (x : A) → slice_get (xs ++ x ∷ []) (length xs) ≡ Some x
-get_last [] x = refl
-get_last (y ∷ ys) x = get_last ys x
-
-get_first : {A : Type 0} → (xs : List A) (x : A) (m : ℕ) → m ≢ length xs → slice_get (xs ++ x ∷ []) m ≡ slice_get xs m
-get_first [] x zero d = absurd (d refl)
-get_first [] x (suc m) d = refl
-get_first (y ∷ ys) x zero d = refl
-get_first (y ∷ ys) x (suc m) d = get_first ys x m (λ e. d (ap suc e))
 
 new_follows : (limits : AllLimits) (desk : Ask → Grant) (h : Histories) (n : ℕ) (c : ConnState) → IsNewSession limits n c → ((q : ℕ) → own n (reverse (h q)) ≡ []) → Follows desk h [] n c
 new_follows limits desk h n c w none = record {
@@ -405,10 +470,10 @@ new_follows limits desk h n c w none = record {
   calls = λ q. none q ∙ sym (ap (calls_at q) w.nowhere.2);
 }
 
-run_opens : (limits : AllLimits) (desk : Ask → Grant) (given : ℕ → List ℕ) (c d : CastState) → length c.sessions < 64 → Plays limits desk Session c d → IsRun desk given c → IsRun desk given d
-run_opens limits desk given c d small t r =
+opens_session : (limits : AllLimits) (desk : Ask → Grant) (given : ℕ → List ℕ) (c d : CastState) → length c.sessions < 64 → Plays limits desk Session c d → IsRun desk given c → IsRun desk given d
+opens_session limits desk given c d small t r =
     let n = length c.sessions in
-    let many : length d.sessions ≡ length c.sessions + 1 = ap length t.sessions ∙ length-append c.sessions (t.new ∷ []) in
+    let many : length d.sessions ≡ length c.sessions + 1 = ap length t.sessions ∙ length-append c.sessions (guest.Session t.new ∷ []) in
     let j : (q : ℕ) → journal_at d.port.books q ≡ journal_at c.port.books q = λ q. ap (λ (p : SoleState). journal_at p.books q) t.port in
     let others : (m q : ℕ) → own m (reverse (journal_at d.port.books q)) ≡ own m (reverse (journal_at c.port.books q)) = λ m q. ap (λ (h : List Step). own m (reverse h)) (j q) in
     let new : Follows desk (journal_at d.port.books) [] n t.new = new_follows limits desk (journal_at d.port.books) n t.new t.fresh (λ q. others n q ∙ absent desk given c n q r refl small) in
@@ -420,12 +485,12 @@ run_opens limits desk given c d small t r =
       unopened = λ m le. r.unopened m (omega (arith, many, le));
       sessions = λ m s e. elim (cases_eq m n) [
         | inl i ↦
-            let at : slice_get d.sessions n ≡ Some t.new = ap (λ (l : List ConnState). slice_get l n) t.sessions ∙ get_last c.sessions t.new in
-            let is : t.new ≡ s = some_is t.new s (sym at ∙ subst (λ (p : ℕ). slice_get d.sessions p ≡ Some s) i e) in
+            let at : slice_get d.sessions n ≡ Some (guest.Session t.new) = ap (λ (l : List Guest). slice_get l n) t.sessions ∙ get_last c.sessions (guest.Session t.new) in
+            let is : t.new ≡ s = session_is t.new s (some_is (guest.Session t.new) (guest.Session s) (sym at ∙ subst (λ (p : ℕ). slice_get d.sessions p ≡ Some (guest.Session s)) i e)) in
             subst (λ (p : ℕ). Follows desk (journal_at d.port.books) (given p) p s) (sym i)
             (subst (λ (y : List ℕ). Follows desk (journal_at d.port.books) y n s) (sym (r.unopened n (omega arith))) (subst (Follows desk (journal_at d.port.books) [] n) is new))
         | inr x ↦
-            let at : slice_get c.sessions m ≡ Some s = sym (get_first c.sessions t.new m x) ∙ (sym (ap (λ (l : List ConnState). slice_get l m) t.sessions) ∙ e) in
+            let at : slice_get c.sessions m ≡ Some (guest.Session s) = sym (get_first c.sessions (guest.Session t.new) m x) ∙ (sym (ap (λ (l : List Guest). slice_get l m) t.sessions) ∙ e) in
             follows_other desk (journal_at c.port.books) (journal_at d.port.books) (given m) m s (others m) (r.sessions m s at)
       ];
       recorders = λ m s e. records_other (journal_at c.port.books) (journal_at d.port.books) m s (others (recorder_name m)) (r.recorders m s (sym (ap (λ (l : List RecState). slice_get l m) t.recorders) ∙ e));
@@ -435,10 +500,17 @@ run_opens limits desk given c d small t r =
     more who many (inl h) = inl (omega (arith, many, h))
     more who many (inr h) = inr (h.0, (omega (arith, ap length t.recorders, h.1.0), h.1.1))
 
+run_opens : (limits : AllLimits) (desk : Ask → Grant) (given : ℕ → List ℕ) (c d : CastState) → length c.sessions < 64 → Plays limits desk Session c d → RunOf desk given c → RunOf desk given d
+run_opens limits desk given c d small t r = λ all. opens_session limits desk given c d small t (r (alone_first c.sessions (guest.Session t.new) (subst AreSessions t.sessions all)))
+
+-- what isn't a session was opened
+run_away : (desk : Ask → Grant) (given : ℕ → List ℕ) (c d : CastState) (g : Guest) → (IsSession g → ⊥) → d.sessions ≡ c.sessions ++ g ∷ [] → RunOf desk given d
+run_away desk given c d g away e = λ all. absurd (away (subst AreSessions e all (length c.sessions) g (get_last c.sessions g)))
+
 -- ---- a put that is to fail
 
-run_fails : (desk : Ask → Grant) (given : ℕ → List ℕ) (limits : AllLimits) (n : ℕ) (c d : CastState) → Plays limits desk (FailPut n) c d → IsRun desk given c → IsRun desk given d
-run_fails desk given limits n c d t r =
+failing_run : (desk : Ask → Grant) (given : ℕ → List ℕ) (limits : AllLimits) (n : ℕ) (c d : CastState) → Plays limits desk (FailPut n) c d → IsRun desk given c → IsRun desk given d
+failing_run desk given limits n c d t r =
     let new : RecState = record t.old { file = record t.old.file { put_fails = true } } in
     let was = r.recorders n t.old t.there in
     let many : length d.sessions ≡ length c.sessions = ap length t.sessions in
@@ -451,7 +523,7 @@ run_fails desk given limits n c d t r =
           (All-weaker (λ (s : Step). IsOurs c s.0.who) (λ (s : Step). IsOurs d s.0.who) (λ s. ours_in c d s.0.who many files) (journal_at c.port.books q) (r.ours q));
       few = omega (arith, many, r.few);
       unopened = λ m le. r.unopened m (omega (arith, many, le));
-      sessions = λ m s e. follows_other desk (journal_at c.port.books) (journal_at d.port.books) (given m) m s (others m) (r.sessions m s (sym (ap (λ (l : List ConnState). slice_get l m) t.sessions) ∙ e));
+      sessions = λ m s e. follows_other desk (journal_at c.port.books) (journal_at d.port.books) (given m) m s (others m) (r.sessions m s (sym (ap (λ (l : List Guest). slice_get l m) t.sessions) ∙ e));
       recorders = λ m s e. elim (cases_eq m n) [
         | inl i ↦
             let at : slice_get d.recorders n ≡ Some new = ap (λ (l : List RecState). slice_get l n) t.recorders ∙ get_put c.recorders n new t.old t.there in
@@ -462,27 +534,32 @@ run_fails desk given limits n c d t r =
       ];
     }
 
+run_fails : (desk : Ask → Grant) (given : ℕ → List ℕ) (limits : AllLimits) (n : ℕ) (c d : CastState) → Plays limits desk (FailPut n) c d → RunOf desk given c → RunOf desk given d
+run_fails desk given limits n c d t r = λ all. failing_run desk given limits n c d t (r (subst AreSessions t.sessions all))
+
 -- ---- lines that act
 
-plays_run : (line : ReplayLine) (limits : AllLimits) (desk : Ask → Grant) (given : ℕ → List ℕ) (c d : CastState) → (line ≡ Session → length c.sessions < 64) → Plays limits desk line c d → IsRun desk given c → IsRun desk (given_more line given) d
+plays_run : (line : ReplayLine) (limits : AllLimits) (desk : Ask → Grant) (given : ℕ → List ℕ) (c d : CastState) → (line ≡ Session → length c.sessions < 64) → Plays limits desk line c d → RunOf desk given c → RunOf desk (given_more line given) d
 plays_run Session limits desk given c d small p r = run_opens limits desk given c d (small refl) p r
+plays_run OpenHttp limits desk given c d small p r = run_away desk given c d (guest.Player p.new) (λ k. k) p.sessions
+plays_run (OpenEdge n app name) limits desk given c d small p r = run_away desk given c d (guest.Edge p.new) (λ k. k) p.sessions
 plays_run (FailPut n) limits desk given c d small p r = run_fails desk given limits n c d p r
-plays_run (Turn n k) limits desk given c d small p r = times_keep (IsRun desk given) (TurnOf desk n) (run_of desk given n) k c d p r
-plays_run (Rec n k) limits desk given c d small p r = times_keep (IsRun desk given) (RecTurnOf n) (run_rec desk given n) k c d p r
-plays_run (Rounds k) limits desk given c d small p r = times_keep (IsRun desk given) (Round desk) (run_round desk given) k c d p r
+plays_run (Turn n k) limits desk given c d small p r = times_keep (RunOf desk given) (TurnOf desk n) (run_of desk given n) k c d p r
+plays_run (Rec n k) limits desk given c d small p r = times_keep (RunOf desk given) (RecTurnOf n) (run_rec desk given n) k c d p r
+plays_run (Rounds k) limits desk given c d small p r = times_keep (RunOf desk given) (Round desk) (run_round desk given) k c d p r
 plays_run (Piece n bytes) limits desk given c d small p r = run_told (Piece n bytes) desk n given (given_more (Piece n bytes) given) c d (gives_piece n bytes given) p r
 plays_run (Eof n) limits desk given c d small p r = run_told (Eof n) desk n given given c d (record { here = refl; away = λ q e. refl }) p r
 plays_run (Room n left) limits desk given c d small p r = run_told (Room n left) desk n given given c d (record { here = refl; away = λ q e. refl }) p r
 plays_run (FailRecv n) limits desk given c d small p r = run_told (FailRecv n) desk n given given c d (record { here = refl; away = λ q e. refl }) p r
 plays_run (FailSend n) limits desk given c d small p r = run_told (FailSend n) desk n given given c d (record { here = refl; away = λ q e. refl }) p r
 plays_run (Quit n) limits desk given c d small p r = run_told (Quit n) desk n given given c d (record { here = refl; away = λ q e. refl }) p r
-plays_run Nothing limits desk given c d small p r = subst (IsRun desk given) (sym p) r
-plays_run (Limits a b i q w) limits desk given c d small p r = subst (IsRun desk given) (sym p) r
-plays_run (Stream app name) limits desk given c d small p r = subst (IsRun desk given) (sym p) r
-plays_run (Guard n side mode key) limits desk given c d small p r = subst (IsRun desk given) (sym p) r
-plays_run (OpenApp app n) limits desk given c d small p r = subst (IsRun desk given) (sym p) r
-plays_run (GuardOpen n side mode key) limits desk given c d small p r = subst (IsRun desk given) (sym p) r
-plays_run (Recorder n form) limits desk given c d small p r = subst (IsRun desk given) (sym p) r
+plays_run Nothing limits desk given c d small p r = subst (RunOf desk given) (sym p) r
+plays_run (Limits a b i q w) limits desk given c d small p r = subst (RunOf desk given) (sym p) r
+plays_run (Stream app name) limits desk given c d small p r = subst (RunOf desk given) (sym p) r
+plays_run (Guard n side mode key) limits desk given c d small p r = subst (RunOf desk given) (sym p) r
+plays_run (OpenApp app n) limits desk given c d small p r = subst (RunOf desk given) (sym p) r
+plays_run (GuardOpen n side mode key) limits desk given c d small p r = subst (RunOf desk given) (sym p) r
+plays_run (Recorder n form) limits desk given c d small p r = subst (RunOf desk given) (sym p) r
 
 -- ---- what runs at first
 
@@ -506,14 +583,14 @@ new_at n (p ∷ ps) (x ∷ xs) (suc m) r a e =
     let z : (n + 1) + m ≡ n + suc m = omega arith in
     (k.0, subst (λ (i : ℕ). IsNewRecorder (2 ^ 60 + i) k.0 r) z k.1)
 
-opened_run : (o : Option CastState) (s : SceneState) (given : ℕ → List ℕ) (c : CastState) → IsOpen o s c → RunsIf (desk_of s) given o → IsRun (desk_of s) given c
-opened_run (Some d) s given c e k = subst (IsRun (desk_of s) given) (sym e) k
-opened_run None s given c new k = record {
+opened_run : (o : Option CastState) (s : SceneState) (given : ℕ → List ℕ) (c : CastState) → IsOpen o s c → RunsIf (desk_of s) given o → RunOf (desk_of s) given c
+opened_run (Some d) s given c e k = subst (RunOf (desk_of s) given) (sym e) k
+opened_run None s given c new k = λ all. record {
   lawful = λ q. subst (λ (h : List Step). Keeps ((sole_rules c.port.rules).limits q) h) (sym (new.empty q)) (keeps_none ((sole_rules c.port.rules).limits q));
   ours = λ q. subst (λ (h : List Step). All (λ (x : Step). IsOurs c x.0.who) h) (sym (new.empty q)) (All-nil (λ (x : Step). IsOurs c x.0.who));
   few = let none : length c.sessions ≡ 0 = ap length new.sessions in omega (arith, none);
   unopened = λ n le. k n;
-  sessions = λ n x e. absurd (let z : slice_get [] n ≡ Some x = sym (ap (λ (l : List ConnState). slice_get l n) new.sessions) ∙ e in none_there n x z);
+  sessions = λ n x e. absurd (let z : slice_get [] n ≡ Some (guest.Session x) = sym (ap (λ (l : List Guest). slice_get l n) new.sessions) ∙ e in none_there n x z);
   recorders = λ m r e.
       let a = new_at 0 s.recorders c.recorders m r new.recorders e in
       let z : 0 + m ≡ m = omega arith in
@@ -524,7 +601,7 @@ opened_run None s given c new k = record {
       };
 }
   where
-    none_there : (n : ℕ) (x : ConnState) → slice_get [] n ≡ Some x → ⊥
+    none_there : (n : ℕ) (x : ConnState) → slice_get [] n ≡ Some (guest.Session x) → ⊥
     none_there n x z = absurd (cc)
 
     no_calls : (b : Bool) (calls : List Step) → reverse calls ≡ [] → (if b then reverse calls else []) ≡ []
@@ -533,7 +610,7 @@ opened_run None s given c new k = record {
 
 -- ---- a replay between two lines
 
-now_runs : (s t : SceneState) (given : ℕ → List ℕ) (c : CastState) → SameDesk (stand_of s) (stand_of t) → t.cast ≡ Some c → IsRun (desk_of s) given c → Runs given t
+now_runs : (s t : SceneState) (given : ℕ → List ℕ) (c : CastState) → SameDesk (stand_of s) (stand_of t) → t.cast ≡ Some c → RunOf (desk_of s) given c → Runs given t
 now_runs s t given c d e k = subst (λ (g : Ask → Grant). RunsIf g given t.cast) (sym (same_desk s t d)) (subst (RunsIf (desk_of s) given) (sym e) k)
 
 same_runs : (s t : SceneState) (given : ℕ → List ℕ) → SameDesk (stand_of s) (stand_of t) → t.cast ≡ s.cast → Runs given s → Runs given t
@@ -565,6 +642,8 @@ line_runs (Guard n side mode key) s t given e p c k = none_runs s t given _ e c 
 line_runs (OpenApp app n) s t given e p c k = none_runs s t given _ e c k
 line_runs (GuardOpen n side mode key) s t given e p c k = none_runs s t given _ e c k
 line_runs Session s t given e p c k = acts_runs Session s t given (stand_desk s t _ p (refl, refl)) (λ x o is. room_for s.cast s x o e) c k
+line_runs OpenHttp s t given e p c k = acts_runs OpenHttp s t given (stand_desk s t _ p (refl, refl)) (λ x o is. absurd (cc)) c k
+line_runs (OpenEdge n app name) s t given e p c k = acts_runs (OpenEdge n app name) s t given (stand_desk s t _ p (refl, refl)) (λ x o is. absurd (cc)) c k
 line_runs (FailPut n) s t given e p c k = acts_runs (FailPut n) s t given (stand_desk s t _ p (refl, refl)) (λ x o is. absurd (cc)) c k
 line_runs (Turn n m) s t given e p c k = acts_runs (Turn n m) s t given (stand_desk s t _ p (refl, refl)) (λ x o is. absurd (cc)) c k
 line_runs (Rec n m) s t given e p c k = acts_runs (Rec n m) s t given (stand_desk s t _ p (refl, refl)) (λ x o is. absurd (cc)) c k
@@ -582,7 +661,7 @@ does_runs line s t given e d k = line_runs line s t given e d.stand d.cast k
 pub settled_runs : (done : Bool) (most n : ℕ) (s t : SceneState) (given : ℕ → List ℕ) → SettledIn done most n s t → Runs given s → Runs given t
 settled_runs done most n s t given x k =
     now_runs s t given x.now (stand_desk s t _ x.stand (refl, refl)) x.cast
-    (settled_keep (IsRun (desk_of s) given) (desk_of s) n (run_of (desk_of s) given n) done most x.before x.now x.turns (opened_run s.cast s given x.before x.opened k))
+    (settled_keep (RunOf (desk_of s) given) (desk_of s) n (run_of (desk_of s) given n) done most x.before x.now x.turns (opened_run s.cast s given x.before x.opened k))
 
-pub cast_runs : (s : SceneState) (c : CastState) (given : ℕ → List ℕ) → IsOpen s.cast s c → Runs given s → IsRun (desk_of s) given c
+pub cast_runs : (s : SceneState) (c : CastState) (given : ℕ → List ℕ) → IsOpen s.cast s c → Runs given s → RunOf (desk_of s) given c
 cast_runs s c given o k = opened_run s.cast s given c o k

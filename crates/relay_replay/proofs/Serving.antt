@@ -23,13 +23,33 @@ use Rattle.relay_session.specs.declared.end.End.{End}
 use Rattle.relay_session.specs.declared.turn.Turn.{Turn as TurnAnswer}
 use Rattle.relay_session.specs.declared.turn.Turn.TheVariants.{Moved, Idle, Ended}
 use Rattle.relay_script.specs.declared.replay.ReplayLine.{ReplayLine}
-use Rattle.relay_script.specs.declared.replay.ReplayLine.TheVariants.{Nothing, Limits, Stream, Guard, Recorder, Session, Piece, Eof, Room, FailRecv, FailSend, FailPut, Turn, Rec, All as Rounds, Quit, OpenApp, GuardOpen}
-use Rattle.relay_replay.specs.Cast.{AfterTurn, AnsweredTurn, CastState, ConnState, Each, RecTurnOf, Round, SessionTurn, SettledBy, SoleAsks, Times, TurnOf}
-use Rattle.relay_replay.specs.Plays.{IsNewSession, Plays, ToldBy, told_of}
+use Rattle.relay_script.specs.declared.replay.ReplayLine.TheVariants.{Nothing, Limits, Stream, Guard, Recorder, Session, Piece, Eof, Room, FailRecv, FailSend, FailPut, Turn, Rec, All as Rounds, Quit, OpenApp, GuardOpen, OpenHttp, OpenEdge}
+use Rattle.http_flv.specs.PlayerState as http
+use Rattle.http_flv.specs.PlayerState.{PlayerState}
+use Rattle.http_flv.specs.declared.core_fields.Core.{Core as PlayerCore}
+use Rattle.http_flv.specs.declared.end.HttpEnd.{HttpEnd}
+use Rattle.http_flv.specs.declared.turn.HttpTurn.{HttpTurn}
+use Rattle.http_flv.specs.declared.turn.HttpTurn.TheVariants as http_turn
+use Rattle.origin_pull.specs.EdgeState as edge
+use Rattle.origin_pull.specs.EdgeState.{EdgeState}
+use Rattle.origin_pull.specs.declared.end.EdgeEnd.{EdgeEnd}
+use Rattle.origin_pull.specs.declared.turn.EdgeTurn.{EdgeTurn}
+use Rattle.origin_pull.specs.declared.turn.EdgeTurn.TheVariants as edge_turn
+use Rattle.rtmp_client.specs.ClientState.{ClientState}
+use Rattle.client_owed.specs.Standing as client
+use Rattle.relay_replay.specs.Guests.{ConnState, PlayState, PullState}
+use Rattle.relay_replay.specs.declared.guest.Answered.{Answered}
+use Rattle.relay_replay.specs.declared.guest.Answered.TheVariants as answered
+use Rattle.relay_replay.specs.declared.guest.Guest.{Guest}
+use Rattle.relay_replay.specs.declared.guest.Guest.TheVariants as guest
+use Rattle.relay_replay.specs.Turning.{AfterEdgeTurn, AfterHttpTurn, EdgeTurnBy, PlayerTurn}
+use Rattle.relay_replay.specs.Cast.{AfterTurn, AnsweredTurn, CastState, GuestTurn, Each, RecTurnOf, Round, SessionTurn, SettledBy, SoleAsks, Times, TurnOf}
+use Rattle.relay_replay.specs.Plays.{IsNewEdge, IsNewPlayer, IsNewSession, Plays, ToldBy, told_guest, told_link, told_of}
 use Rattle.relay_replay.specs.Scenes.{Acts, CastBy, Does, IsOpen, SceneState, SettledIn, desk_of, is_acting, stand_of}
-use Rattle.relay_replay.specs.Served.{AreServed, IsServed, ServedIf, ServedIn, StandsIf}
+use Rattle.relay_replay.specs.Served.{AreServed, EdgeServed, GuestServed, IsServed, PlayerServed, PlayerStandsIf, ServedIf, ServedIn, StandsIf}
 use Rattle.relay_replay.specs.Stand.{Stand, after, allows, is_setting}
 use Rattle.relay_replay.proofs.Taking.{turn_took}
+use Rattle.relay_replay.proofs.TakingMore.{edge_took, player_took}
 
 -- ---- what a close leaves
 
@@ -74,6 +94,64 @@ served_turn None desk port c port' d e t s =
     after_served t.answer desk t.mid t.between d port' t.leads st (t.owed st) took
 served_turn (Some x) desk port c port' d e t s = subst (IsServed desk) (sym t.0) s
 
+-- ---- a player's turn, and an edge's
+
+-- of one that lives, what is pending is the rest
+owed_begins : (e : Option HttpEnd) (desk : Ask → Grant) (s : PlayerState SeenState) → http.OwesBy e desk s.parts → http.BeginsOwed desk s.parts
+owed_begins None desk s o = (s.parts.out.left, o)
+owed_begins (Some e) desk s o = o
+
+-- what a close leaves
+closed_begins : (desk : Ask → Grant) (s s' : PlayerState SeenState) → s'.parts ≡ record s.parts { kept = s'.parts.kept } → http.BeginsOwed desk s.parts → http.BeginsOwed desk s'.parts
+closed_begins desk s s' e o = subst (http.BeginsOwed desk) (sym e) o
+
+after_player : (a : HttpTurn) (desk : Ask → Grant) (mid : PlayerState SeenState) (port : SoleState) (d : PlayState) (port' : SoleState) → AfterHttpTurn a mid port d.player d.ended port'
+    → http.StandsFor desk mid → http.BeginsOwed desk mid.parts → d.link.sent ≡ mid.parts.sent → PlayerServed desk d
+after_player http_turn.Moved desk mid port d port' t st owed took = record {
+  stands = subst (λ (e : Option HttpEnd). PlayerStandsIf e desk d.player) (sym t.2) (subst (λ (s : PlayerState SeenState). http.StandsFor desk s) (sym t.0) st);
+  owed = subst (λ (s : PlayerState SeenState). http.BeginsOwed desk s.parts) (sym t.0) owed;
+  took = took ∙ sym (ap (λ (s : PlayerState SeenState). s.parts.sent) t.0);
+}
+after_player http_turn.Idle desk mid port d port' t st owed took = record {
+  stands = subst (λ (e : Option HttpEnd). PlayerStandsIf e desk d.player) (sym t.2) (subst (λ (s : PlayerState SeenState). http.StandsFor desk s) (sym t.0) st);
+  owed = subst (λ (s : PlayerState SeenState). http.BeginsOwed desk s.parts) (sym t.0) owed;
+  took = took ∙ sym (ap (λ (s : PlayerState SeenState). s.parts.sent) t.0);
+}
+after_player (http_turn.Ended e) desk mid port d port' t st owed took = record {
+  stands = subst (λ (o : Option HttpEnd). PlayerStandsIf o desk d.player) (sym t.1) tt;
+  owed = closed_begins desk mid d.player t.2.parts owed;
+  took = took ∙ sym (ap (λ (c : PlayerCore). c.sent) t.2.parts);
+}
+
+player_served : (e : Option HttpEnd) (desk : Ask → Grant) (port : SoleState) (c : PlayState) (port' : SoleState) (d : PlayState) → c.ended ≡ e → PlayerTurn e desk port c port' d → PlayerServed desk c → PlayerServed desk d
+player_served None desk port c port' d e t s =
+    let was = subst (λ (o : Option HttpEnd). PlayerStandsIf o desk c.player) e s.stands in
+    let st = t.stands was in
+    after_player t.answer desk t.mid t.between d port' t.leads st (owed_begins t.mid.ended desk t.mid (t.owed st)) (player_took desk c.player.ended (http.life_at c.player port) c.link t.answer (http.life_at t.mid t.between) d.link t.turn s.took)
+player_served (Some x) desk port c port' d e t s = subst (PlayerServed desk) (sym t.0) s
+
+after_edge : (a : EdgeTurn) (mid : EdgeState SeenState) (port : SoleState) (d : PullState) (port' : SoleState) → AfterEdgeTurn a mid port d.edge d.ended port'
+    → edge.StandsFor mid → d.link.sent ≡ mid.client.parts.sent → EdgeServed d
+after_edge edge_turn.Moved mid port d port' t st took = record {
+  stands = subst edge.StandsFor (sym t.0) st;
+  took = took ∙ sym (ap (λ (s : EdgeState SeenState). s.client.parts.sent) t.0);
+}
+after_edge edge_turn.Idle mid port d port' t st took = record {
+  stands = subst edge.StandsFor (sym t.0) st;
+  took = took ∙ sym (ap (λ (s : EdgeState SeenState). s.client.parts.sent) t.0);
+}
+after_edge (edge_turn.Ended e) mid port d port' t st took = record { stands = t.2.stands; took = took ∙ sym (ap (λ (k : ClientState). k.parts.sent) t.2.client) }
+
+edge_served : (e : Option EdgeEnd) (port : SoleState) (c : PullState) (port' : SoleState) (d : PullState) → EdgeTurnBy e port c port' d → EdgeServed c → EdgeServed d
+edge_served None port c port' d t s =
+    after_edge t.answer t.mid t.between d port' t.leads t.stands (edge_took c.edge.ended (edge.life_at c.edge port) c.link t.answer (edge.life_at t.mid t.between) d.link t.turn s.took)
+edge_served (Some x) port c port' d t s = subst EdgeServed (sym t.0) s
+
+guest_served : (a : Answered) (desk : Ask → Grant) (port : SoleState) (g : Guest) (port' : SoleState) (h : Guest) → GuestTurn a desk port g port' h → GuestServed desk g → GuestServed desk h
+guest_served a desk port (guest.Session c) port' h t s = subst (GuestServed desk) (sym t.1) (served_turn c.ended desk port c port' t.0 refl t.2.0 s)
+guest_served a desk port (guest.Player c) port' h t s = subst (GuestServed desk) (sym t.1) (player_served c.ended desk port c port' t.0 refl t.2.0 s)
+guest_served a desk port (guest.Edge c) port' h t s = subst (GuestServed desk) (sym t.1) (edge_served c.ended port c port' t.0 t.2.0 s)
+
 -- ---- lists
 
 pub all_at : {A : Type 0} (Q : A → Type 0) → (xs : List A) (n : ℕ) (x : A) → slice_get xs n ≡ Some x → All Q xs → Q x
@@ -82,12 +160,13 @@ all_at Q (y ∷ ys) zero x e a = let same : y ≡ x = cc in subst Q same (All-he
 all_at Q (y ∷ ys) (suc n) x e a = all_at Q ys n x e (All-tail Q y ys a)
 
 served_of : (desk : Ask → Grant) (n : ℕ) (c d : CastState) → TurnOf desk n c d → ServedIn desk c → ServedIn desk d
-served_of desk n c d t s =
-    let new = served_turn t.old.ended desk c.port t.old d.port t.new refl t.turn (all_at (IsServed desk) c.sessions n t.old t.there s) in
-    subst (All (IsServed desk)) (sym t.sessions) (All-set (IsServed desk) c.sessions n t.new new s)
+served_of desk n c d u s =
+    let t = u.1 in
+    let new = guest_served u.0 desk c.port t.old d.port t.new t.turn (all_at (GuestServed desk) c.sessions n t.old t.there s) in
+    subst (All (GuestServed desk)) (sym t.sessions) (All-set (GuestServed desk) c.sessions n t.new new s)
 
 served_rec : (desk : Ask → Grant) (n : ℕ) (c d : CastState) → RecTurnOf n c d → ServedIn desk c → ServedIn desk d
-served_rec desk n c d t s = subst (All (IsServed desk)) (sym t.sessions) s
+served_rec desk n c d t s = subst (All (GuestServed desk)) (sym t.sessions) s
 
 pub times_keep : {A : Type 0} (Q : A → Type 0) (step : A → A → Type 0) → ((c d : A) → step c d → Q c → Q d) → (k : ℕ) (c d : A) → Times k step c d → Q c → Q d
 times_keep Q step f zero c d t q = subst Q (sym t) q
@@ -100,8 +179,8 @@ each_keep Q step f (suc k) c d t q = f k t.0 d t.1.1 (each_keep Q step f k c t.0
 -- what each turn of a session keeps, turns until it is idle keep
 pub settled_keep : (Q : CastState → Type 0) (desk : Ask → Grant) (n : ℕ) → ((c d : CastState) → TurnOf desk n c d → Q c → Q d) → (done : Bool) (most : ℕ) (c d : CastState) → SettledBy done most desk n c d → Q c → Q d
 settled_keep Q desk n f true most c d t q =
-    f t.between d t.last.turn (times_keep Q (AnsweredTurn desk n (Some Moved)) (λ x y a. f x y a.turn) t.moved c t.between t.moves q)
-settled_keep Q desk n f false most c d t q = times_keep Q (AnsweredTurn desk n (Some Moved)) (λ x y a. f x y a.turn) most c d t q
+    f t.between d (t.answer, t.last) (times_keep Q (AnsweredTurn desk n answered.Moved) (λ x y a. f x y (answered.Moved, a)) t.moved c t.between t.moves q)
+settled_keep Q desk n f false most c d t q = times_keep Q (AnsweredTurn desk n answered.Moved) (λ x y a. f x y (answered.Moved, a)) most c d t q
 
 served_round : (desk : Ask → Grant) (c d : CastState) → Round desk c d → ServedIn desk c → ServedIn desk d
 served_round desk c d r s =
@@ -110,35 +189,32 @@ served_round desk c d r s =
 
 -- ---- lines
 
-told_served : (line : ReplayLine) (desk : Ask → Grant) (c : ConnState) → IsServed desk c → IsServed desk (told_of line c)
-told_served (Piece n bytes) desk c s = record { stands = s.stands; owed = s.owed; took = s.took }
-told_served (Eof n) desk c s = record { stands = s.stands; owed = s.owed; took = s.took }
-told_served (Room n left) desk c s = record { stands = s.stands; owed = s.owed; took = s.took }
-told_served (FailRecv n) desk c s = record { stands = s.stands; owed = s.owed; took = s.took }
-told_served (FailSend n) desk c s = record { stands = s.stands; owed = s.owed; took = s.took }
-told_served (Quit n) desk c s = record { stands = quit_stands c.ended desk c.session s.stands; owed = s.owed; took = s.took }
-  where
-    quit_stands : (e : Option End) (desk : Ask → Grant) (x : SessionState SeenState) → StandsIf e desk x → StandsIf e desk (record x { quit = true })
-    quit_stands None desk x h = h
-    quit_stands (Some e) desk x h = tt
-told_served Nothing desk c s = s
-told_served (Limits a b i q w) desk c s = s
-told_served (Stream app name) desk c s = s
-told_served (Guard n side mode key) desk c s = s
-told_served (OpenApp app n) desk c s = s
-told_served (GuardOpen n side mode key) desk c s = s
-told_served (Recorder n form) desk c s = s
-told_served Session desk c s = s
-told_served (FailPut n) desk c s = s
-told_served (Turn n k) desk c s = s
-told_served (Rec n k) desk c s = s
-told_served (Rounds k) desk c s = s
+quit_stands : (e : Option End) (desk : Ask → Grant) (x : SessionState SeenState) → StandsIf e desk x → StandsIf e desk (record x { quit = true })
+quit_stands None desk x h = h
+quit_stands (Some e) desk x h = tt
+
+linked_same : (line : ReplayLine) (l : MemLinkState) → (told_link line l).sent ≡ l.sent
+linked_same (Piece n bytes) l = refl
+linked_same (Eof n) l = refl
+linked_same (Room n left) l = refl
+linked_same (FailRecv n) l = refl
+linked_same (FailSend n) l = refl
+linked_same _ l = refl
+
+told_session : (line : ReplayLine) (desk : Ask → Grant) (c : ConnState) → IsServed desk c → IsServed desk (told_of line c)
+told_session (Quit n) desk c s = record { stands = quit_stands c.ended desk c.session s.stands; owed = s.owed; took = s.took }
+told_session line desk c s = record { stands = s.stands; owed = s.owed; took = linked_same line c.link ∙ s.took }
+
+told_served : (line : ReplayLine) (desk : Ask → Grant) (g : Guest) → GuestServed desk g → GuestServed desk (told_guest line g)
+told_served line desk (guest.Session c) s = told_session line desk c s
+told_served line desk (guest.Player c) s = record { stands = s.stands; owed = s.owed; took = linked_same line c.link ∙ s.took }
+told_served line desk (guest.Edge c) s = record { stands = s.stands; took = linked_same line c.link ∙ s.took }
 
 told_by_served : (o : Option ℕ) (line : ReplayLine) (desk : Ask → Grant) (c d : CastState) → ToldBy o line c d → ServedIn desk c → ServedIn desk d
 told_by_served None line desk c d t s = subst (ServedIn desk) (sym t) s
 told_by_served (Some n) line desk c d t s =
-    let new = told_served line desk t.old (all_at (IsServed desk) c.sessions n t.old t.there s) in
-    subst (All (IsServed desk)) (sym t.sessions) (All-set (IsServed desk) c.sessions n (told_of line t.old) new s)
+    let new = told_served line desk t.old (all_at (GuestServed desk) c.sessions n t.old t.there s) in
+    subst (All (GuestServed desk)) (sym t.sessions) (All-set (GuestServed desk) c.sessions n (told_guest line t.old) new s)
 
 new_served : (limits : AllLimits) (who : ℕ) (desk : Ask → Grant) (c : ConnState) → IsNewSession limits who c → IsServed desk c
 new_served limits who desk c n = record {
@@ -147,10 +223,27 @@ new_served limits who desk c n = record {
   took = ap (λ (l : MemLinkState). l.sent) n.link_is ∙ sym (ap (λ (p : Past). p.sent) n.past);
 }
 
+new_player : (limits : AllLimits) (who : ℕ) (desk : Ask → Grant) (c : PlayState) → IsNewPlayer limits who c → PlayerServed desk c
+new_player limits who desk c n = record {
+  stands = subst (λ (e : Option HttpEnd). PlayerStandsIf e desk c.player) (sym n.lives.1) (n.stands desk);
+  owed = owed_begins c.player.ended desk c.player (n.owed desk);
+  took = ap (λ (l : MemLinkState). l.sent) n.link_is ∙ sym n.empty.3;
+}
+
+new_edge : (limits : AllLimits) (who stream : ℕ) (app name : List ℕ) (c : PullState) → IsNewEdge limits who stream app name c → EdgeServed c
+new_edge limits who stream app name c n = record {
+  stands = n.stands;
+  took = ap (λ (l : MemLinkState). l.sent) n.link_is ∙ sym (ap (λ (p : client.Past). p.sent) n.client.past);
+}
+
 plays_served : (line : ReplayLine) (limits : AllLimits) (desk : Ask → Grant) (c d : CastState) → Plays limits desk line c d → ServedIn desk c → ServedIn desk d
 plays_served Session limits desk c d p s =
-    subst (All (IsServed desk)) (sym p.sessions) (All-push (IsServed desk) c.sessions p.new s (new_served limits (length c.sessions) desk p.new p.fresh))
-plays_served (FailPut n) limits desk c d p s = subst (All (IsServed desk)) (sym p.sessions) s
+    subst (All (GuestServed desk)) (sym p.sessions) (All-push (GuestServed desk) c.sessions (guest.Session p.new) s (new_served limits (length c.sessions) desk p.new p.fresh))
+plays_served OpenHttp limits desk c d p s =
+    subst (All (GuestServed desk)) (sym p.sessions) (All-push (GuestServed desk) c.sessions (guest.Player p.new) s (new_player limits (length c.sessions) desk p.new p.fresh))
+plays_served (OpenEdge n app name) limits desk c d p s =
+    subst (All (GuestServed desk)) (sym p.sessions) (All-push (GuestServed desk) c.sessions (guest.Edge p.new) s (new_edge limits (length c.sessions) n app name p.new p.fresh))
+plays_served (FailPut n) limits desk c d p s = subst (All (GuestServed desk)) (sym p.sessions) s
 plays_served (Turn n k) limits desk c d p s = times_keep (ServedIn desk) (TurnOf desk n) (served_of desk n) k c d p s
 plays_served (Rec n k) limits desk c d p s = times_keep (ServedIn desk) (RecTurnOf n) (served_rec desk n) k c d p s
 plays_served (Rounds k) limits desk c d p s = times_keep (ServedIn desk) (Round desk) (served_round desk) k c d p s
@@ -171,7 +264,7 @@ plays_served (Recorder n form) limits desk c d p s = told_by_served None (Record
 -- ---- a replay between two lines
 
 opened_served : (o : Option CastState) (s : SceneState) (desk : Ask → Grant) (c : CastState) → IsOpen o s c → ServedIf desk o → ServedIn desk c
-opened_served None s desk c new k = subst (All (IsServed desk)) (sym new.sessions) (All-nil (IsServed desk))
+opened_served None s desk c new k = subst (All (GuestServed desk)) (sym new.sessions) (All-nil (GuestServed desk))
 opened_served (Some d) s desk c e k = subst (ServedIn desk) (sym e) k
 
 -- what a stand says of the desk
@@ -215,6 +308,8 @@ line_served (Stream app name) s t e p c k = none_served s t _ e c
 line_served (Guard n side mode key) s t e p c k = none_served s t _ e c
 line_served (OpenApp app n) s t e p c k = none_served s t _ e c
 line_served (GuardOpen n side mode key) s t e p c k = none_served s t _ e c
+line_served OpenHttp s t e p c k = acts_served OpenHttp s t (stand_desk s t _ p (refl, refl)) c k
+line_served (OpenEdge n app name) s t e p c k = acts_served (OpenEdge n app name) s t (stand_desk s t _ p (refl, refl)) c k
 line_served Session s t e p c k = acts_served Session s t (stand_desk s t _ p (refl, refl)) c k
 line_served (FailPut n) s t e p c k = acts_served (FailPut n) s t (stand_desk s t _ p (refl, refl)) c k
 line_served (Turn n m) s t e p c k = acts_served (Turn n m) s t (stand_desk s t _ p (refl, refl)) c k

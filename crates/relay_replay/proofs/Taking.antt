@@ -25,13 +25,13 @@ room_most : (room : Option ℕ) (n : ℕ) → room_for room n ≤ n
 room_most None n = omega arith
 room_most (Some r) n = omega arith
 
-heard_same : (l : MemLinkState) (room : ℕ) (came : Came) (m : MemLinkState) → MemHears l room came m → m.sent ≡ l.sent
+pub heard_same : (l : MemLinkState) (room : ℕ) (came : Came) (m : MemLinkState) → MemHears l room came m → m.sent ≡ l.sent
 heard_same l room (CameBytes b) m h = ap (λ (k : MemLinkState). k.sent) h.2
 heard_same l room CameEnd m h = ap (λ (k : MemLinkState). k.sent) h.3
 heard_same l room CameNotYet m h = ap (λ (k : MemLinkState). k.sent) h.3
 heard_same l room CameFailed m h = ap (λ (k : MemLinkState). k.sent) h.1
 
-said_took : (l : MemLinkState) (p : List ℕ) (n : ℕ) (m : MemLinkState) → MemSays l (take 16384 p) (said.Took n) m → m.sent ≡ l.sent ++ take n p
+pub said_took : (l : MemLinkState) (p : List ℕ) (n : ℕ) (m : MemLinkState) → MemSays l (take 16384 p) (said.Took n) m → m.sent ≡ l.sent ++ take n p
 said_took l p n m h =
     let most : n ≤ 16384 = omega (arith, h.2, room_most l.room (length (take 16384 p)), length-take 16384 p) in
     ap (λ (k : MemLinkState). k.sent) h.3 ∙ ap (λ (b : List ℕ). l.sent ++ b) (take-take n 16384 p most)

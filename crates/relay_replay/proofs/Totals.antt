@@ -2,6 +2,7 @@
 use Rattle.std.proofs.Common.{inl, inr, ◌≡◌, ◌⊎◌, ◌<◌, ◌≤◌, ◌+◌, ◌*◌, ◌++◌, append_assoc, ℕ, zero}
 use Rattle.std.proofs.Common.{suc, List, [], ◌∷◌, All, length, map, take, get_or, slice_get}
 use Rattle.std.proofs.Common.{Option, Some, None, Result, Ok, Err, IfOk, refl, ap, sym, ◌∙◌, subst, arith}
+use Rattle.std.proofs.lemmas.Grind.{div_ceil_times}
 use Rattle.std.proofs.lemmas.List.Elements.{All-head, All-tail}
 use Rattle.std.proofs.Math.Nat.{add-mul}
 use Rattle.av_unit.specs.declared.bytes.OutOfMemory.{OutOfMemory}
@@ -17,9 +18,14 @@ use Rattle.stream_registry.specs.Books.{SoleRules, SoleState, shapes_in, sole_ru
 use Rattle.stream_registry.specs.Names.{places, shape_at, slots_sum}
 use Rattle.stream_registry.specs.declared.names.OpenName.{OpenName}
 use Rattle.stream_registry.proofs.Shaping.{listed, pooled}
-use Rattle.relay_replay.specs.Cast.{CastState, ConnState, RecState}
-use Rattle.relay_replay.specs.Prints.{AllHold, AreWithin, Holds, HoldsBy, RecHolds, StreamsWithin, TablesWithin, held_at}
-use Rattle.relay_replay.specs.Scenes.{IsLimited, IsPortOf, open_name}
+use Rattle.http_flv.specs.declared.end.HttpEnd.{HttpEnd}
+use Rattle.origin_pull.specs.declared.end.EdgeEnd.{EdgeEnd}
+use Rattle.relay_replay.specs.Guests.{ConnState, PlayState, PullState}
+use Rattle.relay_replay.specs.declared.guest.Guest.{Guest}
+use Rattle.relay_replay.specs.declared.guest.Guest.TheVariants as guest
+use Rattle.relay_replay.specs.Cast.{CastState, RecState}
+use Rattle.relay_replay.specs.Prints.{AllHold, AreWithin, EdgeHolds, GuestHolds, HoldsBy, PlayerHolds, RecHolds, StreamsWithin, TablesWithin, held_at}
+use Rattle.relay_replay.specs.Scenes.{IsLimited, IsPortOf, max_of, open_name}
 use Rattle.relay_replay.proofs.Keep.{as_many_places}
 use Rattle.relay_replay.proofs.Limiting.{limits_there}
 
@@ -172,6 +178,22 @@ session_most : (e : Option End) (l : Limits) (c : ConnState) (n : ℕ) → c.ses
 session_most None l c n m h = omega (arith, h.1, m)
 session_most (Some e) l c n m h = omega (arith, h)
 
+player_most : (e : Option HttpEnd) (l : Limits) (c : PlayState) (n : ℕ) → c.player.parts.longest ≡ l.max_message → PlayerHolds e c n → n ≤ session_bytes l
+player_most None l c n m h = omega (arith, h.1, m)
+player_most (Some e) l c n m h = omega (arith, h)
+
+-- 512 of a byte more for each 512, rounded down, are no more than rounded up
+edge_most : (e : Option EdgeEnd) (l : Limits) (c : PullState) (n : ℕ) → c.edge.client.parts.reader.max ≡ l.max_message → EdgeHolds e c n → n ≤ session_bytes l
+edge_most None l c n m h =
+    let up = div_ceil_times l.max_message 512 (omega arith) in
+    omega (arith, h.1, m, up.0)
+edge_most (Some e) l c n m h = omega (arith, h)
+
+guest_most : (l : Limits) (g : Guest) (n : ℕ) → max_of g ≡ l.max_message → GuestHolds g n → n ≤ session_bytes l
+guest_most l (guest.Session c) n m h = session_most c.ended l c n m h
+guest_most l (guest.Player c) n m h = player_most c.ended l c n m h
+guest_most l (guest.Edge c) n m h = edge_most c.ended l c n m h
+
 recorder_most : (l : Limits) (r : RecState) (n : ℕ) → r.recorder.tape.longest ≡ l.max_message → RecHolds r n → n ≤ recorder_bytes l
 recorder_most l r n m h = omega (arith, h.1, m)
 
@@ -187,13 +209,13 @@ slot_there [] h = absurd (omega (arith, h))
 slot_there (o ∷ opens) h = omega arith
 
 pub total_within : (l : Limits) (streams : ℕ) (c : CastState) (sessions recorders held open_held : ℕ) → length c.port.rules.names ≡ streams → IsLimited l c
-    → AllHold Holds c.sessions sessions → AllHold RecHolds c.recorders recorders → held ≤ streams * (c.port.rules.limits.bytes + 196608)
+    → AllHold GuestHolds c.sessions sessions → AllHold RecHolds c.recorders recorders → held ≤ streams * (c.port.rules.limits.bytes + 196608)
     → open_held ≤ slots_sum c.port.rules.opens * (c.port.rules.limits.bytes + 196672)
     → sessions + recorders + (held + open_held) ≤ total_of l streams (slots_sum c.port.rules.opens) (length c.sessions) (length c.recorders)
 total_within l streams c sessions recorders held open_held many k s r h o =
     let names = slots_sum c.port.rules.opens in
     let by_sessions : sessions ≤ length c.sessions * session_bytes l =
-    all_within Holds (λ (x : ConnState). x.session.parts.reader.max ≡ l.max_message) (session_bytes l) (λ x n. session_most x.ended l x n) c.sessions sessions
+    all_within GuestHolds (λ (g : Guest). max_of g ≡ l.max_message) (session_bytes l) (guest_most l) c.sessions sessions
     k.sessions s in
     let by_recorders : recorders ≤ length c.recorders * recorder_bytes l =
     all_within RecHolds (λ (x : RecState). x.recorder.tape.longest ≡ l.max_message) (recorder_bytes l) (recorder_most l) c.recorders recorders

@@ -3,7 +3,7 @@ use Rattle.std.specs.Prelude.{◌≡◌, ◌<◌, ℕ, zero, suc, Bool, true, fa
 use Rattle.av_unit.specs.declared.item.Item.{Item}
 use Rattle.command_dialog.specs.declared.types.Ask.{Ask}
 use Rattle.command_dialog.specs.declared.types.Grant.{Grant}
-use Rattle.relay_outside.specs.MemLinks.{MemLinkState, MemHears, MemSays}
+use Rattle.relay_outside.specs.MemLinks.{MemHears, MemSays}
 use Rattle.stream_model.specs.declared.calls.Entry.{Entry}
 use Rattle.stream_registry.specs.Books.{SoleState, SeenState, FitsSole, journal_at, sole_rules}
 use Rattle.stream_registry.specs.Splits.{Kin}
@@ -36,13 +36,18 @@ use Rattle.relay_script.specs.declared.replay.Form.TheVariants.{Flv, Ts}
 use Rattle.relay_replay.specs.declared.recording.Writer.{Writer}
 use Rattle.relay_replay.specs.declared.recording.Writer.TheVariants as writer
 use Rattle.relay_replay.specs.Files.{FileState, FileTakes}
-
--- a session with its link
-pub record ConnState : Type 0 where
-  pub session : SessionState SeenState
-  pub link : MemLinkState
-  -- why it has ended, if it has
-  pub ended : Option End
+use Rattle.relay_replay.specs.Guests.{ConnState, PlayState, PullState}
+use Rattle.relay_replay.specs.Turning.{EdgeTurnBy, PlayerTurn}
+use Rattle.relay_replay.specs.declared.guest.Guest.{Guest}
+use Rattle.relay_replay.specs.declared.guest.Guest.TheVariants as guest
+use Rattle.relay_replay.specs.declared.guest.Answered.{Answered}
+use Rattle.relay_replay.specs.declared.guest.Answered.TheVariants as answered
+use Rattle.http_flv.specs.declared.end.HttpEnd.{HttpEnd}
+use Rattle.http_flv.specs.declared.turn.HttpTurn.{HttpTurn}
+use Rattle.http_flv.specs.declared.turn.HttpTurn.TheVariants as http_turn
+use Rattle.origin_pull.specs.declared.end.EdgeEnd.{EdgeEnd}
+use Rattle.origin_pull.specs.declared.turn.EdgeTurn.{EdgeTurn}
+use Rattle.origin_pull.specs.declared.turn.EdgeTurn.TheVariants as edge_turn
 
 -- a recorder with its form and its file
 pub record RecState : Type 0 where
@@ -72,7 +77,8 @@ IsText f r = r.tape.sent ++ r.tape.pending ≡ text_in f (taken r.seat.calls)
 pub record CastState : Type 0 where
   -- the streams
   pub port : SoleState
-  pub sessions : List ConnState
+  -- sessions, players over HTTP and edges
+  pub sessions : List Guest
   pub recorders : List RecState
 
 -- ---- what the streams say of a call
@@ -153,15 +159,59 @@ abbrev pub SessionTurn : Option End → (Ask → Grant) → SoleState → ConnSt
 SessionTurn (Some e) desk port c port' d = (d ≡ c) × (port' ≡ port)
 SessionTurn None desk port c port' d = Turned desk port c port' d
 
--- what a turn was answered; one that has ended is asked nothing
-abbrev pub answer_in : (e : Option End) (desk : Ask → Grant) (port : SoleState) (c : ConnState) (port' : SoleState) (d : ConnState)
-    → SessionTurn e desk port c port' d → Option Turn
-answer_in None desk port c port' d t = Some t.answer
-answer_in (Some e) desk port c port' d t = None
+-- what a turn was answered, by its kind
+abbrev pub told_turn : Turn → Answered
+told_turn Moved = answered.Moved
+told_turn Idle = answered.Idle
+told_turn (Ended e) = answered.Ended
 
--- a turn that was answered so
-abbrev pub AnsweredBy : Option Turn → Option End → (Ask → Grant) → SoleState → ConnState → SoleState → ConnState → Type 0
-AnsweredBy a e desk port c port' d = (t : SessionTurn e desk port c port' d) × (answer_in e desk port c port' d t ≡ a)
+abbrev pub told_http : HttpTurn → Answered
+told_http http_turn.Moved = answered.Moved
+told_http http_turn.Idle = answered.Idle
+told_http (http_turn.Ended e) = answered.Ended
+
+abbrev pub told_edge : EdgeTurn → Answered
+told_edge edge_turn.Moved = answered.Moved
+told_edge edge_turn.Idle = answered.Idle
+told_edge (edge_turn.Ended e) = answered.Ended
+
+-- one that has ended is asked nothing
+abbrev pub session_answer : (e : Option End) (desk : Ask → Grant) (port : SoleState) (c : ConnState) (port' : SoleState) (d : ConnState) → SessionTurn e desk port c port' d → Answered
+session_answer None desk port c port' d t = told_turn t.answer
+session_answer (Some e) desk port c port' d t = answered.Nothing
+
+abbrev pub player_answer : (e : Option HttpEnd) (desk : Ask → Grant) (port : SoleState) (c : PlayState) (port' : SoleState) (d : PlayState) → PlayerTurn e desk port c port' d → Answered
+player_answer None desk port c port' d t = told_http t.answer
+player_answer (Some e) desk port c port' d t = answered.Nothing
+
+abbrev pub edge_answer : (e : Option EdgeEnd) (port : SoleState) (c : PullState) (port' : SoleState) (d : PullState) → EdgeTurnBy e port c port' d → Answered
+edge_answer None port c port' d t = told_edge t.answer
+edge_answer (Some e) port c port' d t = answered.Nothing
+
+-- turns that were answered so
+abbrev pub AnsweredBy : Answered → Option End → (Ask → Grant) → SoleState → ConnState → SoleState → ConnState → Type 0
+AnsweredBy a e desk port c port' d = (t : SessionTurn e desk port c port' d) × (session_answer e desk port c port' d t ≡ a)
+
+abbrev pub PlayerAnsweredBy : Answered → Option HttpEnd → (Ask → Grant) → SoleState → PlayState → SoleState → PlayState → Type 0
+PlayerAnsweredBy a e desk port c port' d = (t : PlayerTurn e desk port c port' d) × (player_answer e desk port c port' d t ≡ a)
+
+abbrev pub EdgeAnsweredBy : Answered → Option EdgeEnd → SoleState → PullState → SoleState → PullState → Type 0
+EdgeAnsweredBy a e port c port' d = (t : EdgeTurnBy e port c port' d) × (edge_answer e port c port' d t ≡ a)
+
+-- A TURN of what was opened, by its kind
+abbrev pub OfSession : Answered → (Ask → Grant) → SoleState → ConnState → SoleState → Guest → Type 0
+OfSession a desk port c port' g = (d : ConnState) × (g ≡ guest.Session d) × AnsweredBy a c.ended desk port c port' d
+
+abbrev pub OfPlayer : Answered → (Ask → Grant) → SoleState → PlayState → SoleState → Guest → Type 0
+OfPlayer a desk port c port' g = (d : PlayState) × (g ≡ guest.Player d) × PlayerAnsweredBy a c.ended desk port c port' d
+
+abbrev pub OfEdge : Answered → SoleState → PullState → SoleState → Guest → Type 0
+OfEdge a port c port' g = (d : PullState) × (g ≡ guest.Edge d) × EdgeAnsweredBy a c.ended port c port' d
+
+abbrev pub GuestTurn : Answered → (Ask → Grant) → SoleState → Guest → SoleState → Guest → Type 0
+GuestTurn a desk port (guest.Session c) port' g = OfSession a desk port c port' g
+GuestTurn a desk port (guest.Player c) port' g = OfPlayer a desk port c port' g
+GuestTurn a desk port (guest.Edge c) port' g = OfEdge a port c port' g
 
 -- ---- a recorder's turn
 
@@ -213,14 +263,18 @@ pub record RecorderTurn (port : SoleState) (c : RecState) (port' : SoleState) (d
 
 -- ---- turns in the cast
 
-pub record TurnOf (desk : Ask → Grant) (n : ℕ) (c d : CastState) : Type 0 where
-  pub old : ConnState
-  pub new : ConnState
+-- a turn that was answered so
+pub record AnsweredTurn (desk : Ask → Grant) (n : ℕ) (answer : Answered) (c d : CastState) : Type 0 where
+  pub old : Guest
+  pub new : Guest
   pub there : slice_get c.sessions n ≡ Some old
-  pub turn : SessionTurn old.ended desk c.port old d.port new
+  pub turn : GuestTurn answer desk c.port old d.port new
   pub fixed : sole_rules d.port.rules ≡ sole_rules c.port.rules
   pub sessions : d.sessions ≡ slice_set c.sessions n new
   pub recorders : d.recorders ≡ c.recorders
+
+abbrev pub TurnOf : (Ask → Grant) → ℕ → CastState → CastState → Type 0
+TurnOf desk n c d = (a : Answered) × AnsweredTurn desk n a c d
 
 pub record RecTurnOf (n : ℕ) (c d : CastState) : Type 0 where
   pub old : RecState
@@ -230,11 +284,6 @@ pub record RecTurnOf (n : ℕ) (c d : CastState) : Type 0 where
   pub fixed : sole_rules d.port.rules ≡ sole_rules c.port.rules
   pub recorders : d.recorders ≡ slice_set c.recorders n new
   pub sessions : d.sessions ≡ c.sessions
-
--- the same of a turn that was answered so
-pub record AnsweredTurn (desk : Ask → Grant) (n : ℕ) (answer : Option Turn) (c d : CastState) : Type 0 where
-  pub turn : TurnOf desk n c d
-  pub answer_is : answer_in turn.old.ended desk c.port turn.old d.port turn.new turn.turn ≡ answer
 
 -- so many steps, one after another
 abbrev pub Times : {A : Type 0} → ℕ → (A → A → Type 0) → A → A → Type 0
@@ -254,23 +303,23 @@ pub record Round (desk : Ask → Grant) (c d : CastState) : Type 0 where
 
 -- ---- turns of a session until it is idle
 
-abbrev pub is_moved : Option Turn → Bool
-is_moved None = false
-is_moved (Some Moved) = true
-is_moved (Some Idle) = false
-is_moved (Some (Ended e)) = false
+abbrev pub is_moved : Answered → Bool
+is_moved answered.Nothing = false
+is_moved answered.Moved = true
+is_moved answered.Idle = false
+is_moved answered.Ended = false
 
 -- TURNS UNTIL IT IS IDLE, or has ended, so many at most: all but the last moved something
 pub record Settles (most : ℕ) (desk : Ask → Grant) (n : ℕ) (c d : CastState) : Type 0 where
   pub moved : ℕ
   pub few : moved < most
   pub between : CastState
-  pub moves : Times moved (AnsweredTurn desk n (Some Moved)) c between
-  pub answer : Option Turn
+  pub moves : Times moved (AnsweredTurn desk n answered.Moved) c between
+  pub answer : Answered
   pub last : AnsweredTurn desk n answer between d
   pub still : is_moved answer ≡ false
 
 -- the same, or so many turns that all moved something
 abbrev pub SettledBy : Bool → ℕ → (Ask → Grant) → ℕ → CastState → CastState → Type 0
 SettledBy true most desk n c d = Settles most desk n c d
-SettledBy false most desk n c d = Times most (AnsweredTurn desk n (Some Moved)) c d
+SettledBy false most desk n c d = Times most (AnsweredTurn desk n answered.Moved) c d

@@ -1,4 +1,6 @@
 pub mod Files
+pub mod Guests
+pub mod Turning
 pub mod Stand
 pub mod Cast
 pub mod Plays

@@ -18,7 +18,20 @@ use Rattle.stream_model.specs.Shape.{shape_held}
 use Rattle.stream_registry.specs.Books.{SoleState, journal_at, shapes_in}
 use Rattle.stream_registry.specs.Names.{shape_at}
 use Rattle.stream_registry.specs.declared.names.OpenName.{OpenName}
-use Rattle.relay_replay.specs.Cast.{ConnState, RecState, CastState}
+use Rattle.http_flv.specs.PlayerState as http
+use Rattle.http_flv.specs.declared.end.HttpEnd.{HttpEnd}
+use Rattle.http_flv.specs.declared.end.HttpEnd.TheVariants as http_end
+use Rattle.rtmp_client.specs.Bounds.{IsWithin}
+use Rattle.rtmp_client.specs.declared.end.ClientEnd.{ClientEnd}
+use Rattle.rtmp_client.specs.declared.end.ClientEnd.TheVariants as client_end
+use Rattle.origin_pull.specs.EdgeState as edge
+use Rattle.origin_pull.specs.declared.end.EdgeEnd.{EdgeEnd}
+use Rattle.origin_pull.specs.declared.end.EdgeEnd.TheVariants as edge_end
+use Rattle.relay_replay.specs.Guests.{ConnState, PlayState, PullState}
+use Rattle.relay_replay.specs.declared.guest.Guest.{Guest}
+use Rattle.relay_replay.specs.declared.guest.Guest.TheVariants as guest
+use Rattle.relay_replay.specs.Plays.{link_of}
+use Rattle.relay_replay.specs.Cast.{RecState, CastState}
 use Rattle.relay_replay.specs.Scenes.{SceneState, IsOpen}
 
 -- HEX
@@ -50,6 +63,44 @@ end_text (Some end.Quit) = codes "quit"
 end_text (Some end.Worn) = codes "worn"
 end_text (Some end.OutOfMemory) = codes "outofmemory"
 
+-- of a player over HTTP
+abbrev pub http_end_text : Option HttpEnd → List ℕ
+http_end_text None = codes "none"
+http_end_text (Some http_end.PeerClosed) = codes "peerclosed"
+http_end_text (Some http_end.LinkFault) = codes "linkfault"
+http_end_text (Some (http_end.Answered code)) = codes "answered " ++ decimal code
+http_end_text (Some http_end.Worn) = codes "worn"
+http_end_text (Some http_end.OutOfMemory) = codes "outofmemory"
+http_end_text (Some http_end.Closed) = codes "closed"
+
+-- of an edge's client
+abbrev pub client_end_text : Option ClientEnd → List ℕ
+client_end_text None = codes "none"
+client_end_text (Some client_end.PeerClosed) = codes "peerclosed"
+client_end_text (Some client_end.LinkFault) = codes "linkfault"
+client_end_text (Some (client_end.BadVersion at)) = codes "badversion " ++ decimal at
+client_end_text (Some (client_end.BadChunk cause at)) = codes "badchunk " ++ cause_text cause ++ codes " " ++ decimal at
+client_end_text (Some (client_end.BadControl at)) = codes "badcontrol " ++ decimal at
+client_end_text (Some (client_end.BadCommand at)) = codes "badcommand " ++ decimal at
+client_end_text (Some (client_end.Refused code)) = codes "refused"
+client_end_text (Some client_end.Done) = codes "done"
+client_end_text (Some client_end.OutOfMemory) = codes "outofmemory"
+
+-- and of the edge
+abbrev pub edge_end_text : Option EdgeEnd → Option ClientEnd → List ℕ
+edge_end_text None e = codes "none"
+edge_end_text (Some edge_end.Client) e = client_end_text e
+edge_end_text (Some (edge_end.InUse by)) e = codes "inuse"
+edge_end_text (Some edge_end.NoSlot) e = codes "noslot"
+edge_end_text (Some edge_end.Worn) e = codes "worn"
+edge_end_text (Some edge_end.OutOfMemory) e = codes "outofmemory"
+edge_end_text (Some edge_end.Closed) e = codes "closed"
+
+abbrev pub end_words : Guest → List ℕ
+end_words (guest.Session c) = end_text c.ended
+end_words (guest.Player c) = http_end_text c.ended
+end_words (guest.Edge c) = edge_end_text c.ended c.edge.client.ended
+
 abbrev pub rec_end_text : Option RecEnd → List ℕ
 rec_end_text None = codes "none"
 rec_end_text (Some rec_end.SinkFault) = codes "sinkfault"
@@ -59,9 +110,9 @@ rec_end_text (Some rec_end.OutOfMemory) = codes "outofmemory"
 
 -- ---- lines
 
-abbrev pub session_lines : ℕ → List ℕ → Option End → List ℕ
-session_lines n sent ended =
-    codes "session " ++ decimal n ++ codes " sent " ++ hex_text sent ++ codes "\nsession " ++ decimal n ++ codes " end " ++ end_text ended ++ codes "\n"
+abbrev pub session_lines : ℕ → List ℕ → List ℕ → List ℕ
+session_lines n sent words =
+    codes "session " ++ decimal n ++ codes " sent " ++ hex_text sent ++ codes "\nsession " ++ decimal n ++ codes " end " ++ words ++ codes "\n"
 
 abbrev pub recorder_lines : ℕ → List ℕ → Option RecEnd → List ℕ
 recorder_lines n file ended =
@@ -77,9 +128,9 @@ abbrev pub held_line : ℕ → ℕ → List ℕ
 held_line total sum = codes "held " ++ decimal total ++ codes " sum " ++ decimal sum ++ codes "\n"
 
 -- from number n on
-abbrev pub sessions_text : ℕ → List ConnState → List ℕ
+abbrev pub sessions_text : ℕ → List Guest → List ℕ
 sessions_text n [] = []
-sessions_text n (c ∷ cs) = session_lines n c.link.sent c.ended ++ sessions_text (n + 1) cs
+sessions_text n (g ∷ gs) = session_lines n (link_of g).sent (end_words g) ++ sessions_text (n + 1) gs
 
 abbrev pub recorders_text : ℕ → List RecState → List ℕ
 recorders_text n [] = []
@@ -114,6 +165,19 @@ HoldsBy (Some e) c n = n ≡ 0
 abbrev pub Holds : ConnState → ℕ → Type 0
 Holds c n = HoldsBy c.ended c n
 
+abbrev pub PlayerHolds : Option HttpEnd → PlayState → ℕ → Type 0
+PlayerHolds None c n = (n ≡ http.held_of c.player.parts) × (n ≤ http.most_held c.player.parts.longest)
+PlayerHolds (Some e) c n = n ≡ 0
+
+abbrev pub EdgeHolds : Option EdgeEnd → PullState → ℕ → Type 0
+EdgeHolds None c n = edge.Holds c.edge.parts c.edge.client n × IsWithin c.edge.client.parts.reader.max n
+EdgeHolds (Some e) c n = n ≡ 0
+
+abbrev pub GuestHolds : Guest → ℕ → Type 0
+GuestHolds (guest.Session c) n = Holds c n
+GuestHolds (guest.Player c) n = PlayerHolds c.ended c n
+GuestHolds (guest.Edge c) n = EdgeHolds c.ended c n
+
 -- what a recorder's file is yet to take, and what its medium keeps
 abbrev pub RecHolds : RecState → ℕ → Type 0
 RecHolds r n = (n ≡ length r.recorder.tape.pending + r.recorder.tape.kept) × (n ≤ most_recorded r.recorder.tape.longest)
@@ -138,7 +202,7 @@ TablesWithin port streams k =
 -- TOTAL: the sum of what the open sessions, the recorders, the streams and the open tables hold
 pub record IsTotal (streams tables : ℕ) (c : CastState) (total : ℕ) : Type 0 where
   pub by_sessions : ℕ
-  pub sessions : AllHold Holds c.sessions by_sessions
+  pub sessions : AllHold GuestHolds c.sessions by_sessions
   pub by_recorders : ℕ
   pub recorders : AllHold RecHolds c.recorders by_recorders
   pub total_is : total ≡ by_sessions + by_recorders + (streams_hold c.port streams + opens_hold c.port streams tables)

@@ -19,10 +19,19 @@ use Rattle.relay_session.specs.SessionState.{SessionState}
 use Rattle.relay_session.specs.declared.end.End.{End}
 use Rattle.relay_script.specs.declared.replay.ReplayLine.{ReplayLine}
 use Rattle.relay_script.specs.declared.replay.ReplayLine.TheVariants.{Nothing, Limits, Stream, Guard, Recorder, Session, Piece, Eof, Room, FailRecv, FailSend}
-use Rattle.relay_script.specs.declared.replay.ReplayLine.TheVariants.{FailPut, Turn, Rec, Quit, OpenApp, GuardOpen}
+use Rattle.relay_script.specs.declared.replay.ReplayLine.TheVariants.{FailPut, Turn, Rec, Quit, OpenApp, GuardOpen, OpenHttp, OpenEdge}
 use Rattle.relay_replay.specs.declared.recording.Plan.{Plan}
 use Rattle.relay_replay.specs.Stand.{Stand, acted, after, count, defaults}
-use Rattle.relay_replay.specs.Cast.{ConnState, RecState, CastState, SettledBy, text_in}
+use Rattle.http_flv.specs.Keeping as http
+use Rattle.http_flv.specs.PlayerState.{PlayerState}
+use Rattle.http_flv.specs.declared.end.HttpEnd.{HttpEnd}
+use Rattle.origin_pull.specs.Keeping as edge
+use Rattle.origin_pull.specs.EdgeState.{EdgeState}
+use Rattle.origin_pull.specs.declared.end.EdgeEnd.{EdgeEnd}
+use Rattle.relay_replay.specs.Guests.{ConnState}
+use Rattle.relay_replay.specs.declared.guest.Guest.{Guest}
+use Rattle.relay_replay.specs.declared.guest.Guest.TheVariants as guest
+use Rattle.relay_replay.specs.Cast.{RecState, CastState, SettledBy, text_in}
 use Rattle.relay_replay.specs.Plays.{Plays}
 
 pub record SceneState : Type 0 where
@@ -147,6 +156,20 @@ ReadyBy (Some e) port s = Unit {0}
 abbrev pub Ready : SoleState → ConnState → Type 0
 Ready port c = ReadyBy c.ended port c.session
 
+abbrev pub PlayerReady : Option HttpEnd → SoleState → PlayerState SeenState → Type 0
+PlayerReady None port s = http.IsAt (FitsSole port) (places (sole_rules port.rules)) s.parts s.seat
+PlayerReady (Some e) port s = Unit {0}
+
+abbrev pub EdgeReady : Option EdgeEnd → SoleState → EdgeState SeenState → Type 0
+EdgeReady None port s = edge.IsAt (FitsSole port) (places (sole_rules port.rules)) s.parts s.seat
+EdgeReady (Some e) port s = Unit {0}
+
+-- so does a player, and an edge
+abbrev pub ReadyGuest : SoleState → Guest → Type 0
+ReadyGuest port (guest.Session c) = Ready port c
+ReadyGuest port (guest.Player c) = PlayerReady c.ended port c.player
+ReadyGuest port (guest.Edge c) = EdgeReady c.ended port c.edge
+
 -- and so does a recorder
 abbrev pub Fits : SoleState → RecState → Type 0
 Fits port r = (r.recorder.seat.place < length (sole_rules port.rules).names) × FitsIf (FitsSole port r.recorder.seat.place) r.recorder.seat.pass
@@ -155,7 +178,7 @@ Fits port r = (r.recorder.seat.place < length (sole_rules port.rules).names) × 
 pub record Sits (streams : List PlaceRule) (opens : List OpenRule) (files : ℕ) (c : CastState) : Type 0 where
   pub port : IsPortOf streams opens c.port
   pub few : length c.sessions ≤ 64
-  pub sessions : All (Ready c.port) c.sessions
+  pub sessions : All (ReadyGuest c.port) c.sessions
   pub count : length c.recorders ≡ files
   pub recorders : All (Fits c.port) c.recorders
 
@@ -167,10 +190,16 @@ SitsIf streams opens recorders (Some c) = Sits streams opens recorders c
 abbrev pub HaveLimits : AllLimits → PortRules → Type 0
 HaveLimits l r = (q : ℕ) → q < places r → (r.limits q).limits ≡ stream_limits l
 
+-- the longest message that it takes or sends
+abbrev pub max_of : Guest → ℕ
+max_of (guest.Session c) = c.session.parts.reader.max
+max_of (guest.Player c) = c.player.parts.longest
+max_of (guest.Edge c) = c.edge.client.parts.reader.max
+
 -- WHAT RUNS KEEPS THE LIMITS of its script: those of the places, and the longest message of the sessions and the recorders
 pub record IsLimited (l : AllLimits) (c : CastState) : Type 0 where
   pub streams : HaveLimits l (sole_rules c.port.rules)
-  pub sessions : All (λ s. s.session.parts.reader.max ≡ l.max_message) c.sessions
+  pub sessions : All (λ g. max_of g ≡ l.max_message) c.sessions
   pub recorders : All (λ r. r.recorder.tape.longest ≡ l.max_message) c.recorders
 
 abbrev pub LimitedIf : AllLimits → Option CastState → Type 0
@@ -197,9 +226,15 @@ pub record IsSound (s : SceneState) : Type 0 where
   pub cast : SitsIf s.places s.opens (length s.recorders) s.cast
   pub limited : LimitedBy s.fresh s.limits s.cast
 
+-- names of 1 to 64 bytes
+abbrev pub AreShort : List ℕ → List ℕ → Type 0
+AreShort app name = (1 ≤ length app) × (length app ≤ 64) × (1 ≤ length name) × (length name ≤ 64)
+
 -- the session or recorder that it names is there, and a session more finds room
 abbrev pub IsThere : ReplayLine → CastState → Type 0
 IsThere Session c = length c.sessions < 64
+IsThere OpenHttp c = length c.sessions < 64
+IsThere (OpenEdge n app name) c = (length c.sessions < 64) × (n < places (sole_rules c.port.rules)) × AreShort app name
 IsThere (Piece n bytes) c = n < length c.sessions
 IsThere (Eof n) c = n < length c.sessions
 IsThere (Room n left) c = n < length c.sessions
@@ -214,4 +249,6 @@ IsThere _ c = Unit {0}
 -- how many sessions are open after a line
 abbrev pub opened_by : ReplayLine → ℕ → ℕ
 opened_by Session n = n + 1
+opened_by OpenHttp n = n + 1
+opened_by (OpenEdge k app name) n = n + 1
 opened_by _ n = n

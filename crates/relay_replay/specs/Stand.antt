@@ -18,7 +18,7 @@ use Rattle.relay_script.specs.declared.replay.Side.{Side}
 use Rattle.relay_script.specs.declared.replay.Side.TheVariants.{Publish, Play}
 use Rattle.relay_script.specs.declared.replay.ReplayLine.{ReplayLine}
 use Rattle.relay_script.specs.declared.replay.ReplayLine.TheVariants.{Nothing, Limits, Stream, Guard, Recorder, Session, Piece, Eof, Room, FailRecv, FailSend}
-use Rattle.relay_script.specs.declared.replay.ReplayLine.TheVariants.{FailPut, Turn, Rec, All, Quit, OpenApp, GuardOpen}
+use Rattle.relay_script.specs.declared.replay.ReplayLine.TheVariants.{FailPut, Turn, Rec, All, Quit, OpenApp, GuardOpen, OpenHttp, OpenEdge}
 use Rattle.relay_replay.specs.declared.recording.Plan.{Plan}
 
 -- what the lines so far have said
@@ -141,6 +141,14 @@ has_session n s = nat_lt n (count s.sessions)
 abbrev pub has_recorder : ℕ → Stand → Bool
 has_recorder n s = nat_lt n (length s.recorders)
 
+-- a session, a player or an edge more
+abbrev pub has_room : Stand → Bool
+has_room s = nat_lt (count s.sessions) 64
+
+-- a name that an edge may ask for
+abbrev pub is_short : List ℕ → Bool
+is_short name = nat_le 1 (length name) && nat_le (length name) 64
+
 abbrev pub allows : ReplayLine → Stand → Bool
 allows Nothing s = true
 allows (Limits message bytes items players window) s = s.fresh && (nat_le message 4194304 && nat_le bytes 268435456)
@@ -149,7 +157,9 @@ allows (Guard n side mode key) s = is_setting s.sessions && takes_at (slice_get 
 allows (OpenApp app n) s = is_setting s.sessions && takes_table app n s
 allows (GuardOpen n side mode key) s = is_setting s.sessions && table_takes (slice_get s.opens n) mode
 allows (Recorder n form) s = is_setting s.sessions && nat_lt n (length s.places)
-allows Session s = nat_lt (count s.sessions) 64
+allows Session s = has_room s
+allows OpenHttp s = has_room s
+allows (OpenEdge n app name) s = has_room s && (nat_lt n (length s.places) && (is_short app && is_short name))
 allows (Piece n bytes) s = has_session n s
 allows (Eof n) s = has_session n s
 allows (Room n left) s = has_session n s
@@ -183,6 +193,8 @@ after (OpenApp app n) s = with_opens (s.opens ++ open_table app n ∷ []) s
 after (GuardOpen n side mode key) s = with_opens (table_keyed_at s.opens n (slice_get s.opens n) side mode key) s
 after (Recorder n form) s = record s { fresh = false; recorders = s.recorders ++ plan n form ∷ [] }
 after Session s = acted (count s.sessions + 1) s
+after OpenHttp s = acted (count s.sessions + 1) s
+after (OpenEdge n app name) s = acted (count s.sessions + 1) s
 after _ s = acted (count s.sessions) s
 
 -- the same of a line that may be outside the grammar by itself

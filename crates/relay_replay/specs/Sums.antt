@@ -9,7 +9,9 @@ use Rattle.stream_model.specs.declared.replies.Reply.{Reply}
 use Rattle.stream_model.specs.declared.replies.Reply.TheVariants.{Sent}
 use Rattle.stream_registry.specs.Books.{journal_at}
 use Rattle.stream_registry.specs.Told.{Step}
-use Rattle.relay_replay.specs.Cast.{ConnState, CastState}
+use Rattle.relay_replay.specs.declared.guest.Guest.{Guest}
+use Rattle.relay_replay.specs.Plays.{link_of}
+use Rattle.relay_replay.specs.Cast.{CastState}
 use Rattle.relay_replay.specs.Prints.{IsTotal, held_line, most_of}
 use Rattle.relay_replay.specs.Scenes.{SceneState, IsOpen}
 
@@ -39,9 +41,9 @@ player_line n calls sent =
     ++ codes " bytes " ++ decimal (length sent) ++ codes "\n"
 
 -- of the sessions from number n on
-abbrev pub players_text : ℕ → List Step → List ConnState → List ℕ
+abbrev pub players_text : ℕ → List Step → List Guest → List ℕ
 players_text n calls [] = []
-players_text n calls (c ∷ cs) = player_line n calls c.link.sent ++ players_text (n + 1) calls cs
+players_text n calls (g ∷ gs) = player_line n calls (link_of g).sent ++ players_text (n + 1) calls gs
 
 -- of all sessions but the first, with that total
 abbrev pub summary_of : Limits → List PlaceRule → List OpenRule → CastState → ℕ → List ℕ

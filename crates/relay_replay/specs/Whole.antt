@@ -1,4 +1,4 @@
--- THE WHOLE OF A RUN on one thread, from the bytes of its script to what each session was sent and each file has.
+-- THE WHOLE OF A RUN on one thread that opens sessions alone, from the bytes of its script to what each session was sent and each file has.
 use Rattle.std.specs.Prelude.{◌≡◌, ◌⊎◌, ◌<◌, ◌≤◌, ◌+◌, ◌^◌, ◌++◌, ℕ, if◌then◌else◌, nat_eq, List, [], length, reverse, slice_get, All, Option, None, Some}
 use Rattle.std.specs.List.{concat}
 use Rattle.command_dialog.specs.declared.types.Ask.{Ask}
@@ -14,7 +14,10 @@ use Rattle.relay_session.specs.SessionState.{IsWhole}
 use Rattle.relay_session.specs.declared.end.End.{End}
 use Rattle.relay_script.specs.declared.replay.ReplayLine.{ReplayLine}
 use Rattle.relay_script.specs.declared.replay.ReplayLine.TheVariants.{Piece}
-use Rattle.relay_replay.specs.Cast.{CastState, ConnState, RecState}
+use Rattle.relay_replay.specs.Guests.{ConnState}
+use Rattle.relay_replay.specs.declared.guest.Guest.{Guest}
+use Rattle.relay_replay.specs.declared.guest.Guest.TheVariants as guest
+use Rattle.relay_replay.specs.Cast.{CastState, RecState}
 use Rattle.relay_replay.specs.Recorded.{IsRecorded}
 use Rattle.relay_replay.specs.Scenes.{SceneState, desk_of}
 use Rattle.relay_replay.specs.Served.{StandsIf}
@@ -80,13 +83,26 @@ pub record IsRun (desk : Ask → Grant) (given : ℕ → List ℕ) (c : CastStat
   pub ours : (q : ℕ) → All (λ step. IsOurs c step.0.who) (journal_at c.port.books q)
   pub few : length c.sessions ≤ 64
   pub unopened : (n : ℕ) → length c.sessions ≤ n → given n ≡ []
-  pub sessions : (n : ℕ) (s : ConnState) → slice_get c.sessions n ≡ Some s → Follows desk (journal_at c.port.books) (given n) n s
+  pub sessions : (n : ℕ) (s : ConnState) → slice_get c.sessions n ≡ Some (guest.Session s) → Follows desk (journal_at c.port.books) (given n) n s
   pub recorders : (m : ℕ) (r : RecState) → slice_get c.recorders m ≡ Some r → Records (journal_at c.port.books) m r
+
+-- a session, and neither a player over HTTP nor an edge
+abbrev pub IsSession : Guest → Type 0
+IsSession (guest.Session c) = Unit {0}
+IsSession (guest.Player c) = ⊥
+IsSession (guest.Edge c) = ⊥
+
+abbrev pub AreSessions : List Guest → Type 0
+AreSessions guests = (n : ℕ) (g : Guest) → slice_get guests n ≡ Some g → IsSession g
+
+-- of a run that opened sessions alone
+abbrev pub RunOf : (Ask → Grant) → (ℕ → List ℕ) → CastState → Type 0
+RunOf desk given c = AreSessions c.sessions → IsRun desk given c
 
 -- before a line has acted nothing was given
 abbrev pub RunsIf : (Ask → Grant) → (ℕ → List ℕ) → Option CastState → Type 0
 RunsIf desk given None = (n : ℕ) → given n ≡ []
-RunsIf desk given (Some c) = IsRun desk given c
+RunsIf desk given (Some c) = RunOf desk given c
 
 -- of a replay between two lines
 abbrev pub Runs : (ℕ → List ℕ) → SceneState → Type 0

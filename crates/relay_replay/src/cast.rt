@@ -1,28 +1,31 @@
 ghost use Rattle.std.specs.Prelude.{◌≡◌, ◌<◌, ◌≤◌, [], length, IfOk, OnOk};
 ghost use Rattle.relay_session.specs.Grants.{granted_from};
 ghost use Rattle.relay_replay.specs.Cast.{AnsweredTurn, Each, Round, RecTurnOf, SettledBy, Times, TurnOf, is_moved};
-ghost use Rattle.relay_replay.specs.Plays.{Opens, PutFails, Told};
-ghost use Rattle.relay_replay.specs.Scenes.{Sits};
+ghost use Rattle.relay_replay.specs.Plays.{Opens, OpensEdge, OpensHttp, PutFails, Told};
+ghost use Rattle.relay_replay.specs.Scenes.{AreShort, Sits};
 
 use crate::connection::Connection;
+use crate::guest::{Answered, Guest};
+use crate::playing::Playing;
+use crate::pulling::Pulling;
 use crate::recording::Recording;
-use av_unit::OutOfMemory;
+use av_unit::{Bytes, OutOfMemory};
 use relay_base::Limits;
 use relay_script::ReplayLine;
-use relay_session::{PlaceDesk, Turn};
+use relay_session::PlaceDesk;
 use std::alloc::Global;
 use std::marker::Model;
 use stream_registry::Sole;
 
 // Whether a turn moved something.
-fn is_moved(answer: Option<Turn>) -> bool
+fn is_moved(answer: Answered) -> bool
     ensures { result ≡ is_moved answer }
 {
     match answer {
-        None => false,
-        Some(Turn::Moved) => true,
-        Some(Turn::Idle) => false,
-        Some(Turn::Ended(_)) => false,
+        Answered::Nothing => false,
+        Answered::Moved => true,
+        Answered::Idle => false,
+        Answered::Ended => false,
     }
 }
 
@@ -31,7 +34,7 @@ fn is_moved(answer: Option<Turn>) -> bool
 pub(crate) struct Cast {
     alloc: Global,
     port: Sole,
-    sessions: Vec<Connection>,
+    sessions: Vec<Guest>,
     recorders: Vec<Recording>,
 }
 
@@ -56,7 +59,7 @@ impl Cast {
         }
     }
 
-    pub(crate) fn sessions(&self) -> &[Connection]
+    pub(crate) fn sessions(&self) -> &[Guest]
         ensures { result.now ≡ self.now.sessions }
     {
         &self.sessions
@@ -81,7 +84,36 @@ impl Cast {
     {
         let who = self.sessions.len() as u64;
         let new = Connection::new(self.alloc, who, limits);
-        self.sessions.push(new)?;
+        self.sessions.push(Guest::Session(new))?;
+        Ok(())
+    }
+
+    // Opens a player over HTTP, named by its number.
+    pub(crate) fn open_http(&mut self, limits: Limits) -> Result<(), OutOfMemory>
+        requires { limits.max_message ≤ 4194304 }
+        ensures { OnOk result (OpensHttp limits self.old self.new) }
+    {
+        let who = self.sessions.len() as u64;
+        let new = Playing::new(self.alloc, who, limits);
+        self.sessions.push(Guest::Player(new))?;
+        Ok(())
+    }
+
+    // Opens an edge at a stream, named by its number.
+    pub(crate) fn open_edge(
+        &mut self,
+        limits: Limits,
+        stream: u32,
+        app: Bytes,
+        name: Bytes,
+    ) -> Result<(), OutOfMemory>
+        requires message { limits.max_message ≤ 4194304 }
+        requires short { AreShort app name }
+        ensures { OnOk result (OpensEdge limits stream app name self.old self.new) }
+    {
+        let who = self.sessions.len() as u64;
+        let new = Pulling::new(self.alloc, who, stream, app, name, limits)?;
+        self.sessions.push(Guest::Edge(new))?;
         Ok(())
     }
 
@@ -102,7 +134,7 @@ impl Cast {
     }
 
     // One turn of a session, and what it was answered; none of one that has ended.
-    fn turn(&mut self, n: usize, desk: &PlaceDesk<'_>) -> Result<Option<Turn>, OutOfMemory>
+    fn turn(&mut self, n: usize, desk: &PlaceDesk<'_>) -> Result<Answered, OutOfMemory>
         requires there { n < length self.old.sessions }
         requires sits { Sits desk.now.list.now desk.now.opens.now (length self.old.recorders) self.old }
         ensures turn { IfOk result (λ a. AnsweredTurn (granted_from 0 desk.now.list.now desk.now.opens.now) n a self.old self.new) }

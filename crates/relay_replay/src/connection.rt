@@ -4,11 +4,12 @@ ghost use Rattle.relay_session.specs.Places.{IsAt, IsOffered};
 ghost use Rattle.relay_session.specs.SeatState.{HasFit};
 ghost use Rattle.stream_registry.specs.Books.{FitsSole, SeenState, sole_rules};
 ghost use Rattle.stream_registry.specs.Names.{places};
-ghost use Rattle.relay_replay.specs.Cast.{AfterTurn, AnsweredBy, IsClosed};
+ghost use Rattle.relay_replay.specs.Cast.{AfterTurn, AnsweredBy, IsClosed, told_turn};
 ghost use Rattle.relay_replay.specs.Prints.{Holds};
-ghost use Rattle.relay_replay.specs.Plays.{IsNewSession, told_of};
+ghost use Rattle.relay_replay.specs.Plays.{IsNewSession, quits, told_link, told_of};
 ghost use Rattle.relay_replay.specs.Scenes.{Ready, ReadyBy};
 
+use crate::guest::Answered;
 use av_unit::OutOfMemory;
 use relay_base::Limits;
 use relay_outside::MemLink;
@@ -27,11 +28,50 @@ pub(crate) struct Connection {
 }
 
 impl Model for Connection {
-    ghost use Rattle.relay_replay.specs.Cast.{ConnState};
+    ghost use Rattle.relay_replay.specs.Guests.{ConnState};
 
     ghost Value = { ConnState };
 
     ghost view = { λ c. record { session = c.session; link = c.link; ended = c.ended } };
+}
+
+// Whether a line tells a session to quit.
+fn quits(line: &ReplayLine) -> bool
+    ensures { result ≡ quits line.now }
+{
+    match line {
+        ReplayLine::Quit(_) => true,
+        _ => false,
+    }
+}
+
+// Does what a line says of a link.
+pub(crate) fn tell(link: &mut MemLink, line: ReplayLine) -> Result<(), OutOfMemory>
+    ensures { OnOk result (link.new ≡ told_link line link.old) }
+{
+    match line {
+        ReplayLine::Piece { session: _, bytes } => {
+            let Ok(()) = link.give(bytes.into_vec()) else {
+                return Err(OutOfMemory);
+            };
+        }
+        ReplayLine::Eof(_) => link.end(),
+        ReplayLine::Room { session: _, left } => link.room(left),
+        ReplayLine::FailRecv(_) => link.fail_recv(),
+        ReplayLine::FailSend(_) => link.fail_send(),
+        _ => {}
+    }
+    Ok(())
+}
+
+fn told_turn(answer: Turn) -> Answered
+    ensures { result ≡ told_turn answer }
+{
+    match answer {
+        Turn::Moved => Answered::Moved,
+        Turn::Idle => Answered::Idle,
+        Turn::Ended(_) => Answered::Ended,
+    }
 }
 
 impl Connection {
@@ -75,18 +115,10 @@ impl Connection {
     pub(crate) fn take(&mut self, line: ReplayLine) -> Result<(), OutOfMemory>
         ensures { OnOk result (self.new ≡ told_of line self.old) }
     {
-        match line {
-            ReplayLine::Piece { session: _, bytes } => {
-                let Ok(()) = self.link.give(bytes.into_vec()) else {
-                    return Err(OutOfMemory);
-                };
-            }
-            ReplayLine::Eof(_) => self.link.end(),
-            ReplayLine::Room { session: _, left } => self.link.room(left),
-            ReplayLine::FailRecv(_) => self.link.fail_recv(),
-            ReplayLine::FailSend(_) => self.link.fail_send(),
-            ReplayLine::Quit(_) => self.session.quit(),
-            _ => {}
+        let quitting = quits(&line);
+        tell(&mut self.link, line)?;
+        if quitting {
+            self.session.quit();
         }
         Ok(())
     }
@@ -97,7 +129,7 @@ impl Connection {
         alloc: Global,
         port: &mut Sole,
         desk: &PlaceDesk<'_>,
-    ) -> Result<Option<Turn>, OutOfMemory>
+    ) -> Result<Answered, OutOfMemory>
         requires ready { Ready port.old self.old }
         requires offered { IsOffered (granted_from 0 desk.now.list.now desk.now.opens.now) (places (sole_rules port.old.rules)) }
         ensures turn { IfOk result (λ a. AnsweredBy a self.old.ended (granted_from 0 desk.now.list.now desk.now.opens.now)
@@ -107,12 +139,12 @@ impl Connection {
         ensures fits { (q : ℕ) (p : SeenState) → FitsSole port.old q p → FitsSole port.new q p }
     {
         if self.ended.is_some() {
-            return Ok(None);
+            return Ok(Answered::Nothing);
         }
         let answer = self.session.turn(alloc, port, &mut self.link, desk);
         self.session.owed_law();
         after(&mut self.session, &mut self.ended, port, answer)?;
-        Ok(Some(answer))
+        Ok(told_turn(answer))
     }
 }
 

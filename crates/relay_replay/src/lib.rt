@@ -1,5 +1,5 @@
-//! What the script of a replay does: its streams and open tables with their keys, its recorders and its sessions, and what is
-//! printed of them at its end.
+//! What the script of a replay does: its streams and open tables with their keys, its recorders, its sessions, players over HTTP and edges,
+//! and what is printed of them at its end.
 //!
 //! A [`Scene`] takes the lines of a script one after another. Links and files are in memory, and the streams and open tables are
 //! those of one thread, so what is printed follows from the script alone. Read `specs/Stand.antt` first (where a line may stand), then
@@ -9,7 +9,10 @@
 mod cast;
 mod connection;
 mod file;
+mod guest;
 mod places;
+mod playing;
+mod pulling;
 mod recorded;
 mod recording;
 mod report;

@@ -1,22 +1,28 @@
-ghost use Rattle.std.specs.Prelude.{◌≡◌, ◌+◌, ◌*◌, ◌++◌, ◌≤◌, length, IfOk, OnOk, string_bytes};
+ghost use Rattle.std.specs.Prelude.{◌≡◌, ◌+◌, ◌*◌, ◌++◌, ◌≤◌, length, IfOk, OnOk, codes, string_bytes};
 ghost use Rattle.relay_base.specs.declared.limits.Limits.{Limits as AllLimits};
 ghost use Rattle.relay_config.specs.Sum.{total_of};
 ghost use Rattle.stream_registry.specs.Names.{slots_sum};
 ghost use Rattle.relay_replay.specs.Scenes.{AreNamed, IsLimited, IsPortOf};
-ghost use Rattle.relay_replay.specs.Prints.{cause_text, end_text, rec_end_text, hex_text, session_lines, recorder_lines, stream_line, open_line, held_line};
+ghost use Rattle.relay_replay.specs.Prints.{cause_text, client_end_text, edge_end_text, end_text, end_words, http_end_text, rec_end_text};
+ghost use Rattle.relay_replay.specs.Prints.{hex_text, session_lines, recorder_lines, stream_line, open_line, held_line};
+ghost use Rattle.relay_replay.specs.Plays.{link_of};
+ghost use Rattle.std.specs.Fmt.{decimal};
 ghost use Rattle.relay_replay.specs.Prints.{sessions_text, recorders_text, streams_text, opens_text, held_at, most_of, streams_hold, opens_hold};
-ghost use Rattle.relay_replay.specs.Prints.{AllHold, Holds, IsReport, IsTotal, RecHolds, StreamsWithin, TablesWithin};
+ghost use Rattle.relay_replay.specs.Prints.{AllHold, GuestHolds, IsReport, IsTotal, RecHolds, StreamsWithin, TablesWithin};
 
 use crate::cast::Cast;
-use crate::connection::Connection;
+use crate::guest::Guest;
 use crate::places::counts;
 use crate::recording::Recording;
 use av_unit::{Bytes, OutOfMemory};
 use chunk_reader::ReadCause;
+use http_flv::HttpEnd;
 use media_recorder::RecEnd;
+use origin_pull::EdgeEnd;
 use relay_base::Limits;
 use relay_config::{OpenRule, PlaceRule, sum_of};
 use relay_session::End;
+use rtmp_client::ClientEnd;
 use std::alloc::Global;
 use stream_registry::Sole;
 
@@ -60,6 +66,76 @@ fn end_text(alloc: Global, end: Option<End>) -> Result<String, OutOfMemory>
     }
 }
 
+// How a player over HTTP ended.
+fn http_end_text(alloc: Global, end: Option<HttpEnd>) -> Result<String, OutOfMemory>
+    ensures { IfOk result (λ text. string_bytes text ≡ http_end_text end) }
+{
+    match end {
+        None => Ok(format!(in alloc; "none")?),
+        Some(HttpEnd::PeerClosed) => Ok(format!(in alloc; "peerclosed")?),
+        Some(HttpEnd::LinkFault) => Ok(format!(in alloc; "linkfault")?),
+        Some(HttpEnd::Answered { code }) => Ok(format!(in alloc; "answered {code}")?),
+        Some(HttpEnd::Worn) => Ok(format!(in alloc; "worn")?),
+        Some(HttpEnd::OutOfMemory) => Ok(format!(in alloc; "outofmemory")?),
+        Some(HttpEnd::Closed) => Ok(format!(in alloc; "closed")?),
+    }
+}
+
+// How an edge's client ended.
+fn client_end_text(alloc: Global, end: &Option<ClientEnd>) -> Result<String, OutOfMemory>
+    ensures { IfOk result (λ text. string_bytes text ≡ client_end_text end.now) }
+{
+    match end {
+        None => Ok(format!(in alloc; "none")?),
+        Some(ClientEnd::PeerClosed) => Ok(format!(in alloc; "peerclosed")?),
+        Some(ClientEnd::LinkFault) => Ok(format!(in alloc; "linkfault")?),
+        Some(ClientEnd::BadVersion { at }) => at_text(alloc, "badversion", *at),
+        Some(ClientEnd::BadChunk { cause, at }) => bad_chunk_text(alloc, *cause, *at),
+        Some(ClientEnd::BadControl { at }) => at_text(alloc, "badcontrol", *at),
+        Some(ClientEnd::BadCommand { at }) => at_text(alloc, "badcommand", *at),
+        Some(ClientEnd::Refused { code: _ }) => Ok(format!(in alloc; "refused")?),
+        Some(ClientEnd::Done) => Ok(format!(in alloc; "done")?),
+        Some(ClientEnd::OutOfMemory) => Ok(format!(in alloc; "outofmemory")?),
+    }
+}
+
+// A word and a place.
+fn at_text(alloc: Global, word: &'static str, at: u64) -> Result<String, OutOfMemory>
+    ensures { IfOk result (λ text. string_bytes text ≡ word.now ++ codes " " ++ decimal at) }
+{
+    Ok(format!(in alloc; "{word} {at}")?)
+}
+
+// How an edge ended.
+fn edge_end_text(
+    alloc: Global,
+    end: Option<EdgeEnd>,
+    client: &Option<ClientEnd>,
+) -> Result<String, OutOfMemory>
+    ensures { IfOk result (λ text. string_bytes text ≡ edge_end_text end client.now) }
+{
+    match end {
+        None => Ok(format!(in alloc; "none")?),
+        Some(EdgeEnd::Client) => client_end_text(alloc, client),
+        Some(EdgeEnd::InUse { by: _ }) => Ok(format!(in alloc; "inuse")?),
+        Some(EdgeEnd::NoSlot) => Ok(format!(in alloc; "noslot")?),
+        Some(EdgeEnd::Worn) => Ok(format!(in alloc; "worn")?),
+        Some(EdgeEnd::OutOfMemory) => Ok(format!(in alloc; "outofmemory")?),
+        Some(EdgeEnd::Closed) => Ok(format!(in alloc; "closed")?),
+    }
+}
+
+// How what was opened ended.
+fn end_words(alloc: Global, guest: &Guest) -> Result<String, OutOfMemory>
+    ensures { IfOk result (λ text. string_bytes text ≡ end_words guest.now) }
+{
+    match guest {
+        Guest::Session(session) => end_text(alloc, session.ended()),
+        Guest::Player(player) => http_end_text(alloc, player.ended()),
+        Guest::Edge(edge) => edge_end_text(alloc, edge.ended(), edge.client_end()),
+    }
+}
+
 // How a recorder ended.
 fn rec_end_text(alloc: Global, end: Option<RecEnd>) -> Result<String, OutOfMemory>
     ensures { IfOk result (λ text. string_bytes text ≡ rec_end_text end) }
@@ -83,11 +159,11 @@ fn hex_text(alloc: Global, bytes: &[u8]) -> Result<String, OutOfMemory>
     Ok(hex::encode(alloc, bytes)?)
 }
 
-fn session_text(alloc: Global, n: u64, sent: &[u8], end: Option<End>) -> Result<String, OutOfMemory>
-    ensures { IfOk result (λ text. string_bytes text ≡ session_lines n sent.now end) }
+fn session_text(alloc: Global, n: u64, guest: &Guest) -> Result<String, OutOfMemory>
+    ensures { IfOk result (λ text. string_bytes text ≡ session_lines n (link_of guest.now).sent (end_words guest.now)) }
 {
-    let sent = hex_text(alloc, sent)?;
-    let end = end_text(alloc, end)?;
+    let sent = hex_text(alloc, guest.sent())?;
+    let end = end_words(alloc, guest)?;
     Ok(format!(in alloc; "session {n} sent {sent}\nsession {n} end {end}\n")?)
 }
 
@@ -123,13 +199,13 @@ fn held_text(alloc: Global, total: u64, sum: u64) -> Result<String, OutOfMemory>
 }
 
 // Adds the lines of all sessions.
-fn all_sessions(alloc: Global, sessions: &[Connection], out: &mut Bytes) -> Result<(), OutOfMemory>
+fn all_sessions(alloc: Global, sessions: &[Guest], out: &mut Bytes) -> Result<(), OutOfMemory>
     ensures { OnOk result (out.new ≡ out.old ++ sessions_text 0 sessions.now) }
 {
     let mut n: u64 = 0;
     let mut left = sessions;
     while let [session, rest @ ..] = left {
-        let text = session_text(alloc, n, session.sent(), session.ended())?;
+        let text = session_text(alloc, n, session)?;
         out.append(text.as_str().as_bytes())?;
         n += 1;
         left = rest;
@@ -199,8 +275,8 @@ fn more(total: u64, n: u64) -> Result<u64, OutOfMemory>
 }
 
 // What the sessions hold that are open.
-fn sessions_hold(sessions: &[Connection]) -> Result<u64, OutOfMemory>
-    ensures { IfOk result (λ n. AllHold Holds sessions.now n) }
+fn sessions_hold(sessions: &[Guest]) -> Result<u64, OutOfMemory>
+    ensures { IfOk result (λ n. AllHold GuestHolds sessions.now n) }
 {
     let mut total: u64 = 0;
     for i in 0..sessions.len() {

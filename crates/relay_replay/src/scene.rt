@@ -1,8 +1,8 @@
-ghost use Rattle.std.specs.Prelude.{◌≡◌, ◌↔◌, ◌<◌, ◌≤◌, ◌+◌, ◌^◌, ◌++◌, [], length, All, IfOk, OnOk, Some, None, Ok, Err, true, false};
-ghost use Rattle.std.specs.Prelude.{◌∷◌, option_map, slice_get, slice_index_or};
+ghost use Rattle.std.specs.Prelude.{◌≡◌, ◌↔◌, ◌<◌, ◌≤◌, ◌+◌, ◌^◌, ◌++◌, [], length, All, IfOk, OnOk, Some, None, Ok, Err, true};
+ghost use Rattle.std.specs.Prelude.{false, ◌∷◌, option_map, slice_get, slice_index_or};
 ghost use Rattle.relay_session.specs.Grants.{granted_from};
 ghost use Rattle.relay_replay.specs.Stand.{defaults, allows, is_setting, names_in, takes_at, takes_stream, takes_table, table_takes, keyed_at, table_keyed_at};
-ghost use Rattle.relay_replay.specs.Stand.{count, has_recorder, has_session, no_plan, open_place, open_table, plan};
+ghost use Rattle.relay_replay.specs.Stand.{count, has_recorder, has_room, has_session, is_short, no_plan, open_place, open_table, plan};
 ghost use Rattle.relay_replay.specs.Plays.{Plays, session_in};
 ghost use Rattle.relay_replay.specs.Scenes.{AreNamed, AreNew, Does, IsNewCast, IsNewRecorder, IsOpen, IsSound, IsThere, SettledIn, Sits, is_acting, opened_by};
 ghost use Rattle.relay_replay.specs.Scenes.{stand_of, start, stream_limits};
@@ -28,7 +28,7 @@ use std::marker::Model;
 use stream_core::StreamLimits;
 use stream_registry::Sole;
 
-/// The most streams and names of open tables of a replay, and the most sessions.
+/// The most streams and names of open tables of a replay, and the most sessions, players over HTTP and edges together.
 const MOST: u64 = 64;
 
 /// The most bytes of a stream's name.
@@ -50,7 +50,8 @@ fn default_limits() -> Limits
     }
 }
 
-/// A replay between two lines of its script: what the lines have said, and what runs by them.
+/// A replay between two lines of its script: what the lines have said, and what runs by them. Players over HTTP and edges are numbered
+/// among the sessions, and what is said of a session below is said of them too.
 #[derive(Drop)]
 pub struct Scene {
     alloc: Global,
@@ -154,6 +155,7 @@ fn session_in(line: &ReplayLine) -> Option<u32>
 }
 
 // Does what a line says that acts.
+#[tactic(auto, using(crate::proofs::Opening::by_session, crate::proofs::Opening::by_http, crate::proofs::Opening::by_edge, crate::proofs::Opening::by_line))]
 fn play(
     desk: &PlaceDesk<'_>,
     limits: Limits,
@@ -169,6 +171,8 @@ fn play(
 {
     match line {
         ReplayLine::Session => cast.open(limits),
+        ReplayLine::OpenHttp => cast.open_http(limits),
+        ReplayLine::OpenEdge { stream, app, name } => cast.open_edge(limits, stream, app, name),
         ReplayLine::FailPut(recorder) => {
             cast.fail_put(recorder);
             Ok(())
@@ -191,6 +195,13 @@ fn count_in(cast: &Option<Cast>) -> usize
         None => 0,
         Some(cast) => cast.sessions().len(),
     }
+}
+
+// Whether an edge may ask for that name.
+fn is_short(name: &[u8]) -> bool
+    ensures { result ≡ is_short name.now }
+{
+    1 <= name.len() && name.len() <= MOST_OF_NAME
 }
 
 impl Scene {
@@ -220,6 +231,13 @@ impl Scene {
         ensures { result ≡ has_recorder n (stand_of self.now) }
     {
         (n as usize) < self.recorders.len()
+    }
+
+    // Whether a session, a player or an edge more may be opened.
+    fn has_room(&self) -> bool
+        ensures { result ≡ has_room (stand_of self.now) }
+    {
+        (count_in(&self.cast) as u64) < MOST
     }
 
     // Whether no line has acted.
@@ -308,7 +326,13 @@ impl Scene {
             ReplayLine::Recorder { stream, form: _ } => {
                 self.is_setting() && (*stream as usize) < self.places.len()
             }
-            ReplayLine::Session => (count_in(&self.cast) as u64) < MOST,
+            ReplayLine::Session => self.has_room(),
+            ReplayLine::OpenHttp => self.has_room(),
+            ReplayLine::OpenEdge { stream, app, name } => {
+                self.has_room()
+                    && ((*stream as usize) < self.places.len()
+                        && (is_short(app.as_slice()) && is_short(name.as_slice())))
+            }
             ReplayLine::FailPut(recorder) => self.has_recorder(*recorder),
             ReplayLine::Rec { recorder, count: _ } => self.has_recorder(*recorder),
             ReplayLine::All(_) => true,

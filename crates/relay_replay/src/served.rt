@@ -5,8 +5,9 @@ ghost use Rattle.relay_replay.specs.Scenes.{Does, IsOpen, SceneState, SettledIn,
 ghost use Rattle.relay_replay.specs.Served.{AreServed, IsServedIn};
 ghost use Rattle.relay_replay.specs.Stand.{allows};
 
-/// What each session was sent begins what it owes for the bytes that it was fed and its calls: before the first line, after each
-/// line that may stand where it does, after turns of a session until it is idle, and of what is printed.
+/// What each session was sent begins what it owes for the bytes that it was fed and its calls, and what each player over HTTP was sent
+/// what it is owed; an edge's calls are those of what its client was told. So it is before the first line, after each line that may stand
+/// where it does, after turns of a session until it is idle, and of what is printed.
 pub fn what_was_sent_begins_what_is_owed()
     ensures start { AreServed start }
     ensures line { (line : ReplayLine) (s t : SceneState) → allows line (stand_of s) ≡ true → Does line s t → AreServed s → AreServed t }

@@ -4,7 +4,7 @@ ghost use Rattle.relay_replay.specs.Sums.{IsSummary, is_sent, items_to, player_l
 ghost use Rattle.stream_model.specs.Counts.{is_pushed, is_skip};
 
 use crate::cast::Cast;
-use crate::connection::Connection;
+use crate::guest::Guest;
 use crate::report::all_held;
 use av_unit::{Bytes, OutOfMemory};
 use relay_base::Limits;
@@ -88,7 +88,7 @@ fn player_text(
 }
 
 // All but the first.
-fn after_first(sessions: &[Connection]) -> &[Connection]
+fn after_first(sessions: &[Guest]) -> &[Guest]
     ensures { result.now ≡ drop 1 sessions.now }
 {
     match sessions {
@@ -101,7 +101,7 @@ fn after_first(sessions: &[Connection]) -> &[Connection]
 fn all_players(
     alloc: Global,
     calls: &[(Entry, Reply)],
-    sessions: &[Connection],
+    sessions: &[Guest],
     out: &mut Bytes,
 ) -> Result<(), OutOfMemory>
     ensures { OnOk result (out.new ≡ out.old ++ players_text 1 calls.now sessions.now) }

@@ -13,7 +13,7 @@ use Rattle.relay_script.specs.declared.replay.Form.TheVariants.{Flv, Ts}
 use Rattle.relay_script.specs.declared.replay.Side.{Side}
 use Rattle.relay_script.specs.declared.replay.Side.TheVariants.{Publish, Play}
 use Rattle.relay_script.specs.declared.replay.ReplayLine.TheVariants.{Nothing, Limits, Stream, Guard, Recorder, Session, Piece, Eof, Room, FailRecv, FailSend}
-use Rattle.relay_script.specs.declared.replay.ReplayLine.TheVariants.{FailPut, Turn, Rec, All, Quit, OpenApp, GuardOpen}
+use Rattle.relay_script.specs.declared.replay.ReplayLine.TheVariants.{FailPut, Turn, Rec, All, Quit, OpenApp, GuardOpen, OpenHttp, OpenEdge}
 
 -- ---- what a word says
 
@@ -135,6 +135,14 @@ openapp_line words =
     next rest slots_of (λ names rest.
     last rest (OpenApp app names)))
 
+-- S APP NAME
+abbrev pub openedge_line : Option (List ℕ) → Option ReplayLine
+openedge_line words =
+    next words session_of (λ stream rest.
+    next rest name_of (λ app rest.
+    next rest name_of (λ name rest.
+    last rest (OpenEdge stream app name))))
+
 -- S FORM
 abbrev pub record_line : Option (List ℕ) → Option ReplayLine
 record_line words =
@@ -184,6 +192,7 @@ plain_line word rest =
     if is_text word (codes "limits") then limits_line rest
     else (if is_text word (codes "record") then record_line rest
     else (if is_text word (codes "open") then last rest Session
+    else (if is_text word (codes "openhttp") then last rest OpenHttp
     else (if is_text word (codes "eof") then session_line Eof rest
     else (if is_text word (codes "room") then room_line rest
     else (if is_text word (codes "failrecv") then session_line FailRecv rest
@@ -192,7 +201,7 @@ plain_line word rest =
     else (if is_text word (codes "turn") then turn_line rest
     else (if is_text word (codes "rec") then rec_line rest
     else (if is_text word (codes "all") then all_line rest
-    else (if is_text word (codes "quit") then session_line Quit rest else None)))))))))))
+    else (if is_text word (codes "quit") then session_line Quit rest else None))))))))))))
 
 -- a line by its first word
 abbrev pub worded_line : List ℕ → Option (List ℕ) → Option ReplayLine
@@ -201,7 +210,8 @@ worded_line word rest =
     else (if is_text word (codes "guard") then guard_line rest
     else (if is_text word (codes "openapp") then openapp_line rest
     else (if is_text word (codes "guardopen") then guardopen_line rest
-    else (if is_text word (codes "in") then piece_line rest else plain_line word rest))))
+    else (if is_text word (codes "openedge") then openedge_line rest
+    else (if is_text word (codes "in") then piece_line rest else plain_line word rest)))))
 
 -- an empty line, a line that begins with `#`, or one of the lines above
 abbrev pub form : List ℕ → Option ReplayLine
@@ -216,4 +226,4 @@ meaning line = if nat_le (length line) 65536 then form line else None
 abbrev pub takes_memory : List ℕ → Bool
 takes_memory word =
     (is_text word (codes "stream") || is_text word (codes "guard"))
-    || ((is_text word (codes "openapp") || is_text word (codes "guardopen")) || is_text word (codes "in"))
+    || ((is_text word (codes "openapp") || is_text word (codes "guardopen")) || (is_text word (codes "openedge") || is_text word (codes "in")))

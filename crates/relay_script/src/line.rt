@@ -11,6 +11,7 @@ ghost use Rattle.relay_script.specs.Lines.{ring_line, who_line, push_step, push_
 use av_unit::{Bytes, Kind, OutOfMemory, Unit, UnitArc, Want};
 use std::alloc::Global;
 use stream_model::{Call, Entry, ShortName, StreamLimits, is_name};
+use thiserror::Error;
 
 /// What a line of a drill's script says.
 #[derive(Drop)]
@@ -28,11 +29,13 @@ pub enum DrillLine {
 }
 
 /// Why a line gives nothing.
-#[derive(Clone, Copy, Debug, PartialEq, Eq)]
+#[derive(Clone, Copy, Debug, PartialEq, Eq, Error)]
 pub enum LineFail {
     /// The line has none of the forms of a line, or has more than 65,536 bytes.
+    #[error("no line of a script")]
     Outside,
     /// Memory was refused; a line that is outside the grammar isn't refused so.
+    #[error("out of memory")]
     OutOfMemory,
 }
 

@@ -4,12 +4,12 @@ ghost use Rattle.std.specs.Option.{option_copied};
 ghost use Rattle.relay_script.specs.Lines.{digits_from, below, first_word, last};
 ghost use Rattle.relay_script.specs.Lines.{number as number_in};
 ghost use Rattle.relay_script.specs.declared.replay.ReplayLine.{ReplayLine as Line};
-ghost use Rattle.relay_script.specs.declared.replay.ReplayLine.TheVariants.{Stream, OpenApp, Piece, Session};
+ghost use Rattle.relay_script.specs.declared.replay.ReplayLine.TheVariants.{Stream, OpenApp, OpenEdge, OpenHttp, Piece, Session};
 ghost use Rattle.relay_script.specs.ReplayLines.{message_of, window_of, session_of, turns_of, room_of, is_hex_byte};
 ghost use Rattle.relay_script.specs.ReplayLines.{is_hex, digit, pairs, limits_line, stream_line, piece_line, room_line, turn_line, all_line};
 ghost use Rattle.relay_script.specs.ReplayLines.{session_line, plain_line, worded_line, meaning, takes_memory};
 ghost use Rattle.relay_script.specs.ReplayLines.{side_of, mode_of, form_of, is_digest, is_key, key_bytes, keyed_line, guard_line, guardopen_line};
-ghost use Rattle.relay_script.specs.ReplayLines.{openapp_line, record_line, rec_line};
+ghost use Rattle.relay_script.specs.ReplayLines.{openapp_line, openedge_line, record_line, rec_line};
 ghost use Rattle.relay_script.specs.declared.replay.Side.{Side as ASide};
 ghost use Rattle.key_guard.specs.declared.check.Mode.{Mode as AMode};
 
@@ -38,7 +38,8 @@ pub enum Form {
     Ts,
 }
 
-/// What a line of a replay's script says. Sessions, recorders, streams and open tables are numbered from 0.
+/// What a line of a replay's script says. Sessions, recorders, streams and open tables are numbered from 0; players over HTTP and edges are
+/// numbered among the sessions.
 #[derive(Drop)]
 pub enum ReplayLine {
     /// An empty line or a comment.
@@ -87,6 +88,14 @@ pub enum ReplayLine {
     },
     /// A session, with room for all that is sent.
     Session,
+    /// A player over HTTP, with room for all that is sent.
+    OpenHttp,
+    /// An edge that publishes at a stream what another relay has under these names, with room for all that is sent.
+    OpenEdge {
+        stream: u32,
+        app: Bytes,
+        name: Bytes,
+    },
     /// A further piece of a session's input.
     Piece {
         session: u32,
@@ -492,6 +501,53 @@ fn openapp_line(alloc: Global, words: Option<&[u8]>) -> Result<ReplayLine, LineF
     }
 }
 
+// An edge, before its names are copied.
+#[derive(Clone, Copy)]
+struct Pulled<'a> {
+    stream: u32,
+    app: &'a [u8],
+    name: &'a [u8],
+}
+
+fn read_openedge(words: Option<&[u8]>) -> Option<Pulled<'_>>
+    ensures { openedge_line (option_copied words.entry) ≡ option_map (λ p. OpenEdge p.stream p.app.now p.name.now) result }
+{
+    let (stream, rest) = first_word(words?);
+    let stream = session_of(stream)?;
+    let (app, rest) = first_word(rest?);
+    let app = name_of(app)?;
+    let (name, rest) = first_word(rest?);
+    let name = name_of(name)?;
+    match rest {
+        Some(_) => None,
+        None => Some(Pulled { stream, app, name }),
+    }
+}
+
+fn edge(alloc: Global, stream: u32, app: &[u8], name: &[u8]) -> Result<ReplayLine, OutOfMemory>
+    ensures { IfOk result (λ line. line ≡ OpenEdge stream app.now name.now) }
+{
+    Ok(ReplayLine::OpenEdge {
+        stream,
+        app: Bytes::from_vec(Vec::from_slice(alloc, app)?),
+        name: Bytes::from_vec(Vec::from_slice(alloc, name)?),
+    })
+}
+
+// S APP NAME
+fn openedge_line(alloc: Global, words: Option<&[u8]>) -> Result<ReplayLine, LineFail>
+    ensures says { IfOk result (λ l. openedge_line (option_copied words.entry) ≡ Some l) }
+    ensures outside { (result ≡ Err LineFail.Outside) ↔ (openedge_line (option_copied words.entry) ≡ None) }
+{
+    let Some(pulled) = read_openedge(words) else {
+        return Err(LineFail::Outside);
+    };
+    match edge(alloc, pulled.stream, pulled.app, pulled.name) {
+        Ok(line) => Ok(line),
+        Err(_) => Err(LineFail::OutOfMemory),
+    }
+}
+
 // S FORM
 fn record_line(words: Option<&[u8]>) -> Option<ReplayLine>
     ensures { result ≡ record_line (option_copied words.entry) }
@@ -626,6 +682,15 @@ fn open_line(words: Option<&[u8]>) -> Option<ReplayLine>
     }
 }
 
+fn openhttp_line(words: Option<&[u8]>) -> Option<ReplayLine>
+    ensures { result ≡ last (option_copied words.entry) OpenHttp }
+{
+    match words {
+        Some(_) => None,
+        None => Some(ReplayLine::OpenHttp),
+    }
+}
+
 // A line that takes no memory.
 fn plain_line(word: &[u8], rest: Option<&[u8]>) -> Option<ReplayLine>
     ensures { result ≡ plain_line word.now (option_copied rest.entry) }
@@ -636,6 +701,8 @@ fn plain_line(word: &[u8], rest: Option<&[u8]>) -> Option<ReplayLine>
         record_line(rest)
     } else if word == b"open".as_slice() {
         open_line(rest)
+    } else if word == b"openhttp".as_slice() {
+        openhttp_line(rest)
     } else if word == b"eof".as_slice() {
         Some(ReplayLine::Eof(one_session(rest)?))
     } else if word == b"room".as_slice() {
@@ -677,6 +744,9 @@ fn worded_line(alloc: Global, word: &[u8], rest: Option<&[u8]>) -> Result<Replay
     if word == b"guardopen".as_slice() {
         return guardopen_line(alloc, rest);
     }
+    if word == b"openedge".as_slice() {
+        return openedge_line(alloc, rest);
+    }
     if word == b"in".as_slice() {
         return piece_line(alloc, rest);
     }
@@ -688,8 +758,8 @@ fn worded_line(alloc: Global, word: &[u8], rest: Option<&[u8]>) -> Result<Replay
 /// The answer is `Outside` exactly where the line has none of the forms of a line, or has more than
 /// 65,536 bytes. A line that begins with `#` is a comment. The other forms, with one space between two words, are
 /// `limits M R N P W`, `stream APP NAME`, `guard S ROLE MODE KEY`, `openapp APP N`, `guardopen O ROLE MODE KEY`,
-/// `record S FORM`, `open`, `in S HEX`, `eof S`, `room S N`, `room S all`, `failrecv S`, `failsend S`, `failput R`, `turn S K`,
-/// `rec R K`, `all K` and `quit S`.
+/// `record S FORM`, `open`, `openhttp`, `openedge S APP NAME`, `in S HEX`, `eof S`, `room S N`, `room S all`, `failrecv S`,
+/// `failsend S`, `failput R`, `turn S K`, `rec R K`, `all K` and `quit S`.
 ///
 /// M is 4,096 to 4,194,304, R in `limits` at most 268,435,456, N there 1 to 65,536, P 1 to 256, and W 1,000 to 2^31 - 1.
 /// APP and NAME are 1 to 64 letters, digits, `.`, `_` or `-`. N in `openapp` is 1 to 64. ROLE is `publish` or `play`. MODE is
@@ -698,7 +768,7 @@ fn worded_line(alloc: Global, word: &[u8], rest: Option<&[u8]>) -> Result<Replay
 /// are decimal, without a sign or a leading zero. Where in a script a line may stand, and whether what it names is there, is
 /// no matter here.
 ///
-/// `OutOfMemory` comes only at `stream`, `guard`, `openapp`, `guardopen` and `in`.
+/// `OutOfMemory` comes only at `stream`, `guard`, `openapp`, `guardopen`, `openedge` and `in`.
 pub fn replay_line(alloc: Global, line: &[u8]) -> Result<ReplayLine, LineFail>
     ensures says { IfOk result (λ l. meaning line.now ≡ Some l) }
     ensures outside { (result ≡ Err LineFail.Outside) ↔ (meaning line.now ≡ None) }

@@ -1,8 +1,8 @@
-use Rattle.std.proofs.Common.{◌≡◌, length, Some}
+use Rattle.std.proofs.Common.{◌≡◌, length}
 use Rattle.relay_session.specs.Grants.{granted_from}
-use Rattle.relay_session.specs.declared.turn.Turn.TheVariants.{Moved}
 use Rattle.relay_replay.specs.Cast.{AnsweredTurn, Times}
 use Rattle.relay_replay.specs.Scenes.{Sits}
+use Rattle.relay_replay.specs.declared.guest.Answered.TheVariants as answered
 use Rattle.relay_replay.proofs.cast.Cast.settle.Given as goal
 
 abbrev pub invariant-loop : goal.invariant-loop
@@ -10,5 +10,5 @@ invariant-loop g l = record {
   sits : Sits l.desk.list.now l.desk.opens.now (length l.fn.self.recorders) l.self;
   count : length l.self.sessions ≡ length l.fn.self.sessions;
   files : length l.self.recorders ≡ length l.fn.self.recorders;
-  moves : Times l.counter (AnsweredTurn (granted_from 0 l.desk.list.now l.desk.opens.now) l.n (Some Moved)) l.fn.self l.self;
+  moves : Times l.counter (AnsweredTurn (granted_from 0 l.desk.list.now l.desk.opens.now) l.n answered.Moved) l.fn.self l.self;
 }

@@ -1,0 +1,90 @@
+ghost use Rattle.std.specs.Prelude.{◌≡◌, ℕ, IfOk, OnOk};
+ghost use Rattle.relay_session.specs.Grants.{granted_from};
+ghost use Rattle.relay_session.specs.Places.{IsOffered};
+ghost use Rattle.stream_registry.specs.Books.{FitsSole, SeenState, sole_rules};
+ghost use Rattle.stream_registry.specs.Names.{places};
+ghost use Rattle.relay_replay.specs.Cast.{GuestTurn};
+ghost use Rattle.relay_replay.specs.Plays.{link_of, told_guest};
+ghost use Rattle.relay_replay.specs.Prints.{GuestHolds};
+ghost use Rattle.relay_replay.specs.Scenes.{ReadyGuest};
+
+use crate::connection::Connection;
+use crate::playing::Playing;
+use crate::pulling::Pulling;
+use av_unit::OutOfMemory;
+use relay_script::ReplayLine;
+use relay_session::PlaceDesk;
+use std::alloc::Global;
+use stream_registry::Sole;
+
+/// What a turn was answered; nothing, where it has ended before.
+#[derive(Clone, Copy, Debug, PartialEq, Eq)]
+pub(crate) enum Answered {
+    Nothing,
+    Moved,
+    Idle,
+    Ended,
+}
+
+/// What was opened, with its link.
+#[derive(Drop)]
+pub(crate) enum Guest {
+    Session(Connection),
+    Player(Playing),
+    Edge(Pulling),
+}
+
+impl Guest {
+    pub(crate) fn sent(&self) -> &[u8]
+        ensures { result.now ≡ (link_of self.now).sent }
+    {
+        match self {
+            Guest::Session(session) => session.sent(),
+            Guest::Player(player) => player.sent(),
+            Guest::Edge(edge) => edge.sent(),
+        }
+    }
+
+    // What it holds, in bytes: nothing, where it has ended.
+    pub(crate) fn held(&self) -> u64
+        ensures { GuestHolds self.now result }
+    {
+        match self {
+            Guest::Session(session) => session.held(),
+            Guest::Player(player) => player.held(),
+            Guest::Edge(edge) => edge.held(),
+        }
+    }
+
+    // Does what a line says of it.
+    pub(crate) fn take(&mut self, line: ReplayLine) -> Result<(), OutOfMemory>
+        ensures { OnOk result (self.new ≡ told_guest line self.old) }
+    {
+        match self {
+            Guest::Session(session) => session.take(line),
+            Guest::Player(player) => player.take(line),
+            Guest::Edge(edge) => edge.take(line),
+        }
+    }
+
+    // One turn, and what it was answered; none of one that has ended. One that ends is closed at once.
+    pub(crate) fn turn(
+        &mut self,
+        alloc: Global,
+        port: &mut Sole,
+        desk: &PlaceDesk<'_>,
+    ) -> Result<Answered, OutOfMemory>
+        requires ready { ReadyGuest port.old self.old }
+        requires offered { IsOffered (granted_from 0 desk.now.list.now desk.now.opens.now) (places (sole_rules port.old.rules)) }
+        ensures turn { IfOk result (λ a. GuestTurn a (granted_from 0 desk.now.list.now desk.now.opens.now) port.old self.old port.new self.new) }
+        ensures ready { OnOk result (ReadyGuest port.new self.new) }
+        ensures fixed { sole_rules port.new.rules ≡ sole_rules port.old.rules }
+        ensures fits { (q : ℕ) (p : SeenState) → FitsSole port.old q p → FitsSole port.new q p }
+    {
+        match self {
+            Guest::Session(session) => session.turn(alloc, port, desk),
+            Guest::Player(player) => player.turn(alloc, port, desk),
+            Guest::Edge(edge) => edge.turn(alloc, port),
+        }
+    }
+}
