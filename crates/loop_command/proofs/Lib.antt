@@ -1,0 +1,15 @@
+pub mod Links
+pub mod Back
+pub mod Clients
+pub mod Ties
+pub mod Home
+pub mod Sessions
+pub mod Serving
+pub mod Laws
+pub mod Counting
+pub mod Beginning
+pub mod Running
+pub mod Rounding
+pub mod Settling
+pub mod Finishing
+pub mod Outcomes

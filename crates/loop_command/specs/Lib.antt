@@ -1,0 +1,10 @@
+pub mod Words
+pub mod Desk
+pub mod Films
+pub mod Looped
+pub mod Course
+pub mod Outcome
+pub mod Lines
+pub mod Newly
+pub mod Sides
+pub mod Rounds

@@ -1,0 +1,19 @@
+//! A film through the relay and back, on one thread: [`loop_run`] publishes it by a client at one session, and plays it by another
+//! client at a second, over one stream.
+//!
+//! Read [`loop_run`] first. What it says is `specs/Outcome.antt`; what a film becomes that comes back is `specs/Looped.antt`, and its run,
+//! turn for turn, `specs/Course.antt`. It opens no connection, and never waits.
+#![tactic(auto)]
+
+mod desk;
+mod ending;
+mod film;
+mod line;
+mod playing;
+mod publishing;
+mod rounds;
+mod run;
+mod stop;
+mod words;
+
+pub use run::loop_run;
