@@ -135,6 +135,10 @@ http = \"aaaaaaaaaaaaaaaaaaaaaaaaaaaaaaaaaaaaaaaaaaaaaaaaaaaaaaaaaaaaaaaa\"
 @
 http = \"aaaaaaaaaaaaaaaaaaaaaaaaaaaaaaaaaaaaaaaaaaaaaaaaaaaaaaaaaaaaaaaaa\"
 @
+http = \"127.0.0.1:1935\"
+@
+http = \"127.0.0.1:193\"
+@
 workers = 0
 http = \"\"
 @
@@ -190,6 +194,8 @@ bad configuration range http
 sum 849674240
 sum 849674240
 bad configuration range http
+bad configuration range http
+sum 849674240
 bad configuration range http
 bad configuration unknown port
 bad configuration unknown a

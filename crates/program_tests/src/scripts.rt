@@ -202,6 +202,8 @@ fn told(alloc: Global, line: &[u8]) -> Result<String, AllocError> {
         }
         Ok(ReplayLine::Recorder { stream, form }) => format!(in alloc; "{stream} {form:?}"),
         Ok(ReplayLine::Session) => format!(in alloc; "session"),
+        Ok(ReplayLine::OpenHttp) => format!(in alloc; "player over HTTP"),
+        Ok(ReplayLine::OpenEdge { stream, app, name }) => pulled(alloc, stream, &app, &name),
         Ok(ReplayLine::Piece { session, bytes }) => given(alloc, session, &bytes),
         Ok(ReplayLine::Eof(session)) => format!(in alloc; "{session} ends"),
         Ok(ReplayLine::Room { session, left }) => format!(in alloc; "{session} room {left:?}"),
@@ -226,6 +228,12 @@ fn named(alloc: Global, app: &Bytes, name: &Bytes) -> Result<String, AllocError>
 fn opened(alloc: Global, app: &Bytes, names: u32) -> Result<String, AllocError> {
     let app = app.as_slice();
     format!(in alloc; "open {app:?} {names}")
+}
+
+fn pulled(alloc: Global, stream: u32, app: &Bytes, name: &Bytes) -> Result<String, AllocError> {
+    let app = app.as_slice();
+    let name = name.as_slice();
+    format!(in alloc; "{stream} pulls {app:?} {name:?}")
 }
 
 fn given(alloc: Global, session: u32, bytes: &Bytes) -> Result<String, AllocError> {
@@ -263,6 +271,8 @@ guardopen 0 publish named 000102030405060708090a0b0c0d0e0f101112131415161718191a
 record 2 flv
 record 3 ts
 open
+openhttp
+openedge 7 a -.z
 in 0 00ff1a
 in 4294967295 c0
 eof 1
@@ -296,6 +306,8 @@ open 0 Publish Named [0, 1, 2, 3, 4, 5, 6, 7, 8, 9, 10, 11, 12, 13, 14, 15, 16, 
 2 Flv
 3 Ts
 session
+player over HTTP
+7 pulls [97] [45, 46, 122]
 0 given [0, 255, 26]
 4294967295 given [192]
 1 ends
@@ -358,6 +370,12 @@ guard 0 play plain a b
 record 0
 record 0 mp4
 record flv
+openhttp 1
+openedge
+openedge 0 live
+openedge 0 live cam x
+openedge 0 l+ve cam
+openedge 00 live cam
 open 1
 open \nin 0
 in 0 0

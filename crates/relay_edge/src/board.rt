@@ -75,6 +75,9 @@ pub struct Board {
     awake: AtomicU64,
     // How often one has ceased to wait.
     starts: AtomicU64,
+    // Doors that were given, and those that have closed.
+    doors: AtomicU64,
+    closed: AtomicU64,
 }
 
 impl Board {
@@ -91,6 +94,8 @@ impl Board {
             given: AtomicU64::new(0),
             awake: AtomicU64::new(0),
             starts: AtomicU64::new(0),
+            doors: AtomicU64::new(0),
+            closed: AtomicU64::new(0),
         })
     }
 
@@ -106,6 +111,7 @@ impl Board {
     pub fn listen(&self, worker: usize, address: u64) {
         if let Some(peer) = self.peers.get(worker) {
             peer.address.store(address, Ordering::SeqCst);
+            self.doors.fetch_add(1, Ordering::SeqCst);
         }
     }
 
@@ -198,7 +204,14 @@ impl Board {
     pub fn close(&self, worker: usize) {
         if let Some(peer) = self.peers.get(worker) {
             set(&peer.open, false);
+            self.closed.fetch_add(1, Ordering::SeqCst);
         }
+    }
+
+    /// Whether all doors have closed, where some were given.
+    pub fn is_deserted(&self) -> bool {
+        let doors = self.doors.load(Ordering::SeqCst);
+        doors > 0 && self.closed.load(Ordering::SeqCst) >= doors
     }
 
     /// The worker has one link more.

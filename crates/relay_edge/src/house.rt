@@ -7,10 +7,11 @@ use crate::control::{Control, listen};
 use crate::door::RealDoor;
 use crate::file::RealFile;
 use crate::names::{Names, Refusal, text};
+use crate::origin::OriginLink;
 use crate::post::Post;
 use crate::rest::{RealRest, WAKER};
 use crate::shown::say;
-use crate::watch::{Watch, Watching};
+use crate::watch::{EDGE, Watch, Watching};
 use mio::net::TcpListener;
 use mio::{Events, Interest, Poll, Registry, Token, Waker};
 use relay_outside::House;
@@ -86,6 +87,17 @@ impl Hand {
         self.post.set_door(listener.as_raw_fd());
         let post = Arc::try_clone(&self.post)?;
         Ok(RealDoor::new(listener, registry, post, accept))
+    }
+
+    // The link to an origin at that address, once, where it has no door.
+    fn reach<R: Net>(&mut self, rt: &R, address: SocketAddr) -> io::Result<OriginLink>
+        ensures { IfOk result (λ l. l ≡ record { faults = 0; waits = 0; ends = 0 }) }
+    {
+        let Some(registry) = self.registry.take() else {
+            return Err(io::Error::from(io::ErrorKind::AlreadyExists));
+        };
+        let post = Arc::try_clone(&self.post)?;
+        Ok(OriginLink::reach(rt, &registry, address, post))
     }
 
     // Its rest, once.
@@ -267,6 +279,19 @@ impl<'a, R: Files<File = File>> RealHouse<'a, R> {
             let _ = self.rt.remove_file(path.as_str());
         }
         self.sockets.answers = false;
+    }
+}
+
+impl<'a, R: Net> RealHouse<'a, R> {
+    /// A link to the server at that address, and the rest of who pulls a stream from it and publishes it here. It doesn't wait until there is a
+    /// connection. Both are given once.
+    pub fn reach(&mut self, address: SocketAddr) -> io::Result<(OriginLink, RealRest)>
+        ensures same { self.new ≡ self.old }
+        ensures new { IfOk result (λ both. both.0 ≡ record { faults = 0; waits = 0; ends = 0 }) }
+    {
+        let link = self.sockets.hand(self.rt, EDGE)?.reach(self.rt, address)?;
+        let rest = self.sockets.rest(self.rt, EDGE)?;
+        Ok((link, rest))
     }
 }
 

@@ -3,7 +3,8 @@
 //! A [`RealHouse`] gives each worker a door and a rest. All doors share one listening socket, and balance; a link asks the
 //! system only where the worker's poll has reported that there is something to do; a rest waits until a socket of its
 //! worker is ready, or another worker did what received bytes brought. What links are told goes to a log, a link that is silent for
-//! too long fails, and a socket of its own answers how the server is and takes the word to stop ([`Watching`]).
+//! too long fails, and a socket of its own answers how the server is and takes the word to stop ([`Watching`]). It also gives a link to an
+//! origin, and the rest of who pulls from that.
 #![tactic(auto)]
 
 mod board;
@@ -18,6 +19,7 @@ mod journal;
 mod life;
 mod link;
 mod names;
+mod origin;
 mod outbox;
 mod post;
 mod rest;
@@ -31,6 +33,7 @@ pub use door::RealDoor;
 pub use file::RealFile;
 pub use house::RealHouse;
 pub use link::RealLink;
+pub use origin::OriginLink;
 pub use rest::RealRest;
 pub use segments::SegmentHouse;
 pub use shown::Shown;

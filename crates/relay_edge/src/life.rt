@@ -92,7 +92,7 @@ impl Life {
             return false;
         }
         let since = match self.doing.get() {
-            Doing::Plays => return false,
+            Doing::Plays | Doing::Pulled => return false,
             Doing::Publishes => self.gave.max(self.changed.get()),
             Doing::Nothing | Doing::Connected => self.changed.get(),
         };

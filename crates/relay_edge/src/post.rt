@@ -108,7 +108,7 @@ impl Post {
         self.board.links(self.worker)
     }
 
-    /// All workers are to hear that the server stops.
+    /// All workers are to hear that the server stops, or that an origin is gone.
     pub fn wake_all(&self) {
         self.board.wake_others(self.worker);
     }
@@ -151,6 +151,11 @@ impl Post {
         self.board.close(self.worker);
         self.board.wake_others(self.worker);
         true
+    }
+
+    /// Whether all doors have closed, so that nobody is served any more.
+    pub fn is_deserted(&self) -> bool {
+        self.board.is_deserted()
     }
 
     /// Whether one more link may be given. It is then claimed.
@@ -229,6 +234,12 @@ impl Post {
     /// The worker is about to wait. Whether it is to look at once, since something came.
     pub fn begin_wait(&self) -> bool {
         self.board.begin_wait(self.worker)
+    }
+
+    /// The worker is gone.
+    pub fn retire(&self) {
+        self.board.fill(self.worker, true);
+        let _ = self.board.begin_wait(self.worker);
     }
 
     /// The worker waits no more. Whether another woke it.

@@ -42,8 +42,8 @@ const LOOK_AT_DOOR: u32 = 8192;
 const LOOK_AT_PLACES: u32 = 256;
 
 /// Waits until there is something to do for a worker: at its sockets, or since another worker received bytes. That of one worker
-/// answers those who ask how the server is, too.
-#[derive(Drop)]
+/// answers those who ask how the server is, too. A worker whose rest is gone waits for ever and has no place for a link, as the others
+/// see it.
 pub struct RealRest {
     poll: Poll,
     events: Events,
@@ -58,6 +58,27 @@ pub struct RealRest {
     looked: u64,
     runs: bool,
     control: Option<Control>,
+}
+
+impl Drop for RealRest {
+    fn drop(self) {
+        let RealRest {
+            poll,
+            events,
+            post,
+            moves: _,
+            pauses: _,
+            stillness: _,
+            looked: _,
+            runs: _,
+            control,
+        } = self;
+        post.retire();
+        drop(control);
+        drop(events);
+        drop(poll);
+        drop(post);
+    }
 }
 
 // Marks what an event reports.

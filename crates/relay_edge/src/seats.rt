@@ -27,6 +27,8 @@ pub enum Doing {
     Connected,
     Publishes,
     Plays,
+    /// It is to an origin, whose stream is published here.
+    Pulled,
 }
 
 /// What a link is told, with the address of its peer.

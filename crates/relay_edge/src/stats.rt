@@ -91,6 +91,7 @@ fn word_of(doing: Doing) -> &'static str {
         Doing::Connected => "is connected",
         Doing::Publishes => "publishes",
         Doing::Plays => "plays",
+        Doing::Pulled => "is pulled",
     }
 }
 
@@ -102,7 +103,7 @@ fn roles(sights: &[Sight], stream: &Broadcasts) -> (u64, Option<SocketAddr>) {
         if stream.are_of(sight.app.as_slice(), sight.name.as_slice()) {
             match sight.doing {
                 Doing::Plays => players = players.saturating_add(1),
-                Doing::Publishes => publisher = Some(sight.address),
+                Doing::Publishes | Doing::Pulled => publisher = Some(sight.address),
                 _ => {}
             }
         }

@@ -9,8 +9,11 @@ use std::alloc::{AllocError, Global};
 use std::sync::atomic::{AtomicBool, AtomicU64, Ordering};
 use std::sync::{Arc, Mutex, OnceLock};
 
-/// As many workers as there may be: sixteen, and one of HTTP.
-pub const MOST_WORKERS: usize = 17;
+/// As many workers as there may be: sixteen, one of HTTP, and an edge.
+pub const MOST_WORKERS: usize = 18;
+
+/// The number of the edge.
+pub const EDGE: u32 = 17;
 
 /// So many milliseconds after the first worker runs each of the others has a thread, if it can have one.
 const STARTING: u64 = 2000;

@@ -276,14 +276,6 @@ fn refuse<R: Eprint>(
     status(BAD_INPUT)
 }
 
-// Whether the players that speak HTTP are to come to the address of all others, where another protocol is spoken.
-fn is_taken(config: &Config) -> bool {
-    match &config.http {
-        Some(at) => config.listen == *at,
-        None => false,
-    }
-}
-
 /// Reads the configuration in the file of that name and prints what it allows, or the first test that it fails.
 pub fn command<R: Eprint + Files<File = File>>(host: &HostRuntime, rt: &R, name: &str) -> Status {
     let alloc = host.alloc();
@@ -297,10 +289,6 @@ pub fn command<R: Eprint + Files<File = File>>(host: &HostRuntime, rt: &R, name:
     };
     match read_config(alloc, bytes.as_slice()) {
         Ok(config) => {
-            if is_taken(&config) {
-                let fail = ConfigFail::Range { key: Key::Http };
-                return refuse(host, rt, name, bytes.as_slice(), &fail);
-            }
             let limits = &config.limits;
             let sums = Sums {
                 all: sum(&config),
@@ -326,21 +314,16 @@ fn read_anew<R: Files<File = File>>(rt: &R, alloc: Global, name: &str) -> Option
     read(rt, alloc, name).ok()
 }
 
-/// Refuses the configuration in the file of that name where one address has both protocols. It says nothing of one that fails another
-/// test, and of what is no file that can be read twice.
-pub fn refuse_address<R: Eprint + Files<File = File>>(
-    host: &HostRuntime,
-    rt: &R,
-    name: &str,
-) -> Option<Status> {
-    let alloc = host.alloc();
-    let text = read_anew(rt, alloc, name)?;
-    let config = read_config(alloc, text.as_slice()).ok()?;
-    if !is_taken(&config) {
-        return None;
+/// Whether the configuration in the file of that name has no stream, so that its first place is an open table. What can't be read anew isn't
+/// looked at.
+pub fn is_open<R: Files<File = File>>(rt: &R, alloc: Global, name: &str) -> bool {
+    let Some(text) = read_anew(rt, alloc, name) else {
+        return false;
+    };
+    match read_config(alloc, text.as_slice()) {
+        Ok(config) => config.places.as_slice().is_empty(),
+        Err(_) => false,
     }
-    let fail = ConfigFail::Range { key: Key::Http };
-    Some(refuse(host, rt, name, text.as_slice(), &fail))
 }
 
 /// Says why the configuration in the file of that name is refused. It is read anew, where it is a file that can be.

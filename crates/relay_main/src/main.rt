@@ -8,6 +8,8 @@ mod adapters;
 mod check_config;
 mod clients;
 mod control;
+mod edge;
+mod looping;
 mod script;
 mod segments;
 mod serve;
@@ -47,11 +49,17 @@ const WRITE_FAULT: u8 = 5;
 /// The exit code of want of memory.
 const NO_MEMORY: u8 = 6;
 
+/// The exit code of an address, a file or a poll that couldn't be had.
+const HOUSE_FAULT: u8 = 7;
+
 /// The exit code of a file of which a unit was left out.
 const LEFT_OUT: u8 = 8;
 
 /// The exit code of a film of which more than 100,000 segments would be made.
 const TOO_MANY: u8 = 9;
+
+/// The exit code of a film that doesn't come back.
+const UNFINISHED: u8 = 9;
 
 /// The exit code of a connection that failed, or couldn't be made.
 const LINK_FAULT: u8 = 11;
@@ -275,6 +283,8 @@ fn answer<
     );
     if is_first(words, "serve") {
         serve::command(host, rt, words, &guards)
+    } else if is_first(words, "edge") {
+        edge::command(host, rt, words, &guards)
     } else if is_first(words, "stop") || is_first(words, "stats") {
         control::command(host, rt, words)
     } else if is_first(words, "segment") {
@@ -283,6 +293,8 @@ fn answer<
         clients::push_command(host, rt, words)
     } else if is_first(words, "pull") {
         clients::pull_command(host, rt, words)
+    } else if is_first(words, "loop") {
+        looping::command(host, words)
     } else {
         command(host, words, &guards)
     }

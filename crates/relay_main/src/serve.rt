@@ -1,7 +1,7 @@
 //! `relay serve`: the file of the configuration, the real house, and what is said on standard error.
 
 use crate::adapters::{ConfigFile, Reading, Writing};
-use crate::check_config::{explain, refuse_address};
+use crate::check_config::explain;
 use crate::watching::{Unfit, tell_unfit, watching};
 use crate::{BAD_INPUT, BAD_WORDS, NO_MEMORY, READ_FAULT, WRITE_FAULT, status, tell_fault};
 use key_guard::Guards;
@@ -15,11 +15,31 @@ use std::sync::Wait;
 use std::thread::Threads;
 use std::{io, net, str};
 
-// The name of the configuration's file.
-fn file_name(words: &[Vec<u8>]) -> &str {
+/// The name of the configuration's file.
+pub fn file_name(words: &[Vec<u8>]) -> &str {
     match words {
         [_, name] => str::from_utf8(name.as_slice()).unwrap_or(""),
         _ => "",
+    }
+}
+
+/// Says why a server ended whose configuration is in the file of that name, by what was wrong with the file and with standard output.
+pub fn tell_end<R: Eprint + Files<File = File>>(
+    host: &HostRuntime,
+    rt: &R,
+    name: &str,
+    ended: Status,
+    file: Option<io::Error>,
+    output: Option<io::Error>,
+) {
+    match ended.code {
+        READ_FAULT => tell_fault(host, name, file),
+        BAD_INPUT => explain(rt, host.alloc(), name),
+        WRITE_FAULT => tell_fault(host, "standard output", output),
+        NO_MEMORY => {
+            let _ = eprintln!(host; "relay: there was too little memory");
+        }
+        _ => {}
     }
 }
 
@@ -42,9 +62,6 @@ pub fn command<
             return status(BAD_WORDS);
         }
     };
-    if let Some(refused) = refuse_address(host, rt, name) {
-        return refused;
-    }
     let mut config = Reading::new(ConfigFile::open(rt, name));
     let mut report = Writing::new(io::writer(host));
     let Ok(mut house) = RealHouse::watched(rt, alloc, watching) else {
@@ -61,14 +78,6 @@ pub fn command<
         &mut report,
     );
     house.clear();
-    match ended.code {
-        READ_FAULT => tell_fault(host, name, config.error()),
-        BAD_INPUT => explain(rt, alloc, name),
-        WRITE_FAULT => tell_fault(host, "standard output", report.error()),
-        NO_MEMORY => {
-            let _ = eprintln!(host; "relay: there was too little memory");
-        }
-        _ => {}
-    }
+    tell_end(host, rt, name, ended, config.error(), report.error());
     ended
 }

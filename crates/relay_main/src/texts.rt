@@ -3,6 +3,7 @@
 pub const VERSION: &str = "relay 0.1.0\n";
 
 pub const USAGE: &str = "usage: relay serve FILE
+       relay edge FILE ADDRESS APP NAME
        relay stats PATH [--json]
        relay stop PATH
        relay check-config FILE
@@ -14,6 +15,7 @@ pub const USAGE: &str = "usage: relay serve FILE
        relay segment NAME T < FLV > M3U8
        relay push ADDRESS APP NAME < FLV
        relay pull ADDRESS APP NAME > FLV
+       relay loop < FLV > FLV
        relay [COMMAND] --help
        relay --version
 ";
@@ -21,8 +23,9 @@ pub const USAGE: &str = "usage: relay serve FILE
 pub const ABOUT: &str = "relay: a live video relay, whose rules are proved\n";
 
 /// Each command with what is told of it.
-pub const COMMANDS: [(&str, &str); 12] = [
+pub const COMMANDS: [(&str, &str); 14] = [
     ("serve", SERVE),
+    ("edge", EDGE),
     ("stats", STATS),
     ("stop", STOP),
     ("check-config", CHECK_CONFIG),
@@ -34,6 +37,7 @@ pub const COMMANDS: [(&str, &str); 12] = [
     ("segment", SEGMENT),
     ("push", PUSH),
     ("pull", PULL),
+    ("loop", LOOP),
 ];
 
 const SERVE: &str = "relay serve listens as the configuration in FILE says: encoders publish to it
@@ -49,6 +53,23 @@ and prints a line for each stream. By variables of the environment:
                        20 if not set, and 0 for never
   RELAY_CONTROL=PATH   the Unix socket for stats and stop, which only its owner
                        may use; none if not set
+";
+
+const EDGE: &str =
+    "relay edge serves as relay serve FILE does, and pulls the stream NAME of the app APP
+of the RTMP server at ADDRESS, its origin, an IP address and a port, as
+127.0.0.1:1935. What comes of it is published at the first stream of FILE. NAME
+may carry a key behind '?'. It says on standard error when the origin plays the
+stream, and why it does no longer: the broadcast ends here then, and the server
+goes on. The report has one more line:
+
+  edge E
+      E is peerclosed, linkfault, badversion AT, badchunk CAUSE AT,
+      badcontrol AT, badcommand AT or refused, by the origin; inuse where
+      somebody else publishes here; noslot or worn.
+
+A word to stop ends the pull too. RELAY_SILENCE says how long the origin may
+take until it plays.
 ";
 
 const STATS: &str =
@@ -158,6 +179,12 @@ tables are numbered from 0, each kind in the order of its lines.
       A recorder of stream S. FORM is flv, or ts for a transport stream.
   open
       A session. There are at most 64, and 64 streams and names together.
+  openhttp
+      A player over HTTP, numbered among the sessions. What it is given is its
+      request.
+  openedge S APP NAME
+      An edge, numbered among the sessions: it publishes at stream S what a relay
+      is told to have under these names. What it is given is what that relay sends.
   in S HEX
       Session S is given the bytes that the digits HEX name.
   eof S
@@ -181,7 +208,8 @@ prints, with digits for bytes and - for none:
   session S end E
       E is none, peerclosed, linkfault, badversion AT, badchunk CAUSE AT,
       badcontrol AT, badcommand AT, toomanystreams AT, quit or worn. AT is the
-      place in what the session was given, from 0.
+      place in what the session was given, from 0. A player over HTTP also ends
+      by answered CODE, and an edge by refused or inuse.
   recorder R file HEX
   recorder R end E
       E is none, sinkfault, full or worn.
@@ -241,20 +269,30 @@ each tag as it comes. It ends when the server says that the stream is over. NAME
 may carry a key behind '?'.
 ";
 
+const LOOP: &str =
+    "relay loop sends the FLV of standard input through the relay and writes what comes
+back as FLV on standard output. It opens no connection: one client publishes the
+film and another plays it, over a stream of this program, on one thread. A film
+has at most 268435456 bytes.
+";
+
 pub const STATUS: &str = "Exit status:
-  0  the input was read to its end; by serve, it ended and its report is whole;
-     by soak, the run was made; by pull, the stream was played to its end
+  0  the input was read to its end; by serve and edge, it ended and its report
+     is whole; by soak, the run was made; by pull, the stream was played to its
+     end; by loop, the film came back
   2  the command line is none of the above; nothing was read or written
   3  standard input failed, or the FILE of a configuration
   4  a line of the script is none of the above, or may not stand there; or the
      file is none, or none any more from a byte on. What the lines or the units
-     before give is written, but by replay nothing. By serve, the configuration
-     is refused, and standard output has the first test that it fails
+     before give is written, but by replay nothing. By serve and edge, the
+     configuration is refused, and standard output has the first test that it
+     fails
   5  standard output failed; by segment, also where a file did
   6  there was too little memory
-  7  the address or a file couldn't be had; by serve, nobody was served
+  7  the address or a file couldn't be had; by serve and edge, nobody was served
   8  the file was read to its end, and a unit of sound or pictures was left out
-  9  by segment: there would be more than 100000 segments
+  9  by segment: there would be more than 100000 segments; by loop: the film
+     didn't come back
   10 by push and pull: the server closed the connection
   11 by push, pull, stats and stop: there was no connection, or it failed
   12 by push and pull: what the server sent is no RTMP from byte PLACE on

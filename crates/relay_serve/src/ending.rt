@@ -376,6 +376,7 @@ pub(crate) fn end_all<W: Wait, H: House>(
     ensures faults { (H.told house.new).faults ≡ (H.told house.old).faults }
     ensures asked { H.asked house.new ≡ H.asked house.old }
     ensures named { H.named house.new ≡ H.named house.old }
+    ensures noted { (q : ℕ) → Contains full.old.items q → Contains full.new.items q }
     ensures kept { result ≡ true → TellsMore
         (IsRecorded (shared_rules port.old).limits (told_at port.old.roots) (told_at port.new.roots) (Contains full.new.items) config.now.places)
         (recordings_upto config.now (vec_len list)) (H.told house.old).kept (H.told house.new).kept }

@@ -1,5 +1,5 @@
 //! The worker of HTTP players, where the configuration has an address for them: it is opened, taken apart, and its door is shut.
-ghost use Rattle.std.specs.Prelude.{◌≡◌, ◌≤◌, ◌+◌, Bool, true, false, option_map, is_some, vec_len, All, IfOk, IfSome, MatchResult};
+ghost use Rattle.std.specs.Prelude.{◌≡◌, ◌≤◌, ◌+◌, if◌then◌else◌, Bool, true, false, option_map, is_some, vec_len, All, IfOk, IfSome, MatchResult};
 ghost use Rattle.relay_config.specs.Accepts.{Lawful};
 ghost use Rattle.relay_config.specs.Sum.{http_workers};
 ghost use Rattle.relay_outside.specs.Doors.{IsDone, with_one};
@@ -21,7 +21,7 @@ use std::alloc::Global;
 use stream_registry::{Desk, Shared};
 
 /// The worker of the HTTP players.
-pub(crate) type ServeHttp<D, R> = HttpWorker<Shared<Desk>, D, R>;
+pub type ServeHttp<D, R> = HttpWorker<Shared<Desk>, D, R>;
 
 // The worker whose door listens there.
 fn open_at<H: House>(
@@ -49,6 +49,34 @@ fn open_at<H: House>(
         return Err(OpenFail::OutOfMemory);
     };
     Ok(worker)
+}
+
+/// How many ports more that is.
+pub(crate) fn spare_ports(wanted: bool) -> usize
+    ensures value { result ≡ (if wanted then 1 else 0) }
+    ensures most { result ≤ 1 }
+{
+    if wanted { 1 } else { 0 }
+}
+
+/// One port more, where it is wanted: the last of these.
+pub(crate) fn spare_port(
+    wanted: bool,
+    rules: &Shared<Desk>,
+    ports: &mut Vec<Shared<Desk>>,
+) -> Option<Shared<Desk>>
+    requires some { (if wanted then 1 else 0) ≤ vec_len ports.old }
+    requires rules { All (HasRules (shared_rules rules.now)) ports.old.items }
+    ensures there { is_some result ≡ wanted }
+    ensures others { vec_len ports.new + (if wanted then 1 else 0) ≡ vec_len ports.old }
+    ensures rules { All (HasRules (shared_rules rules.now)) ports.new.items }
+    ensures own { IfSome result (HasRules (shared_rules rules.now)) }
+{
+    let _ = rules;
+    if !wanted {
+        return None;
+    }
+    ports.pop()
 }
 
 /// Its port: the last of these.

@@ -1,7 +1,8 @@
 //! `relay serve`: workers over shared ports, recorders, and the report of each stream.
 //!
 //! Read [`serve`] first. What stands with its codes is `specs/Ends.antt`, the report `specs/Counts.antt`, the recordings
-//! `specs/Recordings.antt`, the worker of HTTP players `specs/Http.antt`. Sockets and files are its house's.
+//! `specs/Recordings.antt`, the worker of HTTP players `specs/Http.antt`. Sockets and files are its house's. The steps of `serve` are
+//! public for `edge_serve`, which does the same beside an edge.
 #![tactic(auto)]
 
 mod beside;
@@ -14,5 +15,12 @@ mod reading;
 mod serving;
 mod starting;
 
+pub use http::ServeHttp;
 pub use laws::recordings_law;
-pub use serving::{Ending, serve};
+pub use put::{PutFail, put_all};
+pub use reading::{ReadFail, read_text};
+pub use serving::{
+    Ending, Ready, code_of, conclude, make_ready, ready_workers, refuse, run_workers, serve,
+    unopened,
+};
+pub use starting::{OpenFail, ServeWorker};

@@ -7,13 +7,13 @@ use relay_outside::{Put, Sink};
 
 /// Why a text wasn't put.
 #[derive(Clone, Copy, Debug, PartialEq, Eq)]
-pub(crate) enum PutFail {
+pub enum PutFail {
     SinkFault,
     OutOfMemory,
 }
 
 /// Puts all of the text. Where it fails a first part is put.
-pub(crate) fn put_all<K: Sink>(out: &mut K, text: &[u8]) -> Result<(), PutFail>
+pub fn put_all<K: Sink>(out: &mut K, text: &[u8]) -> Result<(), PutFail>
     ensures text { MatchResult result (λ _. K.holds out.new ≡ append_known (K.holds out.old) text.now)
         (λ fail. PutFails fail text.now (K.holds out.old) (K.holds out.new)) }
     ensures faults { MatchResult result (λ _. K.faults out.new ≡ K.faults out.old) (λ fail. SinkCause fail (K.faults out.old) (K.faults out.new)) }

@@ -15,13 +15,13 @@ const PIECE: usize = 4096;
 
 /// Why a text wasn't read.
 #[derive(Clone, Copy, Debug, PartialEq, Eq)]
-pub(crate) enum ReadFail {
+pub enum ReadFail {
     SourceFault,
     OutOfMemory,
 }
 
 /// What a source gives to its end, or the first 1,048,577 bytes where it gives more.
-pub(crate) fn read_text<S: Source>(alloc: Global, source: &mut S) -> Result<Vec<u8>, ReadFail>
+pub fn read_text<S: Source>(alloc: Global, source: &mut S) -> Result<Vec<u8>, ReadFail>
     ensures text { IfOk result (λ bytes. TakesText (S.left source.old) (S.left source.new) bytes.items) }
     ensures cause { MatchResult result (λ _. S.faults source.new ≡ S.faults source.old)
         (λ fail. SourceCause fail (S.faults source.old) (S.faults source.new)) }

@@ -1,5 +1,5 @@
 //! `relay serve`.
-ghost use Rattle.std.specs.Prelude.{◌≡◌, ◌≤◌, ℕ, is_some, map, vec_len, All, IfOk, IfSome, MatchResult, List, Option};
+ghost use Rattle.std.specs.Prelude.{◌≡◌, ◌≢◌, ◌<◌, ◌≤◌, ℕ, is_some, map, vec_len, All, Contains, IfOk, IfSome, MatchResult, List, Option};
 ghost use Rattle.relay_config.specs.Accepts.{Lawful};
 ghost use Rattle.relay_serve.specs.Ends.{EndsAs, HouseCause, RefusesAs, RunsAs, Serves, code_of, outer, seen, unopened_as};
 ghost use Rattle.relay_serve.specs.Places.{AreShaped, HasPlaces, limits_in, places_in};
@@ -12,13 +12,17 @@ ghost use Rattle.relay_serve.specs.Words.{is_serve};
 ghost use Rattle.http_worker.specs.Running.{HasRun as HasRunHttp};
 ghost use Rattle.relay_worker.specs.Running.{EachAt, HasRun};
 ghost use Rattle.stream_registry.specs.Pasts.{Attempt};
-ghost use Rattle.stream_registry.specs.Roots.{seen_at};
+ghost use Rattle.stream_registry.specs.Gates.{told_at};
+ghost use Rattle.stream_registry.specs.Refusals.{IsFull};
+ghost use Rattle.stream_registry.specs.Roots.{Later, seen_at};
 ghost use Rattle.stream_registry.specs.SharedState.{shared_rules};
 
 use crate::beside::run_beside;
 use crate::counting::{count_all, has_worn, report_of};
 use crate::ending::{end_all, take_all_apart};
-use crate::http::{ServeHttp, open_http, own_port, shut_http, take_http_apart};
+use crate::http::{
+    ServeHttp, open_http, own_port, shut_http, spare_port, spare_ports, take_http_apart,
+};
 use crate::put::{PutFail, put_all};
 use crate::reading::{ReadFail, read_text};
 use crate::starting::{OpenFail, ServeWorker, names_of, open_workers, opens_of};
@@ -52,7 +56,8 @@ pub enum Ending {
     HouseFault,
 }
 
-fn code_of(ending: Ending) -> u8
+/// The exit code of each.
+pub fn code_of(ending: Ending) -> u8
     ensures { result ≡ code_of ending }
 {
     match ending {
@@ -87,8 +92,8 @@ fn stream_limits(config: &Config) -> StreamLimits
     }
 }
 
-// Why nobody could be served.
-fn unopened(fail: OpenFail) -> Ending
+/// How it ends where nobody could be served.
+pub fn unopened(fail: OpenFail) -> Ending
     ensures { result ≡ unopened_as fail }
 {
     match fail {
@@ -97,19 +102,21 @@ fn unopened(fail: OpenFail) -> Ending
     }
 }
 
-// What is ready before the first worker runs: a port of the server's own, and the workers.
+/// What is ready before the first worker runs: a port of the server's own, the workers, and one port more where that was asked for.
 #[derive(Drop)]
-struct Ready<D: Door, R: Rest, K: Sink> {
-    port: Shared<Desk>,
-    workers: Vec<ServeWorker<D, R, K>>,
-    http: Option<ServeHttp<D, R>>,
+pub struct Ready<D: Door, R: Rest, K: Sink> {
+    pub port: Shared<Desk>,
+    pub workers: Vec<ServeWorker<D, R, K>>,
+    pub http: Option<ServeHttp<D, R>>,
+    pub spare: Option<Shared<Desk>>,
 }
 
-// Asks the house for all doors, rests and files, and makes the workers.
-fn make_ready<H: House>(
+/// Asks the house for all doors, rests and files, and makes the workers, and one port more where that is wanted.
+pub fn make_ready<H: House>(
     alloc: Global,
     config: &Config,
     house: &mut H,
+    spare: bool,
 ) -> Result<Ready<H::Door, H::Rest, H::File>, OpenFail>
     requires lawful { Lawful config.now }
     ensures house { MatchResult result (λ _. H.told house.new ≡ H.told house.old) (λ fail. HouseCause fail (H.told house.old) (H.told house.new)) }
@@ -125,6 +132,8 @@ fn make_ready<H: House>(
     ensures http_there { IfOk result (λ ready. is_some ready.http ≡ is_some config.now.http) }
     ensures http_rules { IfOk result (λ ready. IfSome ready.http (λ w. HasRules (shared_rules ready.port) w.bench.port)) }
     ensures http_serving { IfOk result (λ ready. IfSome ready.http (IsServingHttp config.now H.Door.Link.told H.Door.Link.counts H.Door.told)) }
+    ensures spare_there { IfOk result (λ ready. is_some ready.spare ≡ spare) }
+    ensures spare_rules { IfOk result (λ ready. IfSome ready.spare (HasRules (shared_rules ready.port))) }
 {
     places_law();
     let Ok(names) = names_of(alloc, config.places.as_slice()) else {
@@ -133,13 +142,14 @@ fn make_ready<H: House>(
     let Ok(opens) = opens_of(alloc, config.opens.as_slice()) else {
         return Err(OpenFail::OutOfMemory);
     };
-    let count = config.workers as usize + http_workers(config) as usize + 1;
+    let count = config.workers as usize + http_workers(config) as usize + spare_ports(spare) + 1;
     let Ok(mut ports) = shared_ports(alloc, names, opens, stream_limits(config), count) else {
         return Err(OpenFail::OutOfMemory);
     };
     let Some(port) = ports.pop() else {
         return Err(OpenFail::OutOfMemory);
     };
+    let spare = spare_port(spare, &port, &mut ports);
     let own = own_port(config, &port, &mut ports);
     let workers = open_workers(alloc, house, config, &port, ports)?;
     let http = open_http(alloc, house, config, &port, own)?;
@@ -147,11 +157,13 @@ fn make_ready<H: House>(
         port,
         workers,
         http,
+        spare,
     })
 }
 
-// What comes after the workers, the report last.
-fn conclude<W: Wait, H: House, K: Sink>(
+/// What comes after the workers, the report last. The places that are known to have a full history are handed in: the report says of
+/// each that it is.
+pub fn conclude<W: Wait, H: House, K: Sink>(
     rt: &W,
     alloc: Global,
     config: &Config,
@@ -160,6 +172,7 @@ fn conclude<W: Wait, H: House, K: Sink>(
     port: &mut Shared<Desk>,
     workers: Vec<ServeWorker<H::Door, H::Rest, H::File>>,
     http: Option<ServeHttp<H::Door, H::Rest>>,
+    mut full: Vec<u32>,
 ) -> Ending
     requires total { places_in config.now ≤ 64 }
     requires places { HasPlaces config.now (shared_rules port.old) }
@@ -173,16 +186,19 @@ fn conclude<W: Wait, H: House, K: Sink>(
     requires http_run { IfSome http (HasRunHttp H.Door.told) }
     requires http_rules { IfSome http (λ w. HasRules (shared_rules port.old) w.bench.port) }
     requires http_serving { IfSome http (IsServingHttp config.now H.Door.Link.told H.Door.Link.counts H.Door.told) }
-    ensures { (before : Option (List Asked)) → AsksAll config.now config.now.workers before (H.asked house.old)
+    ensures runs { (before : Option (List Asked)) → AsksAll config.now config.now.workers before (H.asked house.old)
         → (names : Option (List (List ℕ))) → H.named house.old ≡ with_names names (names_upto config.now config.now.workers)
         → RunsAs config.now (seen_at port.new.roots) (seen (K.holds out.old) (K.faults out.old) (H.told house.old) before names)
         (seen (K.holds out.new) (K.faults out.new) (H.told house.new) (H.asked house.new) (H.named house.new)) result }
+    ensures opened { result ≢ Ending.HouseFault }
+    ensures grown { result ≡ Ending.Served → Later (told_at port.old.roots) (told_at port.new.roots) }
+    ensures full { result ≡ Ending.Served → (place : ℕ) → place < places_in config.now → Contains full.items place
+        → IsFull ((shared_rules port.old).limits place) (seen_at port.new.roots place) }
 {
     let Ok(left) = take_all_apart(alloc, config, port, workers) else {
         return Ending::OutOfMemory;
     };
     let players = take_http_apart(config, port, http);
-    let mut full = Vec::new(alloc);
     let ended = end_all(rt, port, house, &mut full, config, left.list);
     let whole = ended & shut_http(house, config, players.door);
     let streams = config.places.len();
@@ -223,8 +239,8 @@ fn ready_all<W: Wait, D: Door, R: Rest, K: Sink>(
     }
 }
 
-// The same of workers that are handed on.
-fn ready_workers<W: Wait, D: Door, R: Rest, K: Sink>(
+/// All recorders join their streams, before a session can publish to one.
+pub fn ready_workers<W: Wait, D: Door, R: Rest, K: Sink>(
     rt: &W,
     mut workers: Vec<ServeWorker<D, R, K>>,
     port: &Shared<Desk>,
@@ -241,8 +257,8 @@ fn ready_workers<W: Wait, D: Door, R: Rest, K: Sink>(
     workers
 }
 
-// All workers run, each in a thread of its own, with the desk of the configuration's streams and open tables.
-fn run_workers<T: Threads + Wait + Sync, D: Door + Send, R: Rest + Send, K: Sink + Send>(
+/// All workers run, each in a thread of its own, with the desk of the configuration's streams and open tables.
+pub fn run_workers<T: Threads + Wait + Sync, D: Door + Send, R: Rest + Send, K: Sink + Send>(
     rt: &T,
     workers: Vec<ServeWorker<D, R, K>>,
     http: Option<ServeHttp<D, R>>,
@@ -293,24 +309,35 @@ fn run<T: Threads + Wait + Sync, H: House, K: Sink>(
         (seen (K.holds out.old) (K.faults out.old) (H.told house.old) (H.asked house.old) (H.named house.old))
         (seen (K.holds out.new) (K.faults out.new) (H.told house.new) (H.asked house.new) (H.named house.new)) result }
 {
-    match make_ready(alloc, config, house) {
+    match make_ready(alloc, config, house, false) {
         Ok(
             Ready {
                 mut port,
                 workers,
                 http,
+                spare: _,
             },
         ) => {
             let workers = ready_workers(rt, workers, &port, config);
             let (workers, http) = run_workers(rt, workers, http, &port, guards, config);
-            conclude(rt, alloc, config, house, out, &mut port, workers, http)
+            conclude(
+                rt,
+                alloc,
+                config,
+                house,
+                out,
+                &mut port,
+                workers,
+                http,
+                Vec::new(alloc),
+            )
         }
         Err(fail) => unopened(fail),
     }
 }
 
-// Reports why a configuration is refused.
-fn refuse<K: Sink>(alloc: Global, fail: &ConfigFail, out: &mut K) -> Ending
+/// Reports why a configuration is refused.
+pub fn refuse<K: Sink>(alloc: Global, fail: &ConfigFail, out: &mut K) -> Ending
     ensures { RefusesAs fail.now (K.holds out.old) (K.faults out.old) (K.holds out.new) (K.faults out.new) result }
 {
     if matches!(fail, ConfigFail::OutOfMemory) {

@@ -24,7 +24,7 @@ use stream_core::ShortName;
 use stream_registry::{Desk, Name, NameList, OpenList, OpenName, Shared};
 
 /// A worker of the server.
-pub(crate) type ServeWorker<D, R, K> = Worker<Shared<Desk>, D, R, K>;
+pub type ServeWorker<D, R, K> = Worker<Shared<Desk>, D, R, K>;
 
 /// A recorder of the server.
 pub(crate) type ServeRecorder<K> = Recorder<Shared<Desk>, K>;
@@ -34,7 +34,7 @@ const RECORDERS: u64 = 1 << 60;
 
 /// Why nobody can be served.
 #[derive(Clone, Copy, Debug, PartialEq, Eq)]
-pub(crate) enum OpenFail {
+pub enum OpenFail {
     HouseFault,
     OutOfMemory,
 }

@@ -49,6 +49,7 @@ loop-left-preserved g c =
       faults = e.faults ∙ i.faults;
       asked = e.asked ∙ i.asked;
       named = e.named ∙ i.named;
+      noted = λ q f. e.noted q (i.noted q f);
       fewer = omega (arith, shorter, i.fewer);
       rest = λ worn a. (All-pop (λ x. IsBalanced config streams first worn x.number (g.H.Door.Door.told x.door)) xs ys (Some x) c.in-Some.ensures.items (i.rest worn a)).0;
       kept = λ w.

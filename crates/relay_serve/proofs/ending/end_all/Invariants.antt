@@ -1,4 +1,4 @@
-use Rattle.std.proofs.Common.{◌≡◌, ◌≤◌, ◌+◌, ◌-◌, Bool, true, length}
+use Rattle.std.proofs.Common.{◌≡◌, ◌≤◌, ◌+◌, ◌-◌, ℕ, Bool, true, length}
 use Rattle.std.specs.List.{range_with_len}
 use Rattle.std.specs.Prelude.{All, Contains}
 use Rattle.stream_registry.specs.Gates.{told_at}
@@ -19,6 +19,7 @@ invariant-loop-left g l = record {
   faults : (g.H.House.told l.house).faults ≡ (g.H.House.told l.fn.house).faults;
   asked : g.H.House.asked l.house ≡ g.H.House.asked l.fn.house;
   named : g.H.House.named l.house ≡ g.H.House.named l.fn.house;
+  noted : (q : ℕ) → Contains l.fn.full.items q → Contains l.full.items q;
   fewer : length l.list.items ≤ length l.fn.list.items;
   rest : (worn : Bool) → All (λ x. IsBalanced l.config (shared_rules l.fn.port).limits (told_at l.fn.port.roots) worn x.number (g.H.Door.Door.told x.door)) l.fn.list.items
       → All (λ x. IsBalanced l.config (shared_rules l.fn.port).limits (told_at l.fn.port.roots) worn x.number (g.H.Door.Door.told x.door)) l.list.items;

@@ -1,4 +1,4 @@
-use Rattle.std.proofs.Common.{rules, Bool, ◌||◌, ℕ, List, Option, ◌≡◌, ◌∙◌, refl, sym, ap, subst, arith, length}
+use Rattle.std.proofs.Common.{rules, Bool, ◌||◌, None, ℕ, List, Option, ◌≡◌, ◌∙◌, refl, sym, ap, subst, arith, length}
 use Rattle.std.specs.List.{range_with_len}
 use Rattle.std.proofs.lemmas.List.Elements.{All-weaker}
 use Rattle.std.specs.Prelude.{All, Contains, IfSome, slice_get}
@@ -6,6 +6,7 @@ use Rattle.std.specs.Option.{option_map}
 use Rattle.relay_outside.specs.Houses.{Asked, Kept}
 use Rattle.stream_registry.specs.Names.{PortRules}
 use Rattle.stream_registry.specs.Gates.{told_at}
+use Rattle.stream_registry.specs.Refusals.{IsFull}
 use Rattle.stream_registry.specs.Roots.{seen_at}
 use Rattle.stream_registry.specs.SharedState.{shared_rules}
 use Rattle.relay_serve.specs.Ends.{Reports, seen}
@@ -35,8 +36,8 @@ pub take_http_apart-players-requires-clause-rules : goal.take_http_apart-players
 take_http_apart-players-requires-clause-rules g c κs within =
     subst (λ (q : PortRules). IfSome c.args.http (λ w. HasRules q w.bench.port)) (sym c.take_all_apart.ensures.rules) c.requires.http_rules
 
-pub returns-in-Ok-put_all : goal.returns-in-Ok-put_all
-returns-in-Ok-put_all g c = λ before_asked all before_named names.
+pub returns-in-Ok-put_all-clause-runs : goal.returns-in-Ok-put_all-clause-runs
+returns-in-Ok-put_all-clause-runs g c = λ before_asked all before_named names.
     let config = c.args.config.now in
     let streams = (shared_rules c.args.port.now).limits in
     let apart = told_at c.take_all_apart.new.first.roots in
@@ -99,3 +100,24 @@ returns-in-Ok-put_all g c = λ before_asked all before_named names.
           before.kept before.kept mid.kept (ap (recordings_upto config) count) refl kept));
     } in
     (reports, c.in-Ok-put_all.ensures.faults, c.shut_http.ensures.faults ∙ c.end_all-ended.ensures.faults)
+
+pub returns-in-Ok-put_all-clause-grown : goal.returns-in-Ok-put_all-clause-grown
+returns-in-Ok-put_all-clause-grown g c = λ served.
+    let old = told_at c.args.port.now.roots in
+    let apart = told_at c.take_all_apart.new.first.roots in
+    let joined = told_at c.take_http_apart-players.new.first.roots in
+    let h = told_at c.end_all-ended.new.port.roots in
+    let k = told_at c.count_all.new.port.roots in
+    later_then old apart k c.take_all_apart.ensures.grown
+    (later_then apart joined k c.take_http_apart-players.ensures.grown (later_then joined h k c.end_all-ended.ensures.grown c.count_all.ensures.grown))
+
+pub returns-in-Ok-put_all-clause-full : goal.returns-in-Ok-put_all-clause-full
+returns-in-Ok-put_all-clause-full g c = λ served place l f.
+    let attempts = seen_at c.count_all.new.port.roots in
+    let each : length c.in-Ok-count_all.counts.items ≡ places_in c.args.config.now = search rules in
+    let slice : c.as_slice.result.now ≡ c.end_all-ended.new.full.items = search rules in
+    let worn = c.in-Ok-count_all.ensures.worn place (omega (arith, l, each, c.in-Ok-count_all.ensures.each, c.in-Ok-count_all.counts.ok.0))
+    (subst (λ (x : List ℕ). Contains x place) (sym slice) (c.end_all-ended.ensures.noted place f)) in
+    subst (λ (q : PortRules). IsFull (q.limits place) (attempts place))
+    (c.end_all-ended.ensures.rules ∙ (c.take_http_apart-players.ensures.rules ∙ c.take_all_apart.ensures.rules))
+    (c.in-Ok-count_all.ensures.last place None worn)

@@ -13,15 +13,15 @@ returns-in-Ok g c = (
   seen_at c.conclude.new.port.roots,
   subst (λ (h : HouseTold). RunsAs c.args.config.now (seen_at c.conclude.new.port.roots) (seen (g.K.Sink.holds c.args.out.now) (g.K.Sink.faults c.args.out.now) h (g.H.House.asked c.args.house.now) (g.H.House.named c.args.house.now))
       (seen (g.K.Sink.holds c.conclude.new.out) (g.K.Sink.faults c.conclude.new.out) (g.H.House.told c.conclude.new.house) (g.H.House.asked c.conclude.new.house) (g.H.House.named c.conclude.new.house)) c.conclude.result) c.in-Ok.ensures.house
-      (c.conclude.ensures (g.H.House.asked c.args.house.now)
+      (c.conclude.ensures.runs (g.H.House.asked c.args.house.now)
       (subst (λ (n : ℕ). AsksAll c.args.config.now n (g.H.House.asked c.args.house.now) (g.H.House.asked c.make_ready.new.house))
       c.in-Ok.ensures.each c.in-Ok.ensures.asked)
       (g.H.House.named c.args.house.now)
       (c.in-Ok.ensures.named ∙ ap (λ (n : ℕ). with_names (g.H.House.named c.args.house.now) (names_upto c.args.config.now n)) c.in-Ok.ensures.each)),
 )
 
-pub returns-in-Err : goal.returns-in-Err
-returns-in-Err g c =
+pub returns : goal.returns
+returns g c =
     let r = runs_unopened c.args.config.now (λ q. []) (g.K.Sink.holds c.args.out.now) (g.K.Sink.faults c.args.out.now) (g.H.House.told c.args.house.now)
     (g.H.House.told c.make_ready.new.house) (g.H.House.asked c.args.house.now) (g.H.House.asked c.make_ready.new.house) (g.H.House.named c.args.house.now) (g.H.House.named c.make_ready.new.house) c.in-Err.fail c.in-Err.ensures.house in
     (λ q. [], search (rules, r))

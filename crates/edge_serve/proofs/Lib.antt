@@ -1,0 +1,5 @@
+pub mod Walking
+pub mod Turned
+pub mod Leaving
+pub mod Pulled
+pub mod Ending

@@ -1,0 +1,125 @@
+//! The thread of an edge.
+ghost use Rattle.std.specs.Prelude.{◌≡◌, ◌≤◌, IfOk, []};
+ghost use Rattle.client_command.specs.Words.{AreShort};
+ghost use Rattle.origin_pull.specs.EdgeState.{IsNew};
+ghost use Rattle.stream_registry.specs.Gates.{told_at};
+ghost use Rattle.stream_registry.specs.SharedState.{shared_rules};
+ghost use Rattle.edge_serve.specs.Driving.{CanPull, IsPulled, end_then};
+ghost use Rattle.edge_serve.specs.Pulls.{origin};
+ghost use Rattle.edge_serve.specs.Words.{pull_of};
+
+use crate::driving::{drive, leave};
+use crate::line::edge_line;
+use crate::telling::tell_over;
+use av_unit::{Bytes, OutOfMemory};
+use chunk_reader::one_reading;
+use client_owed::Wish;
+use origin_pull::{Edge, EdgeEnd};
+use relay_outside::{Link, Rest};
+use rtmp_client::Client;
+use std::alloc::Global;
+use std::sync::Wait;
+use stream_registry::{Desk, Shared};
+
+/// The name of the edge.
+const NAME: u64 = (1 << 61) + (1 << 60);
+
+/// Its place.
+pub(crate) const PLACE: u32 = 0;
+
+/// What is pulled: the stream of an origin, and how many bytes its longest message may have.
+#[derive(Clone, Copy)]
+pub(crate) struct Stream<'a> {
+    pub app: &'a [u8],
+    pub name: &'a [u8],
+    pub longest: u32,
+}
+
+/// What is left of an edge: its port and its link, why it has ended, and its line in the report.
+#[derive(Drop)]
+pub(crate) struct Pulled<L: Link> {
+    pub port: Shared<Desk>,
+    pub link: L,
+    pub end: EdgeEnd,
+    pub line: Vec<u8>,
+}
+
+fn bytes_of(alloc: Global, text: &[u8]) -> Result<Bytes, OutOfMemory>
+    ensures { IfOk result (λ bytes. bytes ≡ text.now) }
+{
+    let mut bytes = Bytes::new(alloc);
+    bytes.append(text)?;
+    Ok(bytes)
+}
+
+// A client that asks for the stream.
+fn new_client(alloc: Global, stream: Stream<'_>) -> Result<Client, OutOfMemory>
+    requires short { AreShort stream.app.now stream.name.now }
+    requires most { stream.longest ≤ 4194304 }
+    ensures asked { IfOk result (λ c. c.parts.asked ≡ pull_of stream.entry.app.now stream.entry.name.now) }
+    ensures max { IfOk result (λ c. c.parts.reader.max ≡ stream.entry.longest) }
+    ensures new { IfOk result IsNew }
+    ensures empty { IfOk result (λ c. c.input ≡ []) }
+{
+    let app = bytes_of(alloc, stream.app)?;
+    let name = bytes_of(alloc, stream.name)?;
+    Client::new(alloc, Wish::Pull, app, name, stream.longest)
+}
+
+// Why it has ended, where it has left a place whose history is full or isn't.
+fn end_then(end: EdgeEnd, worn: bool) -> EdgeEnd
+    ensures { result ≡ end_then end worn }
+{
+    match (end, worn) {
+        (EdgeEnd::OutOfMemory, _) => EdgeEnd::OutOfMemory,
+        (_, true) => EdgeEnd::Worn,
+        (end, false) => end,
+    }
+}
+
+/// Pulls the stream until that is over, and leaves. An edge for which there was no memory, and one whose line had none, have ended for
+/// want of it.
+pub(crate) fn pull<W: Wait, L: Link, R: Rest>(
+    rt: &W,
+    alloc: Global,
+    mut port: Shared<Desk>,
+    stream: Stream<'_>,
+    mut link: L,
+    mut rest: R,
+) -> Pulled<L>
+    requires { CanPull stream.app.now stream.name.now stream.longest (shared_rules port) }
+    ensures { IsPulled (pull_of stream.entry.app.now stream.entry.name.now) stream.entry.longest (shared_rules port) (shared_rules result.port) (told_at result.port.roots)
+        result.end result.line.items (origin (L.told link) (L.counts link)) (origin (L.told result.link) (L.counts result.link)) }
+{
+    one_reading();
+    let Ok(client) = new_client(alloc, stream) else {
+        return Pulled {
+            port,
+            link,
+            end: EdgeEnd::OutOfMemory,
+            line: Vec::new(alloc),
+        };
+    };
+    let mut edge = Edge::new(NAME, PLACE, client);
+    let (app, name) = (stream.app, stream.name);
+    let end = drive(
+        rt, alloc, &mut edge, &mut port, &mut link, &mut rest, app, name,
+    );
+    let worn = leave(rt, &mut edge, &mut port, &mut rest);
+    let end = end_then(end, worn);
+    tell_over(&link, end, edge.client_end(), app, name);
+    match edge_line(alloc, end, edge.client_end()) {
+        Ok(line) => Pulled {
+            port,
+            link,
+            end,
+            line,
+        },
+        Err(_) => Pulled {
+            port,
+            link,
+            end: EdgeEnd::OutOfMemory,
+            line: Vec::new(alloc),
+        },
+    }
+}

@@ -1,0 +1,390 @@
+//! Links to an origin.
+ghost use Rattle.std.specs.Prelude.{◌≡◌, None};
+ghost use Rattle.std.specs.Io.{ReadsAtMost, WritesAtMost};
+ghost use Rattle.relay_outside.specs.Heard.{HearStep};
+ghost use Rattle.relay_outside.specs.Said.{SayStep};
+
+use crate::cells::{CLOSING, DOOR, READABLE, WRITABLE};
+use crate::life::Cause;
+use crate::post::Post;
+use crate::seats::Doing;
+use crate::shown::Written;
+use log::{Level, log};
+use mio::net::TcpStream;
+use mio::{Interest, Registry, Token};
+use relay_outside::{Denied, Ending, Heard, Link, News, Said};
+use std::alloc::Global;
+use std::cell::Cell;
+use std::fmt::{Display, Formatter};
+use std::io::{ErrorKind, Read, Write};
+use std::marker::Model;
+use std::net::{Net, Shutdown, SocketAddr};
+use std::sync::Arc;
+use std::{fmt, io};
+
+/// The token of its socket.
+const ORIGIN: usize = DOOR + 1;
+
+// A connection that is being made, whose calls don't wait.
+fn open<R: Net>(rt: &R, registry: &Registry, address: SocketAddr) -> io::Result<TcpStream> {
+    let mut stream = TcpStream::connect(rt, address)?;
+    stream.set_nodelay(true)?;
+    let both = Interest::READABLE | Interest::WRITABLE;
+    registry.register(&mut stream, Token(ORIGIN), both)?;
+    Ok(stream)
+}
+
+// How far a link to an origin is.
+#[derive(Clone, Copy, PartialEq, Eq)]
+enum State {
+    // The origin hasn't said that it plays.
+    Waits,
+    Plays,
+    Over,
+}
+
+// The socket, if there is one, and what is told of it.
+#[derive(Drop)]
+struct Pipe {
+    stream: Option<TcpStream>,
+    address: SocketAddr,
+    post: Arc<Post, Global>,
+    // It gave bytes, and wasn't asked for more since.
+    fed: bool,
+    // When it was made, by the clock.
+    begun: u64,
+    state: Cell<State>,
+    cause: Cause,
+    // Why a call of the system failed.
+    error: Option<io::Error>,
+}
+
+impl Pipe {
+    fn has(&self, bit: u64) -> bool {
+        self.post.cells.has(ORIGIN, bit)
+    }
+
+    // It is asked for bytes.
+    fn ask(&mut self) {
+        if self.fed {
+            self.post.cells.ask();
+        }
+        self.fed = false;
+    }
+
+    // It gave bytes. Whether it may have more.
+    fn feed(&mut self, count: usize, more: bool) {
+        if let Some(seat) = self.post.seat(ORIGIN) {
+            seat.receive(count);
+        }
+        if more {
+            self.post.cells.begin();
+            return;
+        }
+        if !self.has(CLOSING) {
+            self.post.cells.remove(ORIGIN, READABLE);
+        }
+        if !self.fed {
+            self.post.cells.feed();
+        }
+        self.fed = true;
+    }
+
+    // Whether it ends, since the server does.
+    fn is_stopped(&mut self) -> bool {
+        let stopped = self.post.watch.is_stopped() || self.post.is_deserted();
+        if stopped {
+            self.cause = Cause::Stopped;
+        }
+        stopped
+    }
+
+    // Whether the origin has had too long to say that it plays.
+    fn is_silent(&mut self) -> bool {
+        let most = self.post.watch.silence;
+        let waits = self.state.get() == State::Waits;
+        if most == 0 || !waits || self.post.now().saturating_sub(self.begun) < most {
+            return false;
+        }
+        self.cause = Cause::Silent {
+            seconds: most / 1000,
+        };
+        true
+    }
+
+    // Bytes from the socket, where the poll has reported some.
+    fn give(&mut self, into: &mut [u8]) -> io::Result<usize>
+        ensures { ReadsAtMost result into.new }
+    {
+        if !self.has(READABLE) {
+            return Err(io::Error::from(ErrorKind::WouldBlock));
+        }
+        let Some(stream) = &mut self.stream else {
+            return Err(io::Error::from(ErrorKind::NotConnected));
+        };
+        let count = stream.read(into)?;
+        let more = count >= into.len();
+        self.feed(count, more);
+        Ok(count)
+    }
+
+    // Bytes to the socket, where the poll has reported room.
+    fn take(&mut self, piece: &[u8]) -> io::Result<usize>
+        ensures { WritesAtMost result piece.now }
+    {
+        if !self.has(WRITABLE) {
+            return Err(io::Error::from(ErrorKind::WouldBlock));
+        }
+        let Some(stream) = &mut self.stream else {
+            return Err(io::Error::from(ErrorKind::NotConnected));
+        };
+        let count = stream.write(piece)?;
+        if let Some(seat) = self.post.seat(ORIGIN) {
+            seat.send(count);
+        }
+        Ok(count)
+    }
+
+    // A call of the system failed. Whether it is to be made again later: such a call is that of the poll.
+    fn fails(&mut self, error: io::Error, bit: u64) -> bool {
+        match error.kind() {
+            ErrorKind::WouldBlock => {
+                self.post.cells.remove(ORIGIN, bit);
+                false
+            }
+            ErrorKind::Interrupted => false,
+            _ => {
+                if self.error.is_none() {
+                    self.error = Some(error);
+                }
+                true
+            }
+        }
+    }
+
+    // The stream is played.
+    fn begin(&self, app: &[u8], name: &[u8]) {
+        if self.state.get() != State::Waits {
+            return;
+        }
+        self.state.set(State::Plays);
+        self.post.watch.begin(self.post.alloc, app, name);
+        if let Some(seat) = self.post.seat(ORIGIN) {
+            seat.tell(self.post.alloc, Doing::Pulled, app, name);
+        }
+    }
+
+    // It is no longer used. What its end left is of interest to the workers.
+    fn end(&self) {
+        if self.state.get() == State::Plays {
+            self.post.watch.end();
+        }
+        self.state.set(State::Over);
+        if let Some(stream) = &self.stream {
+            let _ = stream.shutdown(Shutdown::Both);
+        }
+        if let Some(seat) = self.post.seat(ORIGIN) {
+            seat.leave();
+        }
+        self.post.wake_all();
+    }
+
+    fn tell(&self, news: News, app: &[u8], name: &[u8]) {
+        let line = Line {
+            address: self.address,
+            news,
+            app,
+            name,
+            cause: self.cause,
+            error: self.error,
+        };
+        log!(self.post.watch.log; line.level(), "{line}");
+        match news {
+            News::Plays => self.begin(app, name),
+            _ => self.end(),
+        }
+    }
+}
+
+/// A link to an origin over a socket, which tells no bytes. It asks the system only where the poll has reported that there is something
+/// to do. Where there is no connection, each call fails.
+///
+/// What it is told goes to the log. Where the origin doesn't come to play for longer than the server allows silence it fails; one that
+/// plays may be silent for ever. Where the server stops, or all its doors have closed, it answers as at its peer's end.
+#[derive(Drop)]
+pub struct OriginLink {
+    pipe: Pipe,
+    failed: u64,
+    waited: u64,
+    ended: u64,
+}
+
+impl Model for OriginLink {
+    ghost use Rattle.relay_outside.specs.Told.{LinkCounts};
+
+    ghost Value = { LinkCounts };
+
+    ghost view = { λ l. record { faults = l.failed; waits = l.waited; ends = l.ended } };
+}
+
+impl OriginLink {
+    /// A link to the server at that address.
+    pub(crate) fn reach<R: Net>(
+        rt: &R,
+        registry: &Registry,
+        address: SocketAddr,
+        post: Arc<Post, Global>,
+    ) -> OriginLink
+        ensures { result ≡ record { faults = 0; waits = 0; ends = 0 } }
+    {
+        let (stream, error) = match open(rt, registry, address) {
+            Ok(stream) => (Some(stream), None),
+            Err(error) => (None, Some(error)),
+        };
+        if let Some(seat) = post.seat(ORIGIN) {
+            seat.take(post.alloc, address, post.now());
+        }
+        if stream.is_none() {
+            post.cells.add(ORIGIN, READABLE | WRITABLE);
+        }
+        let begun = post.now();
+        OriginLink {
+            pipe: Pipe {
+                stream,
+                address,
+                post,
+                fed: false,
+                begun,
+                state: Cell::new(State::Waits),
+                cause: Cause::Peer,
+                error,
+            },
+            failed: 0,
+            waited: 0,
+            ended: 0,
+        }
+    }
+}
+
+impl Link for OriginLink {
+    ghost counts = { λ l. l };
+
+    ghost told = { λ _. None };
+
+    ghost hears = { λ l room answer m. HearStep room None None l m answer };
+
+    ghost says = { λ l piece answer m. SayStep piece None None l m answer };
+
+    fn recv(&mut self, into: &mut [u8]) -> Heard {
+        self.pipe.ask();
+        if self.pipe.is_stopped() {
+            self.ended = self.ended.saturating_add(1);
+            return Heard::End;
+        }
+        match self.pipe.give(into) {
+            Ok(0) => {
+                self.ended = self.ended.saturating_add(1);
+                Heard::End
+            }
+            Ok(count) => Heard::Bytes(count),
+            Err(error) => {
+                if self.pipe.fails(error, READABLE) || self.pipe.is_silent() {
+                    self.failed = self.failed.saturating_add(1);
+                    return Heard::Failed;
+                }
+                self.waited = self.waited.saturating_add(1);
+                Heard::NotYet
+            }
+        }
+    }
+
+    fn send(&mut self, piece: &[u8]) -> Said {
+        match self.pipe.take(piece) {
+            Ok(count) if count > 0 => Said::Took(count),
+            Ok(_) => {
+                self.failed = self.failed.saturating_add(1);
+                Said::Failed
+            }
+            Err(error) => {
+                if self.pipe.fails(error, WRITABLE) {
+                    self.failed = self.failed.saturating_add(1);
+                    return Said::Failed;
+                }
+                self.waited = self.waited.saturating_add(1);
+                Said::NotYet
+            }
+        }
+    }
+
+    fn tell(&self, news: News, app: &[u8], name: &[u8]) {
+        self.pipe.tell(news, app, name);
+    }
+
+    ghost hears_mean = { λ l room answer m some step. step };
+
+    ghost says_mean = { λ l piece answer m some step. step };
+}
+
+// A line of the log.
+#[derive(Drop)]
+struct Line<'a> {
+    address: SocketAddr,
+    news: News,
+    app: &'a [u8],
+    name: &'a [u8],
+    cause: Cause,
+    error: Option<io::Error>,
+}
+
+impl Line<'_> {
+    fn level(&self) -> Level {
+        match self.news {
+            News::Plays => Level::Info,
+            News::Ended {
+                ending: Ending::OutOfMemory,
+                at: _,
+            } => Level::Error,
+            News::Ended { .. } if self.cause == Cause::Stopped => Level::Info,
+            _ => Level::Warn,
+        }
+    }
+
+    // Why a link ended that failed or closed.
+    fn write_cause<W: fmt::Write>(&self, f: &mut Formatter<W>) -> fmt::Result {
+        match (self.cause, &self.error) {
+            (Cause::Silent { seconds }, _) => write!(f, "ended: silent for {seconds} s"),
+            (Cause::Stopped, _) => write!(f, "ended: {}", Ending::Quit),
+            (Cause::Peer, Some(error)) => write!(f, "{}: {error}", self.news),
+            (Cause::Peer, None) => write!(f, "{}", self.news),
+        }
+    }
+
+    // Why the stream isn't pulled: the origin refused it, or there is no place for it here.
+    fn write_denied<W: fmt::Write>(&self, f: &mut Formatter<W>, why: Denied) -> fmt::Result {
+        let (app, name) = (Written { bytes: self.app }, Written { bytes: self.name });
+        match why {
+            Denied::InUse => f.write_str("isn't pulled: somebody publishes here"),
+            Denied::Full => f.write_str("isn't pulled: no place is left here"),
+            Denied::NoName | Denied::WrongKey => write!(
+                f,
+                "refused {app}/{name}: it has no such stream, or wants another key"
+            ),
+        }
+    }
+}
+
+impl Display for Line<'_> {
+    fn fmt<W: fmt::Write>(&self, f: &mut Formatter<W>) -> fmt::Result {
+        let (app, name) = (Written { bytes: self.app }, Written { bytes: self.name });
+        write!(f, "origin {} ", self.address)?;
+        match self.news {
+            News::Plays => write!(f, "plays {app}/{name}"),
+            News::Denied(why) => self.write_denied(f, why),
+            News::Ended {
+                ending: Ending::LinkFault | Ending::PeerClosed,
+                at: _,
+            } => self.write_cause(f),
+            _ => write!(f, "{}", self.news),
+        }
+    }
+}

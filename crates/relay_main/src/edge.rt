@@ -1,0 +1,94 @@
+//! `relay edge`: a server as `serve` makes it, the link to its origin, and what is said on standard error.
+
+use crate::adapters::{ConfigFile, Reading, Writing};
+use crate::check_config::is_open;
+use crate::serve::{file_name, tell_end};
+use crate::watching::{Unfit, tell_unfit, watching};
+use crate::{BAD_WORDS, HOUSE_FAULT, NO_MEMORY, status, tell_fault};
+use edge_serve::{Edged, edge, edge_target};
+use key_guard::Guards;
+use relay_base::Status;
+use relay_edge::{RealHouse, Shown};
+use relay_peer::peer_address;
+use std::fs::{File, Files};
+use std::io::Eprint;
+use std::net::Net;
+use std::sync::Wait;
+use std::thread::Threads;
+use std::{io, net, str};
+
+// A word as the words have it.
+fn shown(word: &[u8]) -> Shown<'_> {
+    Shown {
+        text: str::from_utf8(word).unwrap_or(""),
+    }
+}
+
+/// Serves by the configuration in the file that the words name, and publishes there what the origin has that they name. Says why where it
+/// didn't.
+pub fn command<
+    T: Threads
+        + Wait
+        + Sync
+        + Eprint
+        + Files<File = File>
+        + Net<Listener = net::TcpListener, Stream = net::TcpStream>,
+>(host: &HostRuntime, rt: &T, words: &[Vec<u8>], guards: &Guards) -> Status {
+    let alloc = host.alloc();
+    let Some(target) = edge_target(words) else {
+        return status(BAD_WORDS);
+    };
+    let Some(address) = peer_address(target.address) else {
+        let _ = eprintln!(host;
+            "relay: {}: an IP address and a port are wanted, as 127.0.0.1:1935",
+            shown(target.address)
+        );
+        return status(BAD_WORDS);
+    };
+    let name = file_name(words.get(..2).unwrap_or(words));
+    let watching = match watching(host) {
+        Ok(watching) => watching,
+        Err(Unfit::OutOfMemory) => return status(NO_MEMORY),
+        Err(Unfit::Variable { name, wanted }) => {
+            tell_unfit(host, name, wanted);
+            return status(BAD_WORDS);
+        }
+    };
+    if is_open(rt, alloc, name) {
+        let _ = eprintln!(host;
+            "relay: {}: it lists no stream, so nobody can ask for what the origin sends",
+            Shown { text: name }
+        );
+    }
+    let mut config = Reading::new(ConfigFile::open(rt, name));
+    let mut report = Writing::new(io::writer(host));
+    let Ok(mut house) = RealHouse::watched(rt, alloc, watching) else {
+        return status(NO_MEMORY);
+    };
+    house.spare(name);
+    let (link, rest) = match house.reach(address) {
+        Ok(both) => both,
+        Err(error) => {
+            tell_fault(host, "the edge's poll", Some(error));
+            return status(HOUSE_FAULT);
+        }
+    };
+    let Edged {
+        status: ended,
+        link,
+    } = edge(
+        rt,
+        alloc,
+        words,
+        guards,
+        &mut config,
+        &mut house,
+        link,
+        rest,
+        &mut report,
+    );
+    drop(link);
+    house.clear();
+    tell_end(host, rt, name, ended, config.error(), report.error());
+    ended
+}
