@@ -37,6 +37,7 @@ with --serve:
   --ring BYTES     the window of its stream (2097152; 1048640 to 268435456)
 with --to:
   --http-at HOST:PORT  where it listens for players over HTTP
+  --publish-at HOST:PORT  another server, to which the publisher goes: the origin of one that is an edge
   --app A --name B the stream (live, load); B may have a key, as in cam?s3cret
   --pid P[,P..]    the processes of the server, whose processor time is told
 
@@ -59,6 +60,7 @@ struct Words {
     players: usize,
     http: usize,
     http_at: Option<String>,
+    publish_at: Option<String>,
     slow: Option<u64>,
     seconds: u64,
     mbit: f64,
@@ -93,6 +95,7 @@ impl Words {
             players: 10,
             http: 0,
             http_at: None,
+            publish_at: None,
             slow: None,
             seconds: 10,
             mbit: 4.0,
@@ -126,6 +129,7 @@ impl Words {
                 "--players" => words.players = number(&word, &text, 0, 250),
                 "--http" => words.http = number(&word, &text, 0, 64),
                 "--http-at" => words.http_at = Some(text),
+                "--publish-at" => words.publish_at = Some(text),
                 "--slow" => words.slow = Some(number(&word, &text, 1, 99)),
                 "--seconds" => words.seconds = number(&word, &text, 1, 3600),
                 "--mbit" => words.mbit = number(&word, &text, 0.2, 20.0),
@@ -148,6 +152,9 @@ impl Words {
         }
         if words.links() > 252 {
             wrong("there are at most 250 players in all, and a slow one")
+        }
+        if words.publish_at.is_some() && words.to.is_none() {
+            wrong("--publish-at goes with --to")
         }
         if words.to.is_some() && words.http > 0 && words.http_at.is_none() {
             wrong("--http needs --http-at")
@@ -627,6 +634,8 @@ struct Run {
     address: SocketAddr,
     /// Where players over HTTP come.
     http: SocketAddr,
+    /// Where the publisher comes.
+    origin: SocketAddr,
     units: Vec<Unit>,
     filler: Filler,
     birth: Instant,
@@ -717,6 +726,7 @@ impl Peer {
     fn new(run: &Run, role: Role) -> Result<Peer, String> {
         let (address, stage, reader, hello) = match role {
             Role::PlaysOverHttp => (run.http, Stage::Runs, Reader::Tags(TagReader::new(run.words.compare)), request(run)),
+            Role::Publishes => (run.origin, Stage::Shakes, Reader::Chunks(ChunkReader::new(run.words.compare)), greeting(run)),
             _ => (run.address, Stage::Shakes, Reader::Chunks(ChunkReader::new(run.words.compare)), greeting(run)),
         };
         let link = TcpStream::connect(address).map_err(|e| format!("{address}: {e}"))?;
@@ -1391,6 +1401,8 @@ fn main() {
     };
     let mut server = None;
     let mut pids = words.pids.clone();
+    let parsed = |text: &String| text.parse().unwrap_or_else(|_| wrong("--to, --http-at and --publish-at want an IP address and a port"));
+    let origin = words.publish_at.as_ref().map(parsed);
     let addresses: Vec<SocketAddr> = match (&words.serve, &words.to) {
         (Some(path), _) => {
             let (started, addresses) = Server::start(path, &words).unwrap_or_else(|fault| nothing(fault));
@@ -1398,10 +1410,7 @@ fn main() {
             server = Some(started);
             addresses
         }
-        (_, to) => {
-            let parsed = |text: &String| text.parse().unwrap_or_else(|_| wrong("--to and --http-at want an IP address and a port"));
-            to.iter().chain(&words.http_at).map(parsed).collect()
-        }
+        (_, to) => to.iter().chain(&words.http_at).map(parsed).collect(),
     };
     let run = Arc::new(Run {
         units: plan(words.planned(), words.bytes_a_second()),
@@ -1409,6 +1418,7 @@ fn main() {
         words,
         address: addresses[0],
         http: addresses[addresses.len() - 1],
+        origin: origin.unwrap_or(addresses[0]),
         filler: Filler::new(),
         birth: Instant::now(),
         from: AtomicU64::new(u64::MAX),

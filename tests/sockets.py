@@ -179,9 +179,9 @@ class Client:
 
 class Server:
     """A server of streams by these names, the lines of its configuration, and the variables of its environment. A connection may be
-    silent for ever, where these don't say otherwise."""
+    silent for ever, where these don't say otherwise. With the words of an origin (its address, an app and a name) it is an edge."""
 
-    def __init__(self, relay, folder, names, lines="", limit=None, **variables):
+    def __init__(self, relay, folder, names, lines="", limit=None, origin=None, **variables):
         self.folder = folder
         config = os.path.join(folder, "relay.toml")
         with open(config, "w") as out:
@@ -190,8 +190,9 @@ class Server:
                 out.write(f'[[stream]]\napp = "live"\nname = "{name}"\n{more}\n')
         before = (lambda: resource.setrlimit(resource.RLIMIT_FSIZE, (limit, limit))) if limit else None
         variables = {**os.environ, "RELAY_LOG": "error", "RELAY_SILENCE": "0", **variables}
+        words = ["edge", config, *origin] if origin else ["serve", config]
         self.process = subprocess.Popen(
-            [relay, "serve", config], cwd=folder, env=variables, stdout=subprocess.PIPE, stderr=subprocess.PIPE, preexec_fn=before
+            [relay, *words], cwd=folder, env=variables, stdout=subprocess.PIPE, stderr=subprocess.PIPE, preexec_fn=before
         )
         self.said = []
         while True:
