@@ -1,5 +1,6 @@
 -- One call on one thread: what it is answered, and what it leaves, is a function of where it was made
-use Rattle.std.proofs.Common.{inl, inr, ◌≡◌, ◌≢◌, ◌^◌, ℕ, nat_eq, if◌then◌else◌, Bool, true, false, List, [], ◌∷◌, ◌++◌, length, reverse, Option, Some, None, refl, sym, ap, ◌∙◌, subst, arith, append-nil, length-append}
+use Rattle.std.proofs.Common.{inl, inr, ◌≡◌, ◌≢◌, ◌^◌, ℕ, nat_eq, if◌then◌else◌, Bool, true, false, List, [], ◌∷◌, ◌++◌, length, reverse, Option, Some, None}
+use Rattle.std.proofs.Common.{refl, sym, ap, ◌∙◌, subst, arith, append-nil, length-append}
 use Rattle.std.proofs.lemmas.Bool.{cases_eq}
 use Rattle.std.proofs.lemmas.Bool.Decides.{nat_tests}
 use Rattle.stream_model.specs.Shape.{shape_reply}
@@ -28,25 +29,37 @@ pub between_is : (h before : List Step) (s : Step) → Begins h before → Begin
 between_is h before s b c =
     let n : length (h ++ b.0) ≡ length before = ap length b.1 in
     let m : length ((before ++ s ∷ []) ++ c.0) ≡ length (h ++ s ∷ []) = ap length c.1 in
-    let z : length b.0 ≡ 0 = omega (arith, n, m, length-append h b.0, length-append (before ++ s ∷ []) c.0, length-append before (s ∷ []), length-append h (s ∷ [])) in
+    let z : length b.0 ≡ 0 = omega (
+      arith,
+      n,
+      m,
+      length-append h b.0,
+      length-append (before ++ s ∷ []) c.0,
+      length-append before (s ∷ []),
+      length-append h (s ∷ []),
+    ) in
     sym b.1 ∙ (ap (λ (l : List Step). h ++ l) (nil_of b.0 z) ∙ append-nil h)
 
 -- what is known of a place by a pass that fits begins its history
-known_begins : (y : SoleState) (spot : Option (ℕ × SeenState)) (q : ℕ) → HasFit (FitsSole y) spot → Begins (known_if (λ (p : SeenState). p.seen) (journal_at y.books) spot q) (journal_at y.books q)
+known_begins : (y : SoleState) (spot : Option (ℕ × SeenState)) (q : ℕ) → HasFit (FitsSole y) spot
+    → Begins (known_if (λ (p : SeenState). p.seen) (journal_at y.books) spot q) (journal_at y.books q)
 known_begins y None q f = begins_same (journal_at y.books q) (journal_at y.books q) refl
 known_begins y (Some p) q f = by (nat_eq p.0 q) refl
   where
     by : (b : Bool) → nat_eq p.0 q ≡ b → Begins (if nat_eq p.0 q then p.1.seen else journal_at y.books q) (journal_at y.books q)
     by true e =
         let same : p.0 ≡ q = grind (arith, nat_tests, e) in
-        subst (λ (t : Bool). Begins (if t then p.1.seen else journal_at y.books q) (journal_at y.books q)) (sym e) (subst (λ (k : ℕ). Begins p.1.seen (journal_at y.books k)) same f.seen)
-    by false e = subst (λ (t : Bool). Begins (if t then p.1.seen else journal_at y.books q) (journal_at y.books q)) (sym e) (begins_same (journal_at y.books q) (journal_at y.books q) refl)
+        subst (λ (t : Bool). Begins (if t then p.1.seen else journal_at y.books q) (journal_at y.books q)) (sym e)
+        (subst (λ (k : ℕ). Begins p.1.seen (journal_at y.books k)) same f.seen)
+    by false e = subst (λ (t : Bool). Begins (if t then p.1.seen else journal_at y.books q) (journal_at y.books q)) (sym e)
+        (begins_same (journal_at y.books q) (journal_at y.books q) refl)
 
 -- what the rules answer to a call at a place, after all that was made there
 abbrev pub reply_by : SoleState → ℕ → Entry → Reply
 reply_by x place e = shape_reply ((sole_rules x.rules).limits place) (reverse (journal_at x.books place)) e
 
-pub reply_is : (x : SoleState) (a : SeatState SeenState) (place : ℕ) (e : Entry) (r : Reply) (y : SoleState) (b : SeatState SeenState) → SoleAsks x a place e (made.Answer r) y b → r ≡ reply_by x place e
+pub reply_is : (x : SoleState) (a : SeatState SeenState) (place : ℕ) (e : Entry) (r : Reply) (y : SoleState) (b : SeatState SeenState)
+    → SoleAsks x a place e (made.Answer r) y b → r ≡ reply_by x place e
 reply_is x a place e r y b k =
     let n = k.asked.noted in
     let h : List Step = journal_at x.books place in
@@ -64,10 +77,12 @@ reply_same x x' place place' e e' pe ee p =
 
 -- ---- why it would not be made
 
-busy_not : (x : SoleState) (a : SeatState SeenState) (place : ℕ) (e f : Entry) (y : SoleState) (b : SeatState SeenState) → SoleAsks x a place e (made.Busy f) y b → ⊥
+busy_not : (x : SoleState) (a : SeatState SeenState) (place : ℕ) (e f : Entry) (y : SoleState) (b : SeatState SeenState)
+    → SoleAsks x a place e (made.Busy f) y b → ⊥
 busy_not x a place e f y b k = let t : 0 ≡ risen 0 = k.asked.tries in omega (arith, t)
 
-count_not : (y : SoleState) (spot : Option (ℕ × SeenState)) → HasCount (λ (p : SeenState). length p.seen) spot (2 ^ 62) → HasFit (FitsSole y) spot → HasRoom y → ⊥
+count_not : (y : SoleState) (spot : Option (ℕ × SeenState)) → HasCount (λ (p : SeenState). length p.seen) spot (2 ^ 62) → HasFit (FitsSole y) spot
+    → HasRoom y → ⊥
 count_not y None c f r = c
 count_not y (Some p) c f r =
     let full : length p.1.seen ≡ 2 ^ 62 = c in
@@ -81,7 +96,8 @@ Excludes (made.Busy f) y = Unit {0}
 Excludes (made.Worn f) y = HasRoom y
 Excludes (made.OutOfMemory f) y = ⊥
 
-pub answered : (x : SoleState) (a : SeatState SeenState) (place : ℕ) (e : Entry) (came : Made) (y : SoleState) (b : SeatState SeenState) → SoleAsks x a place e came y b → Excludes came y → came ≡ made.Answer (reply_by x place e)
+pub answered : (x : SoleState) (a : SeatState SeenState) (place : ℕ) (e : Entry) (came : Made) (y : SoleState) (b : SeatState SeenState)
+    → SoleAsks x a place e came y b → Excludes came y → came ≡ made.Answer (reply_by x place e)
 answered x a place e (made.Answer r) y b k n = ap made.Answer (reply_is x a place e r y b k)
 answered x a place e (made.Busy f) y b k n = absurd (busy_not x a place e f y b k)
 answered x a place e (made.Worn f) y b k n = absurd (count_not y b.spot k.asked.fails k.fit n)
@@ -91,8 +107,10 @@ answered x a place e (made.OutOfMemory f) y b k n = absurd n
 
 -- calls came to one place of both
 pub grown_same : (x x' y y' : SoleState) (place place' : ℕ) (steps steps' : List Step) → place' ≡ place → steps' ≡ steps → SamePort x x'
-    → sole_rules y.rules ≡ sole_rules x.rules → journal_at y.books place ≡ journal_at x.books place ++ steps → ((q : ℕ) → q ≢ place → journal_at y.books q ≡ journal_at x.books q ++ [])
-    → sole_rules y'.rules ≡ sole_rules x'.rules → journal_at y'.books place' ≡ journal_at x'.books place' ++ steps' → ((q : ℕ) → q ≢ place' → journal_at y'.books q ≡ journal_at x'.books q ++ []) → SamePort y y'
+    → sole_rules y.rules ≡ sole_rules x.rules → journal_at y.books place ≡ journal_at x.books place ++ steps
+    → ((q : ℕ) → q ≢ place → journal_at y.books q ≡ journal_at x.books q ++ [])
+    → sole_rules y'.rules ≡ sole_rules x'.rules → journal_at y'.books place' ≡ journal_at x'.books place' ++ steps'
+    → ((q : ℕ) → q ≢ place' → journal_at y'.books q ≡ journal_at x'.books q ++ []) → SamePort y y'
 grown_same x x' y y' place place' steps steps' pe se p f h o f' h' o' = record {
   rules = f' ∙ (p.rules ∙ sym f);
   journals = λ q. elim (cases_eq q place) [

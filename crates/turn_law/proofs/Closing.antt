@@ -1,5 +1,6 @@
 -- How a session is closed on one thread: the calls by which it leaves are a function of what it was
-use Rattle.std.proofs.Common.{inl, ◌≡◌, ◌≢◌, ◌≤◌, ℕ, nat_eq, if◌then◌else◌, Bool, true, List, [], ◌∷◌, ◌++◌, length, reverse, Option, Some, None, refl, sym, ap, ◌∙◌, subst, arith, append-nil, append_assoc, length-append}
+use Rattle.std.proofs.Common.{inl, ◌≡◌, ◌≢◌, ◌≤◌, ℕ, nat_eq, if◌then◌else◌, Bool, true, List, [], ◌∷◌, ◌++◌, length, reverse, Option, Some, None, refl, sym, ap}
+use Rattle.std.proofs.Common.{◌∙◌, subst, arith, append-nil, append_assoc, length-append}
 use Rattle.std.specs.Prelude.{map}
 use Rattle.std.specs.Option.{unwrap_or}
 use Rattle.std.proofs.lemmas.Bool.Decides.{nat_tests}
@@ -16,7 +17,8 @@ use Rattle.stream_registry.specs.Names.{PortRules}
 use Rattle.stream_registry.specs.Told.{Keeps, Step}
 use Rattle.turn_gate.specs.Histories.{Begins}
 use Rattle.relay_session.specs.Alone.{GrowsFrom, ReachesBy, visited}
-use Rattle.relay_session.specs.SeatState.{AllMade, IsWornAt, LastMade, LeaveFails, LeavesFrom, SeatState, active_after, active_at, known_if, last_of, left_at, place_of}
+use Rattle.relay_session.specs.SeatState.{AllMade, IsWornAt, LastMade, LeaveFails, LeavesFrom, SeatState, active_after, active_at, known_if, last_of, left_at}
+use Rattle.relay_session.specs.SeatState.{place_of}
 use Rattle.relay_session.specs.SeatVisits.{Visit, calls_of}
 use Rattle.relay_session.specs.declared.seat_answers.Active.{Active}
 use Rattle.relay_session.specs.declared.seat_answers.Active.TheVariants as active
@@ -27,7 +29,8 @@ use Rattle.turn_law.proofs.Calls.{grown_same}
 
 -- ---- replies by the rules
 
-lawful_by : (limits : StreamLimits) (o : Option ℕ) (e : Entry) (r : Reply) (past : History) → IsLawfulBy limits o ((e, r) ∷ past) → (r ≡ reply_by limits o past e) × IsLawfulBy limits o past
+lawful_by : (limits : StreamLimits) (o : Option ℕ) (e : Entry) (r : Reply) (past : History) → IsLawfulBy limits o ((e, r) ∷ past)
+    → (r ≡ reply_by limits o past e) × IsLawfulBy limits o past
 lawful_by limits None e r past h = (h.0, h.1)
 lawful_by limits (Some n) e r past h = (h.0, h.1)
 
@@ -62,7 +65,8 @@ leave_steps l h who fed kept a = kept_step l (reverse h) kept ++ last_step l (ke
 visited_calls : (place : ℕ) (steps : List Step) (vs : List Visit) → calls_of (visited place steps vs) ≡ calls_of vs ++ steps
 visited_calls place [] vs = sym (append-nil (calls_of vs))
 visited_calls place (s ∷ ss) vs =
-    visited_calls place ss ((place, s) ∷ vs) ∙ (ap (λ (l : List Step). l ++ ss) (reverse-append (s ∷ []) (map (λ (v : Visit). v.1) vs)) ∙ append_assoc (calls_of vs) (s ∷ []) ss)
+    visited_calls place ss ((place, s) ∷ vs) ∙ (ap (λ (l : List Step). l ++ ss) (reverse-append (s ∷ []) (map (λ (v : Visit). v.1) vs))
+    ∙ append_assoc (calls_of vs) (s ∷ []) ss)
 
 -- the calls between visits are these
 steps_are : (place : ℕ) (steps more : List Step) (vs vs' : List Visit) → vs' ≡ visited place steps vs → vs' ≡ visited place more vs → steps ≡ more
@@ -70,14 +74,16 @@ steps_are place steps more vs vs' e f =
     append_cancel_left (calls_of vs) steps more (sym (visited_calls place steps vs) ∙ (ap calls_of (sym e ∙ f) ∙ visited_calls place more vs))
 
 begins_whole : (xs ys : List Step) → Begins xs ys → length ys ≤ length xs → xs ≡ ys
-begins_whole xs ys b le = sym (append-nil xs) ∙ (ap (λ (l : List Step). xs ++ l) (sym (none b.0 (omega (arith, le, ap length b.1, length-append xs b.0)))) ∙ b.1)
+begins_whole xs ys b le = sym (append-nil xs) ∙ (ap (λ (l : List Step). xs ++ l) (sym (none b.0 (omega (arith, le, ap length b.1, length-append xs b.0))))
+    ∙ b.1)
   where
     none : (l : List Step) → length l ≡ 0 → l ≡ []
     none [] e = refl
     none (s ∷ l) e = absurd (omega (arith, e))
 
 -- calls that reach to the end of a history keep the rules
-keeps_steps : (l : Shape) (h known h' known' : List Step) (s : Step) (ss : List Step) → known' ≡ h' → h' ≡ h ++ s ∷ ss → ReachesBy l h known (s ∷ ss) known' → Keeps l (h ++ s ∷ ss)
+keeps_steps : (l : Shape) (h known h' known' : List Step) (s : Step) (ss : List Step) → known' ≡ h' → h' ≡ h ++ s ∷ ss
+    → ReachesBy l h known (s ∷ ss) known' → Keeps l (h ++ s ∷ ss)
 keeps_steps l h known h' known' s ss e is r =
     let within : Begins r.upto h' = subst (λ (x : List Step). Begins r.upto x) e r.within in
     let full : r.upto ≡ h' = begins_whole r.upto h' within (omega (arith, r.long (length h) (inl (omega arith)), ap length is, length-append h (s ∷ ss))) in
@@ -98,7 +104,8 @@ module _ (l : Shape) (h known h' known' : List Step) (e : known' ≡ h') where
       let last = lawful_last l b q ((a, r) ∷ reverse h) (subst (λ (x : History). IsShapeLawful l x) (reverse-append h ((a, r) ∷ (b, q) ∷ [])) k.rules) in
       ((lawful_last l a r (reverse h) last.1).0, last.0)
 
-  module _ (who fed place : ℕ) (vs vs' : List Visit) (steps : List Step) (v : vs' ≡ visited place steps vs) (g : h' ≡ h ++ steps) (reach : ReachesBy l h known steps known') where
+  module _ (who fed place : ℕ) (vs vs' : List Visit) (steps : List Step) (v : vs' ≡ visited place steps vs) (g : h' ≡ h ++ steps)
+      (reach : ReachesBy l h known steps known') where
     with_steps : (more : List Step) → steps ≡ more → (h' ≡ h ++ more) × ReachesBy l h known more known'
     with_steps more s = (g ∙ ap (λ (x : List Step). h ++ x) s, subst (λ (x : List Step). ReachesBy l h known x known') s reach)
 
@@ -119,20 +126,23 @@ module _ (l : Shape) (h known h' known' : List Step) (e : known' ≡ h') where
         (one_lawful k r w.0 w.1, s)
     last_after k r (Some c) us u m =
         let b : Entry = leave_entry who fed c in
-        let s : steps ≡ (k, r) ∷ (b, m.0) ∷ [] = steps_are place steps ((k, r) ∷ (b, m.0) ∷ []) vs vs' v (m.1 ∙ ap (λ (x : List Visit). (place, (b, m.0)) ∷ x) u) in
+        let s : steps ≡ (k, r) ∷ (b, m.0) ∷ [] = steps_are place steps ((k, r) ∷ (b, m.0) ∷ []) vs vs' v (m.1
+        ∙ ap (λ (x : List Visit). (place, (b, m.0)) ∷ x) u) in
         let w = with_steps ((k, r) ∷ (b, m.0) ∷ []) s in
         let both = two_lawful k b r m.0 w.0 w.1 in
         (both.0, s ∙ ap (λ (q : Reply). (k, r) ∷ (b, q) ∷ []) both.1)
 
     last_of_same : (a b : Active) (us : List Visit) → b ≡ a → us ≡ vs → LastMade place who fed (last_of b) us vs' → LastMade place who fed (last_of a) vs vs'
-    last_of_same a b us e u m = subst (λ (x : Active). LastMade place who fed (last_of x) vs vs') e (subst (λ (x : List Visit). LastMade place who fed (last_of b) x vs') u m)
+    last_of_same a b us e u m = subst (λ (x : Active). LastMade place who fed (last_of x) vs vs') e
+        (subst (λ (x : List Visit). LastMade place who fed (last_of b) x vs') u m)
 
     -- THE CALLS BY WHICH IT LEFT
     left_by : (kept : Option Entry) (a : Active) → AllMade place who fed kept a vs vs' → steps ≡ leave_steps l h who fed kept a
     left_by None a m = last_alone (last_of a) (last_of_same a m.granted m.between m.kept_made.0 m.kept_made.1 m.last_made)
     left_by (Some k) a m =
         let r : Reply = m.kept_made.0 in
-        let last : LastMade place who fed (last_of (active_after r a)) m.between vs' = subst (λ (x : Active). LastMade place who fed (last_of x) m.between vs') m.kept_made.1 m.last_made in
+        let last : LastMade place who fed (last_of (active_after r a)) m.between vs' =
+        subst (λ (x : Active). LastMade place who fed (last_of x) m.between vs') m.kept_made.1 m.last_made in
         let both = last_after k r (last_of (active_after r a)) m.between m.kept_made.2 last in
         both.1 ∙ ap (λ (z : Reply). (k, z) ∷ last_step l ((k, z) ∷ reverse h) who fed (last_of (active_after z a))) both.0
 
@@ -153,7 +163,8 @@ worn_not port place w r =
 -- all calls were made, where it was somewhere and the history has room
 module _ (v : SoleLife) (port : SoleState) (kept : Option Entry) (seat : SeatState SeenState) (room : HasRoom port) (away : place_of seat.spot ≡ None) where
   all_made : (place : ℕ) (r : Leaving) → LeavesFrom (Some place) v.parts.who v.parts.fed v.parts.kept v.seat.active v.seat.visits r kept seat.active seat.visits
-      → LeaveFails (FitsSole port) (λ (p : SeenState). length p.seen) (λ (_ : Entry). Unit {0}) (Some place) v.parts.who v.parts.fed v.parts.kept 0 0 r → place_of seat.spot ≡ left_at r (Some place)
+      → LeaveFails (FitsSole port) (λ (p : SeenState). length p.seen) (λ (_ : Entry). Unit {0}) (Some place) v.parts.who v.parts.fed v.parts.kept 0 0 r
+      → place_of seat.spot ≡ left_at r (Some place)
       → AllMade place v.parts.who v.parts.fed v.parts.kept v.seat.active v.seat.visits seat.visits
   all_made place leaving.Done l f s = l.0
   all_made place leaving.Worn l f s = absurd (worn_not port place f room)
@@ -164,22 +175,28 @@ module _ (v : SoleLife) (port : SoleState) (kept : Option Entry) (seat : SeatSta
 abbrev LeftSo : SoleLife → SoleState → Option ℕ → Type 0
 LeftSo v port None = (q : ℕ) → journal_at port.books q ≡ journal_at v.port.books q ++ []
 LeftSo v port (Some place) =
-    (journal_at port.books place ≡ journal_at v.port.books place ++ leave_steps ((sole_rules v.port.rules).limits place) (journal_at v.port.books place) v.parts.who v.parts.fed v.parts.kept v.seat.active)
+    (journal_at port.books place ≡ journal_at v.port.books place ++ leave_steps ((sole_rules v.port.rules).limits place) (journal_at v.port.books place)
+    v.parts.who v.parts.fed v.parts.kept v.seat.active)
     × ((q : ℕ) → q ≢ place → journal_at port.books q ≡ journal_at v.port.books q ++ [])
 
-left_so : (v : SoleLife) (port : SoleState) (kept : Option Entry) (seat : SeatState SeenState) → HasRoom port → place_of seat.spot ≡ None → (o : Option ℕ) (r : Leaving)
+left_so : (v : SoleLife) (port : SoleState) (kept : Option Entry) (seat : SeatState SeenState) → HasRoom port → place_of seat.spot ≡ None
+    → (o : Option ℕ) (r : Leaving)
     → LeavesFrom o v.parts.who v.parts.fed v.parts.kept v.seat.active v.seat.visits r kept seat.active seat.visits
-    → LeaveFails (FitsSole port) (λ (p : SeenState). length p.seen) (λ (_ : Entry). Unit {0}) o v.parts.who v.parts.fed v.parts.kept 0 0 r → place_of seat.spot ≡ left_at r o
-    → GrowsFrom SoleAdds (sole_rules v.port.rules).limits (journal_at v.port.books) (known_in v.port v.seat) o v.seat.visits seat.visits (journal_at port.books) (known_in port seat) → LeftSo v port o
+    → LeaveFails (FitsSole port) (λ (p : SeenState). length p.seen) (λ (_ : Entry). Unit {0}) o v.parts.who v.parts.fed v.parts.kept 0 0 r
+    → place_of seat.spot ≡ left_at r o
+    → GrowsFrom SoleAdds (sole_rules v.port.rules).limits (journal_at v.port.books) (known_in v.port v.seat) o v.seat.visits seat.visits
+    (journal_at port.books) (known_in port seat) → LeftSo v port o
 left_so v port kept seat room away None r l f s g = g.1
 left_so v port kept seat room away (Some place) r l f s g =
     let m = all_made v port kept seat room away place r l f s in
     let h : List Step = journal_at v.port.books place in
-    let steps = left_by ((sole_rules v.port.rules).limits place) h (known_in v.port v.seat place) (journal_at port.books place) (known_in port seat place) (all_known port seat away place)
+    let steps = left_by ((sole_rules v.port.rules).limits place) h (known_in v.port v.seat place) (journal_at port.books place) (known_in port seat place)
+    (all_known port seat away place)
     v.parts.who v.parts.fed place v.seat.visits seat.visits g.steps g.visits_are g.grows.here g.reaches v.parts.kept v.seat.active m in
     (g.grows.here ∙ ap (λ (x : List Step). h ++ x) steps, g.grows.elsewhere)
 
-leave_steps_same : (l l' : Shape) (h h' : List Step) (who who' fed fed' : ℕ) (kept kept' : Option Entry) (a a' : Active) → l' ≡ l → h' ≡ h → who' ≡ who → fed' ≡ fed → kept' ≡ kept → a' ≡ a
+leave_steps_same : (l l' : Shape) (h h' : List Step) (who who' fed fed' : ℕ) (kept kept' : Option Entry) (a a' : Active) → l' ≡ l → h' ≡ h → who' ≡ who
+    → fed' ≡ fed → kept' ≡ kept → a' ≡ a
     → leave_steps l' h' who' fed' kept' a' ≡ leave_steps l h who fed kept a
 leave_steps_same l l' h h' who who' fed fed' kept kept' a a' p q w f k e =
     ap (λ (z : Shape). leave_steps z h' who' fed' kept' a') p
@@ -197,7 +214,8 @@ active_here (Some p) a place e =
     let t : nat_eq p.0 place ≡ true = grind (arith, nat_tests, same) in
     ap (λ (b : Bool). if b then a else active.Nothing) t
 
-left_same : (v v' : SoleLife) (port port' : SoleState) (o : Option ℕ) → place_of v.seat.spot ≡ o → Parting v v' → sole_rules port.rules ≡ sole_rules v.port.rules → sole_rules port'.rules ≡ sole_rules v'.port.rules
+left_same : (v v' : SoleLife) (port port' : SoleState) (o : Option ℕ) → place_of v.seat.spot ≡ o → Parting v v'
+    → sole_rules port.rules ≡ sole_rules v.port.rules → sole_rules port'.rules ≡ sole_rules v'.port.rules
     → LeftSo v port o → LeftSo v' port' o → SamePort port port'
 left_same v v' port port' None e h f f' a b = record {
   rules = f' ∙ (h.port.rules ∙ sym f);
@@ -207,14 +225,19 @@ left_same v v' port port' (Some place) e h f f' a b =
     let limits : (sole_rules v'.port.rules).limits place ≡ (sole_rules v.port.rules).limits place = ap (λ (r : PortRules). r.limits place) h.port.rules in
     let granted : v'.seat.active ≡ v.seat.active =
     sym (active_here v'.seat.spot v'.seat.active place (h.seat.spot ∙ e)) ∙ (h.seat.granted place ∙ active_here v.seat.spot v.seat.active place e) in
-    let x : List Step = leave_steps ((sole_rules v.port.rules).limits place) (journal_at v.port.books place) v.parts.who v.parts.fed v.parts.kept v.seat.active in
-    let x' : List Step = leave_steps ((sole_rules v'.port.rules).limits place) (journal_at v'.port.books place) v'.parts.who v'.parts.fed v'.parts.kept v'.seat.active in
-    let steps : x' ≡ x = leave_steps_same ((sole_rules v.port.rules).limits place) ((sole_rules v'.port.rules).limits place) (journal_at v.port.books place) (journal_at v'.port.books place)
-    v.parts.who v'.parts.who v.parts.fed v'.parts.fed v.parts.kept v'.parts.kept v.seat.active v'.seat.active limits (h.port.journals place) h.who h.fed h.kept granted in
+    let x : List Step = leave_steps ((sole_rules v.port.rules).limits place) (journal_at v.port.books place) v.parts.who v.parts.fed v.parts.kept
+    v.seat.active in
+    let x' : List Step = leave_steps ((sole_rules v'.port.rules).limits place) (journal_at v'.port.books place) v'.parts.who v'.parts.fed v'.parts.kept
+    v'.seat.active in
+    let steps : x' ≡ x = leave_steps_same ((sole_rules v.port.rules).limits place) ((sole_rules v'.port.rules).limits place)
+    (journal_at v.port.books place) (journal_at v'.port.books place)
+    v.parts.who v'.parts.who v.parts.fed v'.parts.fed v.parts.kept v'.parts.kept v.seat.active v'.seat.active limits (h.port.journals place) h.who h.fed
+    h.kept granted in
     grown_same v.port v'.port port port' place place x x' refl steps h.port f a.0 a.1 f' b.0 b.1
 
 -- TWO CLOSES OF SESSIONS THAT ENDED ALIKE
-pub closed_same : (v v' : SoleLife) (port port' : SoleState) (kept kept' : Option Entry) (seat seat' : SeatState SeenState) → Parting v v' → Closes v port kept seat → Closes v' port' kept' seat'
+pub closed_same : (v v' : SoleLife) (port port' : SoleState) (kept kept' : Option Entry) (seat seat' : SeatState SeenState) → Parting v v'
+    → Closes v port kept seat → Closes v' port' kept' seat'
     → HasRoom port → HasRoom port' → SamePort port port'
 closed_same v v' port port' kept kept' seat seat' h c c' room room' =
     let o : Option ℕ = place_of v.seat.spot in

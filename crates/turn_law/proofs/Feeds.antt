@@ -1,5 +1,6 @@
 -- What feeding comes to, by the bytes alone: one run
-use Rattle.std.proofs.Common.{inl, inr, ◌≡◌, ◌<◌, ◌||◌, not, ℕ, ◌+◌, ◌-◌, Bool, true, List, [], ◌∷◌, ◌++◌, length, take, drop, Option, Some, None, refl, sym, ap, ◌∙◌, subst, arith, append-nil}
+use Rattle.std.proofs.Common.{inl, inr, ◌≡◌, ◌<◌, ◌||◌, not, ℕ, ◌+◌, ◌-◌, Bool, true, List, [], ◌∷◌, ◌++◌, length, take, drop, Option, Some, None, refl, sym}
+use Rattle.std.proofs.Common.{ap, ◌∙◌, subst, arith, append-nil}
 use Rattle.std.proofs.lemmas.List.{length-drop, length-take, take_min}
 use Rattle.chunk_wire.specs.declared.message.Message.{Message}
 use Rattle.chunk_reader.specs.Sound.{IsRead}
@@ -13,7 +14,8 @@ use Rattle.session_owed.specs.Talk.{hand_bytes}
 use Rattle.stream_model.specs.declared.calls.Entry.{Entry}
 use Rattle.relay_session.specs.Feeding.{Fixed, Heard as HeardMore, IsRefused, heard_of}
 use Rattle.relay_session.specs.Session.{refused}
-use Rattle.relay_session.specs.Turns.{AfterCall, CallMade, CalledBy, FedAs, Gone, Loudly, Quietly, Stopping, TakeMade, Taken, TakenBy, is_nil, life, take_entry, takes}
+use Rattle.relay_session.specs.Turns.{AfterCall, CallMade, CalledBy, FedAs, Gone, Loudly, Quietly, Stopping, TakeMade, Taken, TakenBy, is_nil, life, take_entry}
+use Rattle.relay_session.specs.Turns.{takes}
 use Rattle.relay_session.specs.declared.core_fields.Core.{Core}
 use Rattle.relay_session.specs.declared.end.End.{End}
 use Rattle.relay_session.specs.declared.end.End.TheVariants as end
@@ -59,7 +61,8 @@ called_x (Some e) v a w t = after_x v t.1.0 t.0 a w t.1.1.1 ∙ call_x v t.1.0 e
 
 -- ---- what excludes that a call wasn't made
 
-pub take_excludes : (a : Turn) (w : SoleLife) (s : IsPlain a w) (v : SoleLife) (e : Entry) (moved : Bool) (came : Made) → TakeMade v e moved came w a → Excludes came w.port
+pub take_excludes : (a : Turn) (w : SoleLife) (s : IsPlain a w) (v : SoleLife) (e : Entry) (moved : Bool) (came : Made) → TakeMade v e moved came w a
+    → Excludes came w.port
 take_excludes a w s v e moved (made.Answer r) t = tt
 take_excludes a w s v e moved (made.Busy f) t = tt
 take_excludes a w s v e moved (made.Worn f) t = s.room
@@ -101,9 +104,11 @@ read_at max max' b b' ms ms' p q r h =
     subst (λ (k : ℕ). IsRead k b ms) p (subst (λ (l : List ℕ). IsRead max' l ms) q (subst (λ (l : List (ℕ × Message)). IsRead max' b' l) r h))
 
 -- by what the bytes of two alike sessions come to
-pub fares_at : (max max' : ℕ) (ms ms' : List (ℕ × Message)) (y y' : List ℕ) (f : Fate) → max' ≡ max → ms' ≡ ms → y' ≡ y → Fares hand_bytes max' ms' y' f → Fares hand_bytes max ms y f
+pub fares_at : (max max' : ℕ) (ms ms' : List (ℕ × Message)) (y y' : List ℕ) (f : Fate) → max' ≡ max → ms' ≡ ms → y' ≡ y → Fares hand_bytes max' ms' y' f
+    → Fares hand_bytes max ms y f
 fares_at max max' ms ms' y y' f p q r h =
-    subst (λ (k : ℕ). Fares hand_bytes k ms y f) p (subst (λ (l : List (ℕ × Message)). Fares hand_bytes max' l y f) q (subst (λ (l : List ℕ). Fares hand_bytes max' ms' l f) r h))
+    subst (λ (k : ℕ). Fares hand_bytes k ms y f) p (subst (λ (l : List (ℕ × Message)). Fares hand_bytes max' l y f) q
+    (subst (λ (l : List ℕ). Fares hand_bytes max' ms' l f) r h))
 
 -- ---- one run
 
@@ -157,7 +162,8 @@ module _ (desk : Ask → Grant) (a : Turn) (w : SoleLife) (s : IsPlain a w) (v :
       version_front t.0.x (bytes_of v) (stop_front e moved t) some (sym (ap bad_version kept) ∙ s.version)
 
   -- a message ends with the byte that refuses it
-  refused_halts : (e : End) (moved : Bool) (t : FedAs SoleAsks desk (Stopping e) v moved a w) → byte_of e ≡ length t.0.x → IsRefused v.parts.reader.max (heard_of v.parts) (take (length t.0.x + 1) (bytes_of v)) e
+  refused_halts : (e : End) (moved : Bool) (t : FedAs SoleAsks desk (Stopping e) v moved a w) → byte_of e ≡ length t.0.x
+      → IsRefused v.parts.reader.max (heard_of v.parts) (take (length t.0.x + 1) (bytes_of v)) e
       → (f : Fate) × Halts e (length t.0.x) f
   refused_halts e moved t at r =
       let y : List ℕ = bytes_of v in
@@ -184,7 +190,12 @@ module _ (desk : Ask → Grant) (a : Turn) (w : SoleLife) (s : IsPlain a w) (v :
       ap (λ (l : List ℕ). drop hand_bytes l) (stop_front (end.BadChunk c at) moved t) ∙ drop_front hand_bytes n (bytes_of v) in (
         BadBytes c n,
         (
-          (stop_version (end.BadChunk c at) moved t (omega (arith, d.1)), d.1, d.2, subst (λ (l : List ℕ). IsRead v.parts.reader.max l v.parts.reader.given) chunks t.1.0.read),
+          (
+            stop_version (end.BadChunk c at) moved t (omega (arith, d.1)),
+            d.1,
+            d.2,
+            subst (λ (l : List ℕ). IsRead v.parts.reader.max l v.parts.reader.given) chunks t.1.0.read,
+          ),
           ap (λ (k : ℕ). Some (end.BadChunk c k)) (sym d.0),
           d.0,
         ),

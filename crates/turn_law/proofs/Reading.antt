@@ -1,5 +1,6 @@
 -- At which byte a message ends, or the input is refused, is a function of the input
-use Rattle.std.proofs.Common.{◌≡◌, ℕ, zero, suc, ◌+◌, ◌-◌, ◌<◌, ◌≤◌, inl, inr, List, ◌++◌, ◌∷◌, [], length, take, drop, Option, None, true, false, refl, sym, ap, ◌∙◌, subst, arith, append_assoc, length-append}
+use Rattle.std.proofs.Common.{◌≡◌, ℕ, zero, suc, ◌+◌, ◌-◌, ◌<◌, ◌≤◌, inl, inr, List, ◌++◌, ◌∷◌, [], length, take, drop, Option, None, true, false, refl, sym}
+use Rattle.std.proofs.Common.{ap, ◌∙◌, subst, arith, append_assoc, length-append}
 use Rattle.std.specs.Option.{is_some}
 use Rattle.std.proofs.lemmas.Bool.{cases_lt}
 use Rattle.std.proofs.lemmas.List.{append_cancel_left, drop-take, drop_all, length-take, take-append-drop, take-take, take_at}
@@ -73,13 +74,15 @@ stops_not_read : (max : ℕ) (ms : List (ℕ × Message)) (b : List ℕ) (cause 
 stops_not_read max ms b cause p st r =
     refused_not_read max b (drop (p + 1) b) cause p ms r.s r.r st (subst (λ (u : List ℕ). Reads max u ms r.s r.r) (sym (take-append-drop (p + 1) b)) r.reads)
 
-stops_not_end : (max : ℕ) (ms : List (ℕ × Message)) (b : List ℕ) (cause : ReadCause) (p k : ℕ) (m : Message) → Stops max b cause p → IsRead max (take p b) ms → EndsAt max ms b k m → ⊥
+stops_not_end : (max : ℕ) (ms : List (ℕ × Message)) (b : List ℕ) (cause : ReadCause) (p k : ℕ) (m : Message) → Stops max b cause p
+    → IsRead max (take p b) ms → EndsAt max ms b k m → ⊥
 stops_not_end max ms b cause p k m st r e =
     let less : p < k = ends_later max ms b p k m r e in
     let front : take (p + 1) (take k b) ≡ take (p + 1) b = take-take (p + 1) k b (omega (arith, less)) in
     let parts : take k b ≡ take (p + 1) b ++ drop (p + 1) (take k b) =
     sym (take-append-drop (p + 1) (take k b)) ∙ ap (λ (u : List ℕ). u ++ drop (p + 1) (take k b)) front in
-    refused_not_read max b (drop (p + 1) (take k b)) cause p (ms ++ (k, m) ∷ []) e.s e.r st (subst (λ (u : List ℕ). Reads max u (ms ++ (k, m) ∷ []) e.s e.r) parts e.reads)
+    refused_not_read max b (drop (p + 1) (take k b)) cause p (ms ++ (k, m) ∷ []) e.s e.r st
+    (subst (λ (u : List ℕ). Reads max u (ms ++ (k, m) ∷ []) e.s e.r) parts e.reads)
 
 -- ---- in all bytes, of which the first so many are of the handshake
 

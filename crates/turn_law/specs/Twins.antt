@@ -37,7 +37,8 @@ no_branches = λ (p : SeenState). []
 
 -- one call of a session at these streams
 abbrev pub SoleAsks : SoleState → SeatState SeenState → ℕ → Entry → Made → SoleState → SeatState SeenState → Type 0
-SoleAsks = AskedAlone FitsSole (λ (s : SoleState). sole_rules s.rules) (λ s. journal_at s.books) (λ (p : SeenState). p.seen) (λ p. length p.seen) (λ (_ : Entry). Unit {0}) (λ _. 0)
+SoleAsks = AskedAlone FitsSole (λ (s : SoleState). sole_rules s.rules) (λ s. journal_at s.books) (λ (p : SeenState). p.seen) (λ p. length p.seen)
+    (λ (_ : Entry). Unit {0}) (λ _. 0)
     SoleAdds no_kin no_branches
 
 -- no history has as many calls as it can have
@@ -119,9 +120,11 @@ known_in port s = known (λ (p : SoleState). journal_at p.books) (λ (p : SeenSt
 pub record Closes (v : SoleLife) (port : SoleState) (kept : Option Entry) (seat : SeatState SeenState) : Type 0 where
   pub leaving : Leaving
   pub leaves : LeavesFrom (place_of v.seat.spot) v.parts.who v.parts.fed v.parts.kept v.seat.active v.seat.visits leaving kept seat.active seat.visits
-  pub fails : LeaveFails (FitsSole port) (λ (p : SeenState). length p.seen) (λ (_ : Entry). Unit {0}) (place_of v.seat.spot) v.parts.who v.parts.fed v.parts.kept 0 0 leaving
+  pub fails : LeaveFails (FitsSole port) (λ (p : SeenState). length p.seen) (λ (_ : Entry). Unit {0}) (place_of v.seat.spot) v.parts.who v.parts.fed
+      v.parts.kept 0 0 leaving
   pub left : place_of seat.spot ≡ left_at leaving (place_of v.seat.spot)
   pub away : place_of seat.spot ≡ None
-  pub grows : GrowsFrom SoleAdds (sole_rules v.port.rules).limits (journal_at v.port.books) (known_in v.port v.seat) (place_of v.seat.spot) v.seat.visits seat.visits
+  pub grows : GrowsFrom SoleAdds (sole_rules v.port.rules).limits (journal_at v.port.books) (known_in v.port v.seat) (place_of v.seat.spot) v.seat.visits
+      seat.visits
       (journal_at port.books) (known_in port seat)
   pub fixed : sole_rules port.rules ≡ sole_rules v.port.rules
