@@ -6,7 +6,7 @@ ghost use Rattle.amf0_value.specs.Spelling.{Spells, Spelled, ItemsSpelled, Fits,
 ghost use Rattle.amf0_value.specs.Encoding.{spelling, HasNumbers};
 ghost use Rattle.amf0_value.specs.Refusal.{Refuses, RefusesAll};
 ghost use Rattle.amf0_value.specs.Reader.{values_in};
-ghost use Rattle.amf0_value.specs.Laws.{place_of, IsLasting, nested};
+ghost use Rattle.amf0_value.specs.Laws.{offset_of, IsLasting, nested};
 ghost use Rattle.amf0_value.specs.Pattern.{IsPattern, pattern};
 ghost use Rattle.amf0_value.specs.declared.fail.AmfFail.{AmfFail};
 ghost use Rattle.amf0_value.specs.declared.fail.AmfFail.TheVariants.{Truncated, BadMarker, TooDeep, BadEnd};
@@ -24,8 +24,8 @@ pub fn one_reading()
 
 /// A refusal's place is at most the input's length.
 pub fn refusals_are_inside()
-    ensures one { (bytes : List ℕ) (f : AmfFail) → Refuses bytes f → place_of f ≤ length bytes }
-    ensures all { (bytes : List ℕ) (f : AmfFail) → RefusesAll bytes f → place_of f ≤ length bytes }
+    ensures one { (bytes : List ℕ) (f : AmfFail) → Refuses bytes f → offset_of f ≤ length bytes }
+    ensures all { (bytes : List ℕ) (f : AmfFail) → RefusesAll bytes f → offset_of f ≤ length bytes }
 {}
 
 /// A refusal other than `Truncated` stays the same whatever follows.

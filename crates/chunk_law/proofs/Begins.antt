@@ -1,7 +1,7 @@
 -- The writer's rule begins a message as the reader takes it
 use Rattle.std.proofs.Common.{◌≡◌, ℕ, ◌+◌, ◌-◌, ◌%◌, ◌^◌, ◌<◌, ◌≤◌, Bool, true, false, not, nat_eq, nat_le, nat_lt, cond, ◌&&◌, ◌||◌, List, [], length, Option, Some, None, refl, sym, ap, subst, arith}
 use Rattle.std.proofs.lemmas.Bool.Decides.{nat_tests}
-use Rattle.chunk_wire.specs.declared.kept.Kept.{Kept}
+use Rattle.chunk_wire.specs.declared.kept.ChunkStream.{ChunkStream}
 use Rattle.chunk_wire.specs.declared.kept.Terms.{Terms}
 use Rattle.chunk_writer.specs.declared.heading.Heading.{Heading}
 use Rattle.chunk_wire.specs.Chunk.{terms_by}
@@ -10,7 +10,7 @@ use Rattle.chunk_writer.specs.declared.begun.Begun.{Begun}
 use Rattle.chunk_writer.specs.Rule.{begun_after, begun_with, delta_after, format_after, is_alike, repeats, starts_anew}
 use Rattle.chunk_law.proofs.Opened.{Leads, holding}
 
-leads_0 : (k : Kept) (x : Begun) → x.terms.delta ≡ x.terms.time → Leads 0 k x []
+leads_0 : (k : ChunkStream) (x : Begun) → x.terms.delta ≡ x.terms.time → Leads 0 k x []
 unfolding terms_by shown
 leads_0 k x time = record {
   format = omega arith;
@@ -19,7 +19,7 @@ leads_0 k x time = record {
   part_is = refl;
 }
 
-leads_1 : (k : Kept) (x : Begun) → (k.terms.time + x.terms.delta) % 2 ^ 32 ≡ x.terms.time → k.terms.stream ≡ x.terms.stream → Leads 1 k x []
+leads_1 : (k : ChunkStream) (x : Begun) → (k.terms.time + x.terms.delta) % 2 ^ 32 ≡ x.terms.time → k.terms.stream ≡ x.terms.stream → Leads 1 k x []
 unfolding terms_by shown
 leads_1 k x time stream = record {
   format = omega arith;
@@ -28,7 +28,7 @@ leads_1 k x time stream = record {
   part_is = refl;
 }
 
-leads_2 : (k : Kept) (x : Begun) → (k.terms.time + x.terms.delta) % 2 ^ 32 ≡ x.terms.time → k.terms.stream ≡ x.terms.stream → k.terms.length ≡ x.terms.length → k.terms.kind ≡ x.terms.kind → Leads 2 k x []
+leads_2 : (k : ChunkStream) (x : Begun) → (k.terms.time + x.terms.delta) % 2 ^ 32 ≡ x.terms.time → k.terms.stream ≡ x.terms.stream → k.terms.length ≡ x.terms.length → k.terms.kind ≡ x.terms.kind → Leads 2 k x []
 unfolding terms_by shown
 leads_2 k x time stream len kind = record {
   format = omega arith;
@@ -41,7 +41,7 @@ leads_2 k x time stream len kind = record {
 abbrev after_delta : Terms → Terms
 after_delta t = record { time = (t.time + t.delta) % 2 ^ 32; delta = t.delta; length = t.length; kind = t.kind; stream = t.stream; extended = t.extended }
 
-leads_3 : (k : Kept) (x : Begun) → k.part ≡ [] → after_delta k.terms ≡ x.terms → Leads 3 k x []
+leads_3 : (k : ChunkStream) (x : Begun) → k.part ≡ [] → after_delta k.terms ≡ x.terms → Leads 3 k x []
 unfolding terms_by shown
 leads_3 k x part same = record {
   format = omega arith;
@@ -77,7 +77,7 @@ begun_by anew alike same t h = begun_with (cond anew 0 (cond (not alike) 1 (cond
 same_extended : (t : Terms) (d : ℕ) → t.extended ≡ nat_le 16777215 t.delta → d ≡ t.delta → nat_le 16777215 d ≡ t.extended
 same_extended t d e f = rw (f, e) refl
 
-begins_by : (anew alike same : Bool) (k : Kept) (t : Terms) (h : Heading) → Tells t h anew alike same → k.terms ≡ t → k.part ≡ [] → Leads (begun_by anew alike same t h).format k (begun_by anew alike same t h) []
+begins_by : (anew alike same : Bool) (k : ChunkStream) (t : Terms) (h : Heading) → Tells t h anew alike same → k.terms ≡ t → k.part ≡ [] → Leads (begun_by anew alike same t h).format k (begun_by anew alike same t h) []
 begins_by true alike same k t h tells is part = leads_0 k (begun_with 0 h.time h) refl
 begins_by false false same k t h tells is part =
     let f = tells.follows refl in
@@ -109,12 +109,12 @@ unfolding repeats
 tells_again b d e = grind (arith, nat_tests)
 
 -- what is known of the message before on the chunk stream, where the reader's record is k
-pub record Remembers (b : Begun) (known : Bool) (k : Kept) : Type 0 where
+pub record Remembers (b : Begun) (known : Bool) (k : ChunkStream) : Type 0 where
   pub known_is : known ≡ true
   pub terms_are : k.terms ≡ b.terms
   pub extended : b.terms.extended ≡ nat_le 16777215 b.terms.delta
 
-abbrev pub Agrees : Option Begun → Bool → Kept → Type 0
+abbrev pub Agrees : Option Begun → Bool → ChunkStream → Type 0
 Agrees None known k = known ≡ false
 Agrees (Some b) known k = Remembers b known k
 
@@ -127,7 +127,7 @@ unfolding format_after delta_after
 begun_none h = refl
 
 -- the first chunk of a message leads to its beginning
-pub leads_after : (last : Option Begun) (known : Bool) (k : Kept) (h : Heading) → h.time < 2 ^ 32 → Agrees last known k → k.part ≡ [] → Leads (begun_after last h).format k (begun_after last h) []
+pub leads_after : (last : Option Begun) (known : Bool) (k : ChunkStream) (h : Heading) → h.time < 2 ^ 32 → Agrees last known k → k.part ≡ [] → Leads (begun_after last h).format k (begun_after last h) []
 leads_after None known k h bound agrees part =
     let L : Begun → Type 0 = λ x. Leads x.format k x [] in
     subst L (sym (begun_none h)) (leads_0 k (begun_with 0 h.time h) refl)
@@ -143,7 +143,7 @@ leads_after (Some b) known k h bound agrees part =
     subst L (sym (begun_some b h)) (begins_by (starts_anew b.terms h) (is_alike b.terms h) (repeats b (h.time - b.terms.time)) k b.terms h tells agrees.terms_are part)
 
 -- a fresh id begins with format 0
-pub room_after : (last : Option Begun) (known : Bool) (k : Kept) (h : Heading) (n : ℕ) → Agrees last known k → n < 64 → (known || (nat_lt (begun_after last h).format 2 && nat_lt n 64)) ≡ true
+pub room_after : (last : Option Begun) (known : Bool) (k : ChunkStream) (h : Heading) (n : ℕ) → Agrees last known k → n < 64 → (known || (nat_lt (begun_after last h).format 2 && nat_lt n 64)) ≡ true
 room_after None known k h n agrees few =
     let R : Begun → Type 0 = λ x. (known || (nat_lt x.format 2 && nat_lt n 64)) ≡ true in
     subst R (sym (begun_none h)) (grind (arith, nat_tests))

@@ -3,7 +3,7 @@ use Rattle.std.proofs.Common.{◌≡◌, ℕ, ◌+◌, ◌<◌, ◌≤◌, inl, 
 use Rattle.std.specs.List.{concat}
 use Rattle.std.proofs.lemmas.Bool.{cases_lt}
 use Rattle.std.proofs.lemmas.List.{length-take, take-append-drop}
-use Rattle.chunk_wire.specs.declared.kept.Kept.{Kept}
+use Rattle.chunk_wire.specs.declared.kept.ChunkStream.{ChunkStream}
 use Rattle.chunk_wire.specs.declared.message.Message.{Message}
 use Rattle.chunk_wire.specs.State.{State, part_bytes, put}
 use Rattle.chunk_wire.specs.Chunk.{message_of}
@@ -48,11 +48,11 @@ cut_more max s c b m u t i none then cut =
     }
 
 -- the state while a message that is begun so has so much of its body
-abbrev pub during : ℕ → Begun → List Kept → List ℕ → State
+abbrev pub during : ℕ → Begun → List ChunkStream → List ℕ → State
 during size x kept part = record { size = size; kept = put (holding x part) kept }
 
 -- what is known while a message of this body is written: h is the header of each chunk but the first
-pub record Writes (max size : ℕ) (x : Begun) (kept : List Kept) (h body : List ℕ) : Type 0 where
+pub record Writes (max size : ℕ) (x : Begun) (kept : List ChunkStream) (h body : List ℕ) : Type 0 where
   pub some : 1 ≤ size
   pub fits : x.terms.length ≤ max
   pub length_is : length body ≡ x.terms.length
@@ -61,18 +61,18 @@ pub record Writes (max size : ℕ) (x : Begun) (kept : List Kept) (h body : List
   pub further : (part : List ℕ) → 0 < length part → Opens (during size x kept part) h (holding x part)
 
 -- what is known before one of its chunks, of header g, where so much of the body is there and the rest comes
-pub record Before (size : ℕ) (x : Begun) (kept : List Kept) (body : List ℕ) (s : State) (g part rest : List ℕ) : Type 0 where
+pub record Before (size : ℕ) (x : Begun) (kept : List ChunkStream) (body : List ℕ) (s : State) (g part rest : List ℕ) : Type 0 where
   pub size_is : s.size ≡ size
   pub puts : (q : List ℕ) → put (holding x q) s.kept ≡ put (holding x q) kept
   pub held : part_bytes s.kept ≤ length part
   pub opens : Opens s g (holding x part)
   pub body_is : body ≡ part ++ rest
 
-held_by : (max size : ℕ) (x : Begun) (kept : List Kept) (h body : List ℕ) (s : State) (g part rest : List ℕ) → Writes max size x kept h body → Before size x kept body s g part rest → part_bytes (put (holding x part) s.kept) ≡ length part
+held_by : (max size : ℕ) (x : Begun) (kept : List ChunkStream) (h body : List ℕ) (s : State) (g part rest : List ℕ) → Writes max size x kept h body → Before size x kept body s g part rest → part_bytes (put (holding x part) s.kept) ≡ length part
 held_by max size x kept h body s g part rest w b = rw (b.puts part) (parts_put (holding x part) kept w.empty)
 
 -- the last chunk
-last : (max size : ℕ) (x : Begun) (kept : List Kept) (h body : List ℕ) (s : State) (g part rest : List ℕ) → Writes max size x kept h body → Before size x kept body s g part rest → length rest ≤ size
+last : (max size : ℕ) (x : Begun) (kept : List ChunkStream) (h body : List ℕ) (s : State) (g part rest : List ℕ) → Writes max size x kept h body → Before size x kept body s g part rest → length rest ≤ size
     → Cut max s (g ++ spread h size size rest) (message_with x.terms body) (by_message (message_with x.terms body) (during size x kept []))
 last max size x kept h body s g part rest w b short =
     let n : length body ≡ length part + length rest = ap length b.body_is ∙ length-append part rest in
@@ -86,7 +86,7 @@ last max size x kept h body s g part rest w b short =
     rw (spread_short h size size rest short) (cut_last max s (g ++ rest) (message_with x.terms body) (by_message (message_with x.terms body) (during size x kept [])) i some then)
 
 -- what is known before the chunk after a full one
-then_before : (max size : ℕ) (x : Begun) (kept : List Kept) (h body part rest : List ℕ) → Writes max size x kept h body → size < length rest → body ≡ part ++ rest → Before size x kept body (during size x kept (part ++ take size rest)) h (part ++ take size rest) (drop size rest)
+then_before : (max size : ℕ) (x : Begun) (kept : List ChunkStream) (h body part rest : List ℕ) → Writes max size x kept h body → size < length rest → body ≡ part ++ rest → Before size x kept body (during size x kept (part ++ take size rest)) h (part ++ take size rest) (drop size rest)
 then_before max size x kept h body part rest w more e =
     let now = part ++ take size rest in
     let some = w.some in
@@ -98,14 +98,14 @@ then_before max size x kept h body part rest w more e =
       body_is = e ∙ ap (λ (y : List ℕ). part ++ y) (sym (take-append-drop size rest)) ∙ sym (append_assoc part (take size rest) (drop size rest));
     }
 
-abbrev state_of : ℕ → List Kept → State
+abbrev state_of : ℕ → List ChunkStream → State
 state_of size kept = record { size = size; kept = kept }
 
-same_state : (a b : ℕ) (j k : List Kept) → a ≡ b → j ≡ k → state_of a j ≡ state_of b k
+same_state : (a b : ℕ) (j k : List ChunkStream) → a ≡ b → j ≡ k → state_of a j ≡ state_of b k
 same_state a b j k e f = rw (e, f) refl
 
 -- a full chunk, where the ones after it are known
-full : (max size : ℕ) (x : Begun) (kept : List Kept) (h body : List ℕ) (s : State) (g part rest : List ℕ) → Writes max size x kept h body → Before size x kept body s g part rest → size < length rest
+full : (max size : ℕ) (x : Begun) (kept : List ChunkStream) (h body : List ℕ) (s : State) (g part rest : List ℕ) → Writes max size x kept h body → Before size x kept body s g part rest → size < length rest
     → Cut max (during size x kept (part ++ take size rest)) (h ++ spread h size size (drop size rest)) (message_with x.terms body) (by_message (message_with x.terms body) (during size x kept []))
     → Cut max s (g ++ spread h size size rest) (message_with x.terms body) (by_message (message_with x.terms body) (during size x kept []))
 full max size x kept h body s g part rest w b more cut =
@@ -124,7 +124,7 @@ full max size x kept h body s g part rest w b more cut =
     subst C bytes (cut_more max s (g ++ y) (h ++ spread h size size (drop size rest)) (message_with x.terms body) (during size x kept (part ++ y)) (by_message (message_with x.terms body) (during size x kept [])) i none then cut)
 
 -- all chunks from one on, fewer than n bytes more
-all : (n max size : ℕ) (x : Begun) (kept : List Kept) (h body : List ℕ) (s : State) (g part rest : List ℕ) → Writes max size x kept h body → Before size x kept body s g part rest → length rest ≤ n
+all : (n max size : ℕ) (x : Begun) (kept : List ChunkStream) (h body : List ℕ) (s : State) (g part rest : List ℕ) → Writes max size x kept h body → Before size x kept body s g part rest → length rest ≤ n
     → Cut max s (g ++ spread h size size rest) (message_with x.terms body) (by_message (message_with x.terms body) (during size x kept []))
 all zero max size x kept h body s g part rest w b le = last max size x kept h body s g part rest w b (omega arith)
 all (suc n) max size x kept h body s g part rest w b le = elim (cases_lt size (length rest)) [
@@ -137,6 +137,6 @@ all (suc n) max size x kept h body s g part rest w b le = elim (cases_lt size (l
 ]
 
 -- the bytes of a message, whose first header is g
-pub message_cut : (max size : ℕ) (x : Begun) (kept : List Kept) (h body g : List ℕ) → Writes max size x kept h body → Opens (record { size = size; kept = kept }) g (holding x [])
+pub message_cut : (max size : ℕ) (x : Begun) (kept : List ChunkStream) (h body g : List ℕ) → Writes max size x kept h body → Opens (record { size = size; kept = kept }) g (holding x [])
     → Cut max (record { size = size; kept = kept }) (g ++ spread h size size body) (message_with x.terms body) (by_message (message_with x.terms body) (during size x kept []))
 message_cut max size x kept h body g w o = all (length body) max size x kept h body (record { size = size; kept = kept }) g [] body w (record { size_is = refl; puts = λ _. refl; held = omega (arith, w.empty); opens = o; body_is = refl }) (omega arith)

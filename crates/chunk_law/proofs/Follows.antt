@@ -3,7 +3,7 @@ use Rattle.std.proofs.Common.{◌≡◌, ℕ, ◌+◌, ◌^◌, ◌<◌, ◌≤�
 use Rattle.std.proofs.lemmas.Bool.{eqb-true}
 use Rattle.std.proofs.lemmas.Bool.Decides.{nat_tests}
 use Rattle.relay_base.specs.Numbers.{be32_of}
-use Rattle.chunk_wire.specs.declared.kept.Kept.{Kept}
+use Rattle.chunk_wire.specs.declared.kept.ChunkStream.{ChunkStream}
 use Rattle.chunk_wire.specs.declared.message.Message.{Message}
 use Rattle.chunk_wire.specs.State.{State, fresh_state, kept_of, part_bytes, put}
 use Rattle.chunk_reader.specs.Control.{by_message, dropped, refused_size}
@@ -18,37 +18,37 @@ use Rattle.chunk_law.proofs.Opened.{IsSaid, holding}
 use Rattle.chunk_law.proofs.Puts.{has, has_none, has_put, kept_put, kept_put_other, length_put, parts_put}
 
 -- one where the id has a record
-abbrev one : ℕ → List Kept → ℕ
+abbrev one : ℕ → List ChunkStream → ℕ
 one id kept = cond (has id kept) 1 0
 
 -- how many of the ids that are written have a record
-abbrev pub known_ids : List Kept → ℕ
+abbrev pub known_ids : List ChunkStream → ℕ
 known_ids kept = one 2 kept + one 3 kept + one 5 kept + one 6 kept + one 7 kept
 
-pub few : (kept : List Kept) → length kept ≡ known_ids kept → length kept < 64
+pub few : (kept : List ChunkStream) → length kept ≡ known_ids kept → length kept < 64
 few kept e = grind (arith, e)
 
 add_one : (h : Bool) (n m : ℕ) → n + 1 ≡ m + cond h 1 0 → cond h n (n + 1) ≡ m
 add_one true n m e = omega arith
 add_one false n m e = omega arith
 
-counted_2 : (k : Kept) (kept : List Kept) → k.id ≡ 2 → length kept ≡ known_ids kept → length (put k kept) ≡ known_ids (put k kept)
+counted_2 : (k : ChunkStream) (kept : List ChunkStream) → k.id ≡ 2 → length kept ≡ known_ids kept → length (put k kept) ≡ known_ids (put k kept)
 counted_2 k kept e c =
     rw (has_put 2 k kept, has_put 3 k kept, has_put 5 k kept, has_put 6 k kept, has_put 7 k kept, length_put k kept, e) (add_one (has 2 kept) (length kept) (1 + one 3 kept + one 5 kept + one 6 kept + one 7 kept) (omega arith))
 
-counted_3 : (k : Kept) (kept : List Kept) → k.id ≡ 3 → length kept ≡ known_ids kept → length (put k kept) ≡ known_ids (put k kept)
+counted_3 : (k : ChunkStream) (kept : List ChunkStream) → k.id ≡ 3 → length kept ≡ known_ids kept → length (put k kept) ≡ known_ids (put k kept)
 counted_3 k kept e c =
     rw (has_put 2 k kept, has_put 3 k kept, has_put 5 k kept, has_put 6 k kept, has_put 7 k kept, length_put k kept, e) (add_one (has 3 kept) (length kept) (one 2 kept + 1 + one 5 kept + one 6 kept + one 7 kept) (omega arith))
 
-counted_5 : (k : Kept) (kept : List Kept) → k.id ≡ 5 → length kept ≡ known_ids kept → length (put k kept) ≡ known_ids (put k kept)
+counted_5 : (k : ChunkStream) (kept : List ChunkStream) → k.id ≡ 5 → length kept ≡ known_ids kept → length (put k kept) ≡ known_ids (put k kept)
 counted_5 k kept e c =
     rw (has_put 2 k kept, has_put 3 k kept, has_put 5 k kept, has_put 6 k kept, has_put 7 k kept, length_put k kept, e) (add_one (has 5 kept) (length kept) (one 2 kept + one 3 kept + 1 + one 6 kept + one 7 kept) (omega arith))
 
-counted_6 : (k : Kept) (kept : List Kept) → k.id ≡ 6 → length kept ≡ known_ids kept → length (put k kept) ≡ known_ids (put k kept)
+counted_6 : (k : ChunkStream) (kept : List ChunkStream) → k.id ≡ 6 → length kept ≡ known_ids kept → length (put k kept) ≡ known_ids (put k kept)
 counted_6 k kept e c =
     rw (has_put 2 k kept, has_put 3 k kept, has_put 5 k kept, has_put 6 k kept, has_put 7 k kept, length_put k kept, e) (add_one (has 6 kept) (length kept) (one 2 kept + one 3 kept + one 5 kept + 1 + one 7 kept) (omega arith))
 
-counted_7 : (k : Kept) (kept : List Kept) → k.id ≡ 7 → length kept ≡ known_ids kept → length (put k kept) ≡ known_ids (put k kept)
+counted_7 : (k : ChunkStream) (kept : List ChunkStream) → k.id ≡ 7 → length kept ≡ known_ids kept → length (put k kept) ≡ known_ids (put k kept)
 counted_7 k kept e c =
     rw (has_put 2 k kept, has_put 3 k kept, has_put 5 k kept, has_put 6 k kept, has_put 7 k kept, length_put k kept, e) (add_one (has 7 kept) (length kept) (one 2 kept + one 3 kept + one 5 kept + one 6 kept + 1) (omega arith))
 
@@ -60,7 +60,7 @@ five : (kind : ℕ) → Five (id_for kind)
 unfolding id_for
 five kind = grind (arith, nat_tests)
 
-counted_put : (k : Kept) (kept : List Kept) → Five k.id → length kept ≡ known_ids kept → length (put k kept) ≡ known_ids (put k kept)
+counted_put : (k : ChunkStream) (kept : List ChunkStream) → Five k.id → length kept ≡ known_ids kept → length (put k kept) ≡ known_ids (put k kept)
 counted_put k kept (inl e) c = counted_2 k kept e c
 counted_put k kept (inr (inl e)) c = counted_3 k kept e c
 counted_put k kept (inr (inr (inl e))) c = counted_5 k kept e c
@@ -84,7 +84,7 @@ follows_fresh = record {
   counted = rw (has_none 2, has_none 3, has_none 5, has_none 6, has_none 7) refl;
 }
 
-agrees_case : (t : Bool) (id : ℕ) (x : Begun) (said : List Begun) (kept : List Kept) → eqb x.id id ≡ t → x.terms.extended ≡ nat_le 16777215 x.terms.delta → Agrees (last_on id said) (has id kept) (kept_of id kept)
+agrees_case : (t : Bool) (id : ℕ) (x : Begun) (said : List Begun) (kept : List ChunkStream) → eqb x.id id ≡ t → x.terms.extended ≡ nat_le 16777215 x.terms.delta → Agrees (last_on id said) (has id kept) (kept_of id kept)
     → Agrees (cond t (Some x) (last_on id said)) (has id (put (holding x []) kept)) (kept_of id (put (holding x []) kept))
 agrees_case true id x said kept e extended a =
     let same : x.id ≡ id = eqb-true x.id id e in
@@ -92,7 +92,7 @@ agrees_case true id x said kept e extended a =
     let k = holding x [] in
     let K : ℕ → Type 0 = λ i. kept_of i (put k kept) ≡ k in
     let is : kept_of id (put k kept) ≡ k = subst K same (kept_put k kept) in
-    let terms : (kept_of id (put k kept)).terms ≡ k.terms = ap (λ (j : Kept). j.terms) is in
+    let terms : (kept_of id (put k kept)).terms ≡ k.terms = ap (λ (j : ChunkStream). j.terms) is in
     record { known_is = there; terms_are = terms; extended = extended }
 agrees_case false id x said kept e extended a =
     let there : has id (put (holding x []) kept) ≡ has id kept = has_put id (holding x []) kept ∙ (rw e) in
@@ -115,7 +115,7 @@ follows_sized n w s f some = record { size_is = refl; some = some; empty = f.emp
 
 follows_dropped : (n : ℕ) (w : WriterKnown) (s : State) → Follows w s → Follows w (record { size = s.size; kept = dropped n s.kept })
 follows_dropped n w s f =
-    let F : List Kept → Type 0 = λ kept. Follows w (record { size = s.size; kept = kept }) in
+    let F : List ChunkStream → Type 0 = λ kept. Follows w (record { size = s.size; kept = kept }) in
     subst F (sym (drop_none n s.kept f.empty)) f
 
 told_case : (first full second : Bool) (n : ℕ) (w : WriterKnown) (s : State) → Follows w s → ((first && full) ≡ true → 1 ≤ n)

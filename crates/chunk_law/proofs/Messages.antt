@@ -4,7 +4,7 @@ use Rattle.std.specs.List.{concat}
 use Rattle.std.proofs.lemmas.Bool.{eq-eqb}
 use Rattle.std.proofs.lemmas.Bool.Decides.{nat_tests}
 use Rattle.std.proofs.lemmas.List.Folds.{concat-append}
-use Rattle.chunk_wire.specs.declared.kept.Kept.{Kept}
+use Rattle.chunk_wire.specs.declared.kept.ChunkStream.{ChunkStream}
 use Rattle.chunk_wire.specs.declared.message.Message.{Message}
 use Rattle.chunk_wire.specs.State.{State, fresh_state, kept_of, part_bytes, put}
 use Rattle.chunk_wire.specs.Chunk.{message_of}
@@ -49,7 +49,7 @@ further s x part said some =
     let k = holding x part in
     let u = during s.size x s.kept part in
     let there : has x.id (put k s.kept) ≡ true = has_put x.id k s.kept ∙ (rw (eq-eqb x.id x.id refl)) in
-    let L : Kept → Type 0 = λ j. Leads 3 j x part in
+    let L : ChunkStream → Type 0 = λ j. Leads 3 j x part in
     opens u 3 x part said (subst L (sym (kept_put k s.kept)) (leads_on x part some)) (rw there refl)
 
 bytes_are : (w : WriterKnown) (s : State) (m : Message) → s.size ≡ w.size → header_with (begun_in w.said m).format (begun_in w.said m) ++ spread (header_with 3 (begun_in w.said m)) s.size s.size m.body ≡ bytes_of w m

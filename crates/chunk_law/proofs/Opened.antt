@@ -6,7 +6,7 @@ use Rattle.std.specs.Int.{bytes_high_first}
 use Rattle.relay_base.specs.Numbers.{be32_of}
 use Rattle.relay_base.proofs.ReadBack.{be32_of-bytes}
 use Rattle.chunk_wire.specs.declared.headers.Head.{Head}
-use Rattle.chunk_wire.specs.declared.kept.Kept.{Kept}
+use Rattle.chunk_wire.specs.declared.kept.ChunkStream.{ChunkStream}
 use Rattle.chunk_wire.specs.declared.kept.Terms.{Terms}
 use Rattle.chunk_wire.specs.Layout.{basic_size, format_in, head_size}
 use Rattle.chunk_wire.specs.State.{State, kept_of}
@@ -103,23 +103,23 @@ value_back s f x rest lt said a e =
     ∙ value_by x.terms.extended ((shown (head_with f x)).field) x.terms.delta rest said.delta said.extended field
 
 -- the record of an id while a message that is begun so has so much of its body
-abbrev pub holding : Begun → List ℕ → Kept
+abbrev pub holding : Begun → List ℕ → ChunkStream
 holding x part = record { id = x.id; terms = x.terms; part = part }
 
 -- the bytes g are a header from s, after which k is the record of its id
-pub record Opens (s : State) (g : List ℕ) (k : Kept) : Type 0 where
+pub record Opens (s : State) (g : List ℕ) (k : ChunkStream) : Type 0 where
   pub size : (rest : List ℕ) → header_size s (g ++ rest) ≡ length g
   pub room : (rest : List ℕ) → has_room s (g ++ rest) ≡ true
   pub opened_is : (rest : List ℕ) → opened s (g ++ rest) ≡ k
 
 -- what a header of format f says of the message that is begun so, where k is the record of its id
-pub record Leads (f : ℕ) (k : Kept) (x : Begun) (part : List ℕ) : Type 0 where
+pub record Leads (f : ℕ) (k : ChunkStream) (x : Begun) (part : List ℕ) : Type 0 where
   pub format : f < 4
   pub extended : nat_lt f 3 ≡ false → k.terms.extended ≡ x.terms.extended
   pub terms_are : (v : ℕ) → (f < 3 → v ≡ x.terms.delta) → terms_by k.terms (length k.part) (shown (head_with f x)) v x.terms.extended ≡ x.terms
   pub part_is : cond (nat_lt f 3) [] k.part ≡ part
 
-opened_parts : (s : State) (b : List ℕ) (f : ℕ) (x : Begun) (k : Kept) (part : List ℕ) → IsAhead (head_with f x) b → kept_of x.id s.kept ≡ k → is_extended s b ≡ x.terms.extended → (f < 3 → value_in s b ≡ x.terms.delta) → Leads f k x part → opened s b ≡ holding x part
+opened_parts : (s : State) (b : List ℕ) (f : ℕ) (x : Begun) (k : ChunkStream) (part : List ℕ) → IsAhead (head_with f x) b → kept_of x.id s.kept ≡ k → is_extended s b ≡ x.terms.extended → (f < 3 → value_in s b ≡ x.terms.delta) → Leads f k x part → opened s b ≡ holding x part
 unfolding opened
 opened_parts s b f x k part a kept e v leads =
     rw (a.fields, e, a.format, a.id, kept) (let t = leads.terms_are (value_in s b) v in rw (t, leads.part_is) refl)

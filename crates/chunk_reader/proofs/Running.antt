@@ -5,7 +5,7 @@ use Rattle.std.proofs.Math.ListN.{length-set}
 use Rattle.std.proofs.lemmas.Bool.{cases_lt}
 use Rattle.std.proofs.lemmas.Bool.Decides.{nat_tests}
 use Rattle.chunk_wire.specs.declared.message.Message.{Message}
-use Rattle.chunk_wire.specs.declared.kept.Kept.{Kept}
+use Rattle.chunk_wire.specs.declared.kept.ChunkStream.{ChunkStream}
 use Rattle.chunk_wire.specs.Layout.{format_in}
 use Rattle.chunk_wire.specs.State.{State, part_bytes, put, fresh_kept}
 use Rattle.chunk_wire.specs.Chunk.{after_chunk, chunk_size, filled, header_size, is_done, is_known, message_of, opened, with_part}
@@ -168,7 +168,7 @@ fed_runs max s r x old mid max_is a p held f within =
     let n = length-append r x in
     let record_now = with_part (opened s r) (filled s r ++ x) in
     let same : with_part (opened s r) (filled s r ++ x) ≡ with_part (opened s (r ++ x)) (filled s (r ++ x)) = rw (more, ← g.opened_same) refl in
-    let slots : mid.slots.items ≡ set old.slots.items old.place record_now = f.slots ∙ ap (λ (t : Kept). set old.slots.items old.place (with_part t (t.part ++ x))) k in
+    let slots : mid.slots.items ≡ set old.slots.items old.place record_now = f.slots ∙ ap (λ (t : ChunkStream). set old.slots.items old.place (with_part t (t.part ++ x))) k in
     let place : IsPlaceOf s.kept record_now mid.slots.items mid.place = rw (slots, f.place) (record {
       within = omega (arith, length-set old.slots.items old.place record_now, p.place.within);
       slots_are = p.place.puts (filled s r ++ x);
@@ -179,7 +179,7 @@ fed_runs max s r x old mid max_is a p held f within =
     let whole : header_size s (r ++ x) ≤ length (r ++ x) = omega (arith, g.size, n, p.whole) in
     let hr = held_whole s r p.whole in
     let hx = held_whole s (r ++ x) whole in
-    let po : part_bytes (put (opened s r) s.kept) ≡ part_bytes (put (opened s (r ++ x)) s.kept) = ap (λ (t : Kept). part_bytes (put t s.kept)) g.opened_same in
+    let po : part_bytes (put (opened s r) s.kept) ≡ part_bytes (put (opened s (r ++ x)) s.kept) = ap (λ (t : ChunkStream). part_bytes (put t s.kept)) g.opened_same in
     record {
       size = f.size ∙ p.size;
       head = ap length f.head ∙ p.head;

@@ -4,7 +4,7 @@ use Rattle.std.proofs.lemmas.List.{take_more, length-take, get_or-append-add}
 use Rattle.std.proofs.lemmas.Bool.{cases_lt}
 use Rattle.std.proofs.lemmas.Bool.Decides.{nat_tests}
 use Rattle.chunk_wire.specs.declared.message.Message.{Message}
-use Rattle.chunk_wire.specs.declared.kept.Kept.{Kept}
+use Rattle.chunk_wire.specs.declared.kept.ChunkStream.{ChunkStream}
 use Rattle.chunk_wire.specs.Layout.{basic_size, format_in, id_in}
 use Rattle.chunk_wire.specs.State.{State, part_bytes, put}
 use Rattle.chunk_wire.specs.Chunk.{chunk_size, header_size, is_known, message_of, opened}
@@ -91,7 +91,7 @@ held_more s r y whole =
     let now : header_size s (r ++ y) ≤ length (r ++ y) = omega (arith, g.size) in
     let hr = held_whole s r whole in
     let hx = held_whole s (r ++ y) now in
-    let po : part_bytes (put (opened s r) s.kept) ≡ part_bytes (put (opened s (r ++ y)) s.kept) = ap (λ (t : Kept). part_bytes (put t s.kept)) g.opened_same in
+    let po : part_bytes (put (opened s r) s.kept) ≡ part_bytes (put (opened s (r ++ y)) s.kept) = ap (λ (t : ChunkStream). part_bytes (put t s.kept)) g.opened_same in
     omega (arith, hr, hx, po, g.size, n, whole)
 
 pub size_more : (s : State) (r y : List ℕ) → header_size s r ≤ length r → chunk_size s (r ++ y) ≡ chunk_size s r

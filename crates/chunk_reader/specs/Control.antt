@@ -2,18 +2,18 @@
 -- the chunk stream that it names. A body of fewer than four bytes changes nothing.
 use Rattle.std.specs.Prelude.{ℕ, ◌^◌, nat_eq, nat_le, nat_lt, ◌&&◌, ◌||◌, if◌then◌else◌, List, [], length, Option, Some, None, get_or, set}
 use Rattle.relay_base.specs.Numbers.{be32_of}
-use Rattle.chunk_wire.specs.declared.kept.Kept.{Kept}
+use Rattle.chunk_wire.specs.declared.kept.ChunkStream.{ChunkStream}
 use Rattle.chunk_wire.specs.declared.message.Message.{Message}
-use Rattle.chunk_wire.specs.State.{State, place_of, fresh_kept}
+use Rattle.chunk_wire.specs.State.{State, index_of, fresh_kept}
 use Rattle.chunk_wire.specs.Chunk.{with_part, message_of, after_chunk}
 
-abbrev pub dropped_at : ℕ → Option ℕ → List Kept → List Kept
+abbrev pub dropped_at : ℕ → Option ℕ → List ChunkStream → List ChunkStream
 dropped_at id None kept = kept
 dropped_at id (Some i) kept = set kept i (with_part (get_or kept i (fresh_kept id)) [])
 
 -- the records, the part of this id dropped
-abbrev pub dropped : ℕ → List Kept → List Kept
-dropped id kept = dropped_at id (place_of id kept) kept
+abbrev pub dropped : ℕ → List ChunkStream → List ChunkStream
+dropped id kept = dropped_at id (index_of id kept) kept
 
 unfoldable pub by_message : Message → State → State
 by_message m s =

@@ -1,7 +1,7 @@
 -- Only proofs and private functions use it.
 -- How the reader's fields stand for the state and the bytes of the chunk in progress
 use Rattle.std.specs.Prelude.{◌≡◌, ℕ, ◌+◌, ◌<◌, ◌≤◌, ◌⊎◌, List, length, get_or, set}
-use Rattle.chunk_wire.specs.declared.kept.Kept.{Kept}
+use Rattle.chunk_wire.specs.declared.kept.ChunkStream.{ChunkStream}
 use Rattle.chunk_wire.specs.declared.message.Message.{Message}
 use Rattle.chunk_wire.specs.State.{State, put, part_bytes}
 use Rattle.chunk_wire.specs.Chunk.{chunk_size, header_size, opened, filled, with_part}
@@ -20,10 +20,10 @@ pub record AtHead (s : State) (r : List ℕ) (core : Core) : Type 0 where
   pub short : length r < header_size s r
 
 -- the record k is put into these, and its slot is at the place
-pub record IsPlaceOf (kept : List Kept) (k : Kept) (slots : List Kept) (place : ℕ) : Type 0 where
+pub record IsPlaceOf (kept : List ChunkStream) (k : ChunkStream) (slots : List ChunkStream) (place : ℕ) : Type 0 where
   pub within : place < length slots
   pub slots_are : slots ≡ put k kept
-  pub is : (d : Kept) → get_or slots place d ≡ k
+  pub is : (d : ChunkStream) → get_or slots place d ≡ k
   pub puts : (part : List ℕ) → set slots place (with_part k part) ≡ put (with_part k part) kept
 
 -- a chunk's payload isn't whole

@@ -2,11 +2,11 @@
 -- What the steps of the reader leave, by its fields
 use Rattle.std.specs.Prelude.{◌≡◌, ℕ, ◌+◌, ◌^◌, ◌<◌, ◌≤◌, ◌⊎◌, nat_eq, nat_lt, if◌then◌else◌, Bool, true, false}
 use Rattle.std.specs.Prelude.{Result, MatchOption, MatchResult, List, [], ◌++◌, is_some, IfSome, length, take, Option, Some, None, get_or, set}
-use Rattle.chunk_wire.specs.declared.kept.Kept.{Kept}
+use Rattle.chunk_wire.specs.declared.kept.ChunkStream.{ChunkStream}
 use Rattle.chunk_wire.specs.declared.headers.Basic.{Basic}
 use Rattle.chunk_wire.specs.declared.message.Message.{Message}
 use Rattle.chunk_wire.specs.Layout.{basic_size, format_in, id_in}
-use Rattle.chunk_wire.specs.State.{State, at_place, part_bytes, place_of, put_at, fresh_kept}
+use Rattle.chunk_wire.specs.State.{State, at_place, part_bytes, index_of, put_at, fresh_kept}
 use Rattle.chunk_wire.specs.Chunk.{header_size, opened, with_part, is_known, payload_size}
 use Rattle.chunk_reader.specs.Control.{controlled, bad_size}
 use Rattle.chunk_reader.specs.Reads.{has_room, part_limit}
@@ -22,7 +22,7 @@ pub record IsOpening (max : ℕ) (s : State) (r : List ℕ) (o : Opening) : Type
   pub room : has_room s r ≡ true
   pub fits : (opened s r).terms.length ≤ max
   pub id : o.id ≡ id_in r
-  pub place : o.place ≡ place_of (id_in r) s.kept
+  pub place : o.place ≡ index_of (id_in r) s.kept
   pub within : IfSome o.place (λ i. i < length s.kept)
   pub terms : o.terms ≡ (opened s r).terms
   pub drops : o.drops ≡ nat_lt (format_in r) 3
@@ -50,10 +50,10 @@ abbrev pub HeaderGives : ℕ → State → List ℕ → Result (Option Opening) 
 HeaderGives max s r result = MatchResult result (λ o. MatchOption o (IsShort s r) (λ o. IsOpening max s r o)) (λ e. HeaderFails max s r e)
 
 -- the message that a slot's part is, if it is whole
-abbrev pub slot_done : Kept → Bool
+abbrev pub slot_done : ChunkStream → Bool
 slot_done k = nat_eq (length k.part) k.terms.length
 
-abbrev pub slot_message : Kept → Option Message
+abbrev pub slot_message : ChunkStream → Option Message
 slot_message k = if slot_done k then Some (record { kind = k.terms.kind; stream = k.terms.stream; time = k.terms.time; body = k.part }) else None
 
 -- the cause is the number of a refused Set Chunk Size
@@ -62,7 +62,7 @@ IsBadSize m (BadChunkSize value) = bad_size m ≡ Some value
 IsBadSize m _ = ⊥
 
 -- the records, with what a header says in the slot of its id
-abbrev pub with_opening : Opening → List Kept → List Kept
+abbrev pub with_opening : Opening → List ChunkStream → List ChunkStream
 with_opening o kept =
     put_at o.place (record { id = o.id; terms = o.terms; part = if o.drops then [] else (at_place o.id o.place kept).part }) kept
 
@@ -81,7 +81,7 @@ pub record IsOpened (max : ℕ) (s : State) (r : List ℕ) (new : Core) : Type 0
   pub max_is : new.max ≡ max
 
 -- the slot of the chunk in progress
-abbrev pub slot_at : Core → Kept
+abbrev pub slot_at : Core → ChunkStream
 slot_at core = get_or core.slots.items core.place (fresh_kept 0)
 
 -- the state after the chunk in progress, which has ended

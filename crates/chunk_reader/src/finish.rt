@@ -9,14 +9,14 @@ use crate::fail::ReadCause;
 use crate::fields::Core;
 use crate::header::slot_of;
 use av_unit::Bytes;
-use chunk_wire::{Kept, Message, Terms};
+use chunk_wire::{ChunkStream, Message, Terms};
 use relay_base::be32;
 use std::alloc::Global;
 use std::mem;
 
 // The message that a slot's part is, if it is whole.
 #[tactic(auto, using(std::proofs::lemmas::Bool::Decides::nat_tests))]
-fn take_whole(slot: &mut Kept, alloc: Global) -> Option<Message>
+fn take_whole(slot: &mut ChunkStream, alloc: Global) -> Option<Message>
     ensures message { result ≡ slot_message slot.old }
     ensures slot { slot.new ≡ with_part slot.old (if slot_done slot.old then [] else slot.old.part) }
 {
@@ -55,7 +55,7 @@ fn take_message(core: &mut Core, alloc: Global) -> Option<Message>
 }
 
 // Drops the part of an id.
-fn drop_part(slots: &mut Vec<Kept>, held: &mut u64, alloc: Global, id: u32)
+fn drop_part(slots: &mut Vec<ChunkStream>, held: &mut u64, alloc: Global, id: u32)
     requires counted { held.old ≡ part_bytes slots.old.items }
     ensures slots { slots.new.items ≡ dropped id slots.old.items }
     ensures counted { held.new ≡ part_bytes slots.new.items }

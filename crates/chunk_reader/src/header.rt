@@ -1,7 +1,7 @@
 ghost use Rattle.std.specs.Prelude.{◌≡◌, ◌≤◌, ◌<◌, ◌+◌, ◌||◌, ◌&&◌, ◌^◌, if◌then◌else◌, true, is_some, length, nat_lt};
 ghost use Rattle.std.specs.Prelude.{IsTrue, IfSome, MatchResult};
 ghost use Rattle.chunk_wire.specs.Layout.{basic_in, basic_size, head_size, format_in, id_in, IsBasicAt};
-ghost use Rattle.chunk_wire.specs.State.{kept_of, place_of};
+ghost use Rattle.chunk_wire.specs.State.{kept_of, index_of};
 ghost use Rattle.chunk_wire.specs.Chunk.{head_fields, is_extended, kept_before, terms_by, value_in};
 ghost use Rattle.chunk_reader.specs.Core.{the_state};
 ghost use Rattle.chunk_reader.specs.Reads.{has_room};
@@ -9,7 +9,7 @@ ghost use Rattle.chunk_reader.specs.Steps.{AdmitFails, HeaderGives};
 
 use crate::fail::ReadCause;
 use crate::fields::Core;
-use chunk_wire::{Basic, Head, Kept, Terms, read_basic, read_head};
+use chunk_wire::{Basic, ChunkStream, Head, Terms, read_basic, read_head};
 use relay_base::be32;
 
 // What a header says once it is whole: the id and its slot if it has one, what the slot keeps from now on, and whether
@@ -31,16 +31,16 @@ struct Found {
 }
 
 // The slot of an id.
-#[tactic(auto, unfolding(chunk_wire::specs::State::place_of))]
-pub fn slot_of(slots: &[Kept], id: u32) -> Option<usize>
-    ensures place { result ≡ place_of id slots.now }
+#[tactic(auto, unfolding(chunk_wire::specs::State::index_of))]
+pub fn slot_of(slots: &[ChunkStream], id: u32) -> Option<usize>
+    ensures place { result ≡ index_of id slots.now }
     ensures within { IfSome result (λ i. i < length slots.now) }
 {
     slots.iter().position(|k| k.id == id)
 }
 
-fn find(slots: &[Kept], id: u32) -> Found
-    ensures place { result.place ≡ place_of id slots.now }
+fn find(slots: &[ChunkStream], id: u32) -> Found
+    ensures place { result.place ≡ index_of id slots.now }
     ensures within { IfSome result.place (λ i. i < length slots.now) }
     ensures terms { result.terms ≡ (kept_of id slots.now).terms }
     ensures part { result.part ≡ length (kept_of id slots.now).part }
@@ -183,7 +183,7 @@ fn after_head(
     requires basic { basic ≡ basic_in core.now.head.items }
     requires at { at ≡ basic_size core.now.head.items + head_size (format_in core.now.head.items) }
     requires low { at < 2 ^ 32 }
-    requires place { before.place ≡ place_of (id_in core.now.head.items) core.now.slots.items }
+    requires place { before.place ≡ index_of (id_in core.now.head.items) core.now.slots.items }
     requires within { IfSome before.place (λ i. i < length core.now.slots.items) }
     requires terms { before.terms ≡ (kept_before (the_state core.now) core.now.head.items).terms }
     requires part { before.part ≡ length (kept_before (the_state core.now) core.now.head.items).part }

@@ -6,11 +6,11 @@ ghost use Rattle.chunk_reader.specs.Steps.{IsOpened, IsOpening, IsPutAt, with_op
 use crate::fields::Core;
 use crate::header::Opening;
 use av_unit::{Bytes, OutOfMemory};
-use chunk_wire::Kept;
+use chunk_wire::ChunkStream;
 use std::alloc::Global;
 
 // Puts what a header says into a slot.
-fn reopen(slot: &mut Kept, held: &mut u64, alloc: Global, o: Opening)
+fn reopen(slot: &mut ChunkStream, held: &mut u64, alloc: Global, o: Opening)
     requires { length slot.old.part ≤ held.old }
     ensures slot { slot.new ≡ record { id = o.id; terms = o.terms; part = if o.drops then [] else slot.old.part } }
     ensures held { held.new + length slot.old.part ≡ held.old + length slot.new.part }
@@ -26,7 +26,7 @@ fn reopen(slot: &mut Kept, held: &mut u64, alloc: Global, o: Opening)
 
 // Puts what a header says into the slot of its id, or into a new one, and answers its place.
 fn put_slot(
-    slots: &mut Vec<Kept>,
+    slots: &mut Vec<ChunkStream>,
     held: &mut u64,
     alloc: Global,
     o: Opening,
@@ -45,7 +45,7 @@ fn put_slot(
         }
         None => {
             let i = slots.len();
-            slots.push(Kept {
+            slots.push(ChunkStream {
                 id: o.id,
                 terms: o.terms,
                 part: Bytes::new(alloc),
@@ -56,7 +56,7 @@ fn put_slot(
 }
 
 // The payload bytes of the chunk whose slot this is.
-fn payload(size: u32, slot: &Kept) -> u32
+fn payload(size: u32, slot: &ChunkStream) -> u32
     ensures { result ≡ min size (slot.now.terms.length - length slot.now.part) }
 {
     let part = slot.part.len();

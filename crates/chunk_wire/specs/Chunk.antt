@@ -2,20 +2,20 @@
 use Rattle.std.specs.Prelude.{◌≡◌, ℕ, ◌+◌, ◌-◌, ◌%◌, ◌^◌, min, nat_eq, nat_lt, Bool, true, ◌||◌, if◌then◌else◌, is_some}
 use Rattle.std.specs.Prelude.{List, [], ◌++◌, length, drop, Option, Some, None}
 use Rattle.relay_base.specs.Numbers.{be32_of}
-use Rattle.chunk_wire.specs.declared.kept.Kept.{Kept}
+use Rattle.chunk_wire.specs.declared.kept.ChunkStream.{ChunkStream}
 use Rattle.chunk_wire.specs.declared.kept.Terms.{Terms}
 use Rattle.chunk_wire.specs.declared.headers.Head.{Head}
 use Rattle.chunk_wire.specs.declared.message.Message.{Message}
 use Rattle.chunk_wire.specs.Layout.{basic_in, basic_size, format_in, id_in, head_in, head_size}
-use Rattle.chunk_wire.specs.State.{State, kept_of, place_of, put}
+use Rattle.chunk_wire.specs.State.{State, kept_of, index_of, put}
 
 -- the record of the chunk's id before it
-abbrev pub kept_before : State → List ℕ → Kept
+abbrev pub kept_before : State → List ℕ → ChunkStream
 kept_before s b = kept_of (id_in b) s.kept
 
 -- the id isn't fresh
 abbrev pub is_known : State → List ℕ → Bool
-is_known s b = is_some (place_of (id_in b) s.kept)
+is_known s b = is_some (index_of (id_in b) s.kept)
 
 -- the fields of the message header
 abbrev pub head_fields : List ℕ → Head
@@ -52,7 +52,7 @@ terms_by k part h v extended =
     else k)))
 
 -- the record of the id after the chunk's header: formats 0, 1 and 2 drop the part of a message in progress
-unfoldable pub opened : State → List ℕ → Kept
+unfoldable pub opened : State → List ℕ → ChunkStream
 opened s b = record {
   id = id_in b;
   terms = terms_by (kept_before s b).terms (length (kept_before s b).part) (head_fields b) (value_in s b) (is_extended s b);
@@ -85,7 +85,7 @@ message_of s b = if is_done s b then Some (record {
 }) else None
 
 -- the record of the id with this part
-abbrev pub with_part : Kept → List ℕ → Kept
+abbrev pub with_part : ChunkStream → List ℕ → ChunkStream
 with_part k part = record { id = k.id; terms = k.terms; part = part }
 
 -- the state after the chunk: nothing but the record of its id changes

@@ -15,7 +15,7 @@ pub struct Terms {
 /// What a reader keeps of a chunk stream: its id, what its last header said, and the bytes that came of the message
 /// in progress, none where no message is in progress.
 #[derive(Debug, Drop)]
-pub struct Kept {
+pub struct ChunkStream {
     pub id: u32,
     pub terms: Terms,
     pub part: Bytes,

@@ -14,7 +14,7 @@ mod read;
 mod write;
 
 pub use headers::{Basic, Head};
-pub use kept::{Kept, Terms};
+pub use kept::{ChunkStream, Terms};
 pub use laws::{
     chunks_are_read_so, headers_are_read_so, heads_are_read_back, ids_are_written_shortest,
 };

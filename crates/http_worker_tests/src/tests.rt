@@ -18,7 +18,7 @@ use std::test::Fail;
 use stream_core::{Call, Entry, Reply, ShortName};
 use stream_model::StreamLimits;
 use stream_registry::{
-    Desk as Streams, Name, NameList, OpenList, PortFail, Shared, StreamPort, shared_ports,
+    Name, NameList, OpenList, PlaceTable, PortFail, Shared, StreamPort, shared_ports,
 };
 
 const STREAM: StreamLimits = StreamLimits {
@@ -115,7 +115,7 @@ fn names(alloc: Global) -> Result<NameList, OutOfMemory>
     Ok(names)
 }
 
-type TwoPorts = (Shared<Streams>, Shared<Streams>);
+type TwoPorts = (Shared<PlaceTable>, Shared<PlaceTable>);
 
 /// Two ports to the same gates, at a stream for so many players.
 fn two_ports(alloc: Global, players: u32) -> Result<TwoPorts, OutOfMemory> {
@@ -265,15 +265,15 @@ fn took(door: &MemDoor, link: u32) -> u8 {
 struct Worked {
     moved: bool,
     made: Result<bool, OutOfMemory>,
-    left: HttpFinished<Shared<Streams>, Listening>,
+    left: HttpFinished<Shared<PlaceTable>, Listening>,
 }
 
 // A worker at that port serves the links of the door: two rounds, a broadcast at the other port, and all rounds to the end.
 fn work<W: Wait>(
     rt: &W,
     alloc: Global,
-    near: Shared<Streams>,
-    far: &mut Shared<Streams>,
+    near: Shared<PlaceTable>,
+    far: &mut Shared<PlaceTable>,
     there: u32,
     desk: Always,
     door: Result<Listening, OutOfMemory>,

@@ -9,7 +9,9 @@ use std::thread::Threads;
 use std::time::{Clock, Instant};
 use std::{hint, io, thread};
 use stream_core::{Call, Entry, ShortName, StreamLimits};
-use stream_registry::{Desk, Name, NameList, OpenList, Shared, Sole, StreamPort, shared_ports};
+use stream_registry::{
+    Name, NameList, OpenList, PlaceTable, Shared, Sole, StreamPort, shared_ports,
+};
 
 // How many calls each thread makes.
 const CALLS: u64 = 200_000;
@@ -143,7 +145,7 @@ fn at_ports(
     alloc: Global,
     threads: usize,
     spread: bool,
-) -> Result<Vec<AtPort<Shared<Desk>>>, OutOfMemory> {
+) -> Result<Vec<AtPort<Shared<PlaceTable>>>, OutOfMemory> {
     let mut ports = shared_ports(alloc, names(alloc)?, OpenList::new(alloc), LIMITS, threads)?;
     let mut callers = Vec::new(alloc);
     for thread in 0..threads {

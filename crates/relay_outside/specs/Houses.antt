@@ -5,12 +5,12 @@ use Rattle.relay_outside.specs.Counts.{Rose}
 use Rattle.relay_outside.specs.Doors.{DoorTold, Returned, with_one}
 
 -- a file that was kept
-pub record Kept : Type 0 where
+pub record KeptFile : Type 0 where
   pub name : List ℕ
   pub bytes : List ℕ
   pub faults : ℕ
 
-abbrev pub kept_file : List ℕ → Option (List ℕ) → ℕ → Option Kept
+abbrev pub kept_file : List ℕ → Option (List ℕ) → ℕ → Option KeptFile
 kept_file name holds faults = option_map (λ bytes. record { name = name; bytes = bytes; faults = faults }) holds
 
 -- a door that was shut
@@ -28,7 +28,7 @@ pub record HouseTold : Type 0 where
   -- how many files were kept that had faults
   pub spoiled : ℕ
   -- the files that were kept, in order, where it tells them
-  pub kept : Option (List Kept)
+  pub kept : Option (List KeptFile)
   -- the doors that were shut, in order, where it tells them
   pub shut : Option (List Shut)
 
@@ -56,7 +56,7 @@ Spoils zero before now = now ≡ before
 Spoils (suc faults) before now = Rose before now
 
 -- a file was kept
-abbrev pub Keeps : HouseTold → HouseTold → ℕ → Option Kept → Type 0
+abbrev pub Keeps : HouseTold → HouseTold → ℕ → Option KeptFile → Type 0
 Keeps h k faults file = Spoils faults h.spoiled k.spoiled × (k ≡ record h { spoiled = k.spoiled; kept = with_one h.kept file })
 
 -- with one door more shut

@@ -29,7 +29,7 @@ use Rattle.media_recorder.specs.declared.turn.RecTurn.{RecTurn}
 use Rattle.media_recorder.specs.declared.turn.RecTurn.TheVariants as turn
 use Rattle.stream_registry.specs.Told.{Step}
 use Rattle.relay_worker.specs.Filed.{form_of, is_ready, state_of}
-use Rattle.relay_worker.specs.declared.recorder.Form.{Form}
+use Rattle.relay_worker.specs.declared.recorder.RecordingForm.{RecordingForm}
 use Rattle.relay_worker.specs.Rounds.{ClosesAt, ClosesBy, ClosesIf, GoesIf, HandsBack, IsClosed, IsGone, IsLeft, IsTurned, Recorded, RecordsAt, RecordsIf, Rounds, TurnsAt, TurnsBy, TurnsIf, Walks}
 use Rattle.relay_worker.specs.Running.{GoesAhead, HasRun, IsReadied, KeepsOn, Label, label_of}
 use Rattle.relay_worker.specs.Sessions.{IsNewSession}
@@ -378,7 +378,7 @@ get_at [] i d le = absurd (omega (arith, le))
 get_at (x ∷ xs) zero d le = refl
 get_at (x ∷ xs) (suc i) d le = get_at xs i d (omega (arith, le))
 
-abbrev label : ℕ → ℕ → Form → ℕ → Label
+abbrev label : ℕ → ℕ → RecordingForm → ℕ → Label
 label who place form longest = record { who = who; place = place; form = form; longest = longest }
 
 pub label_same : {P K Q : Type 0} (r r' : Recorder P K Q) → (state_of r').seat.who ≡ (state_of r).seat.who
@@ -386,7 +386,7 @@ pub label_same : {P K Q : Type 0} (r r' : Recorder P K Q) → (state_of r').seat
 label_same r r' who place form longest =
     ap (λ (n : ℕ). label n (state_of r').seat.place (form_of r') (state_of r').tape.longest) who
     ∙ (ap (λ (n : ℕ). label (state_of r).seat.who n (form_of r') (state_of r').tape.longest) place
-    ∙ (ap (λ (f : Form). label (state_of r).seat.who (state_of r).seat.place f (state_of r').tape.longest) form
+    ∙ (ap (λ (f : RecordingForm). label (state_of r).seat.who (state_of r).seat.place f (state_of r').tape.longest) form
     ∙ ap (label (state_of r).seat.who (state_of r).seat.place (form_of r)) longest))
 
 module _ {P D K Q L : Type 0} (files : P → Recorder P K Q → RecTurn → P → Recorder P K Q → Type 0) where

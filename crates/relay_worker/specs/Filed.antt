@@ -15,14 +15,14 @@ use Rattle.media_recorder.specs.Says.{Says}
 use Rattle.media_recorder.specs.Tallied.{Tallied}
 use Rattle.media_recorder.specs.Transport.{recorded_text}
 use Rattle.media_recorder.specs.Turns.{RecorderState, Turns}
-use Rattle.relay_worker.specs.declared.recorder.Form.{Form}
-use Rattle.relay_worker.specs.declared.recorder.Form.TheVariants as form
+use Rattle.relay_worker.specs.declared.recorder.RecordingForm.{RecordingForm}
+use Rattle.relay_worker.specs.declared.recorder.RecordingForm.TheVariants as form
 use Rattle.relay_worker.specs.declared.recorder.Recorder.{Recorder}
 use Rattle.relay_worker.specs.declared.recorder.Recorder.TheVariants as recorder
 use Rattle.relay_worker.specs.declared.recorder.Parted.{Parted}
 use Rattle.relay_worker.specs.declared.recorder.Parted.TheVariants as parted
 
-abbrev pub form_of : {P K Q : Type 0} → Recorder P K Q → Form
+abbrev pub form_of : {P K Q : Type 0} → Recorder P K Q → RecordingForm
 form_of (recorder.Flv r sink) = form.Flv
 form_of (recorder.Ts r sink) = form.Ts
 
@@ -35,7 +35,7 @@ sink_of (recorder.Flv r sink) = sink
 sink_of (recorder.Ts r sink) = sink
 
 -- the text of items in that form
-abbrev pub text_in : Form → List Item → List ℕ
+abbrev pub text_in : RecordingForm → List Item → List ℕ
 text_in form.Flv items = flv_text items
 text_in form.Ts items = recorded_text items
 

@@ -8,14 +8,14 @@ use Rattle.relay_session.specs.SeatState.{GoOn}
 use Rattle.relay_worker.specs.Benches.{WorkerState}
 use Rattle.relay_worker.specs.Filed.{form_of, state_of}
 use Rattle.relay_worker.specs.declared.bench.Bench.{Bench}
-use Rattle.relay_worker.specs.declared.recorder.Form.{Form}
+use Rattle.relay_worker.specs.declared.recorder.RecordingForm.{RecordingForm}
 use Rattle.relay_worker.specs.declared.recorder.Recorder.{Recorder}
 
 -- whose recorder it is, of which stream, how it writes, and how many bytes its longest unit has
 pub record Label : Type 0 where
   pub who : ℕ
   pub place : ℕ
-  pub form : Form
+  pub form : RecordingForm
   pub longest : ℕ
 
 abbrev pub label_of : {P K Q : Type 0} → Recorder P K Q → Label

@@ -15,7 +15,7 @@ mod worker;
 
 pub use bench::{Bench, Seated, Terms};
 pub use laws::{published_law, settled_law};
-pub use recorder::{Form, Parted, Recorder};
+pub use recorder::{Parted, Recorder, RecordingForm};
 pub use round::Round;
 pub use running::run_all;
 pub use telling::Request;

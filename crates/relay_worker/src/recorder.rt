@@ -19,7 +19,7 @@ use stream_registry::StreamPort;
 
 /// How a recording is written.
 #[derive(Clone, Copy, Debug, PartialEq, Eq)]
-pub enum Form {
+pub enum RecordingForm {
     /// As FLV.
     Flv,
     /// As a transport stream.
@@ -68,12 +68,12 @@ impl<P: StreamPort, K: Sink> Recorder<P, K> {
     }
 
     /// How it writes.
-    pub fn form(&self) -> Form
+    pub fn form(&self) -> RecordingForm
         ensures { result ≡ form_of self.now }
     {
         match self {
-            Recorder::Flv(_, _) => Form::Flv,
-            Recorder::Ts(_, _) => Form::Ts,
+            Recorder::Flv(_, _) => RecordingForm::Flv,
+            Recorder::Ts(_, _) => RecordingForm::Ts,
         }
     }
 

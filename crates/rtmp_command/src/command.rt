@@ -3,7 +3,7 @@ ghost use Rattle.amf0_value.specs.Tree.{Items};
 ghost use Rattle.amf0_value.specs.View.{tree, items_of, seen_values, items_view};
 ghost use Rattle.amf0_value.specs.Spelling.{ItemsSpelled, AllFit};
 ghost use Rattle.amf0_value.specs.Refusal.{RefusesAll};
-ghost use Rattle.amf0_value.specs.Laws.{place_of};
+ghost use Rattle.amf0_value.specs.Laws.{offset_of};
 ghost use Rattle.amf0_value.specs.declared.fail.AmfFail.{AmfFail};
 ghost use Rattle.rtmp_command.specs.Commands.{parts_of, parts_behind, seen, transaction_of, IsNoCommand, command_fail};
 
@@ -46,7 +46,7 @@ pub fn command_of(alloc: Global, body: &[u8]) -> Result<Command, CommandFail>
     ensures only { (vs : Items) → ItemsSpelled vs body.now [] → AllFit vs
         → MatchResult result (λ c. parts_of vs ≡ Some (seen c)) (λ e. (e ≡ CommandFail.OutOfMemory) ⊎ ((e ≡ CommandFail.BadCommand 0) × (parts_of vs ≡ None))) }
     ensures exact { (f : AmfFail) → RefusesAll body.now f
-        → MatchResult result (λ _. ⊥) (λ e. (e ≡ CommandFail.OutOfMemory) ⊎ (e ≡ CommandFail.BadCommand (place_of f))) }
+        → MatchResult result (λ _. ⊥) (λ e. (e ≡ CommandFail.OutOfMemory) ⊎ (e ≡ CommandFail.BadCommand (offset_of f))) }
 {
     match decode_all(alloc, body) {
         Ok(list) => command_in(list),

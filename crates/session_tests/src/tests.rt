@@ -15,9 +15,7 @@ use std::alloc::{AllocError, Global};
 use std::test::Fail;
 use std::thread;
 use stream_model::{Call, Entry, Reply, ShortName, StreamLimits};
-use stream_registry::{
-    Desk as Streams, Name, NameList, OpenList, Shared, StreamPort, shared_ports,
-};
+use stream_registry::{Name, NameList, OpenList, PlaceTable, Shared, StreamPort, shared_ports};
 
 // How many units are published.
 const UNITS: u64 = 1_000;
@@ -86,14 +84,14 @@ fn names(alloc: Global) -> Result<NameList, OutOfMemory>
 }
 
 /// The next port of a list, all of which have the same names and gates.
-fn next_port(list: &mut Vec<Shared<Streams>>) -> Option<Shared<Streams>>
+fn next_port(list: &mut Vec<Shared<PlaceTable>>) -> Option<Shared<PlaceTable>>
     ensures { (r : PortRules) → All (λ s. shared_rules s ≡ r) list.old.items
         → All (λ s. shared_rules s ≡ r) list.new.items × IfSome result (λ s. shared_rules s ≡ r) }
 {
     list.pop()
 }
 
-type TwoPorts = (Shared<Streams>, Shared<Streams>);
+type TwoPorts = (Shared<PlaceTable>, Shared<PlaceTable>);
 
 /// Two ports to the same gates.
 fn two_ports(alloc: Global) -> Result<TwoPorts, OutOfMemory>
@@ -161,13 +159,13 @@ fn run<P: StreamPort>(
 /// The same in a thread. The port is given back.
 fn work(
     alloc: Global,
-    mut port: Shared<Streams>,
+    mut port: Shared<PlaceTable>,
     who: u64,
     bytes: Vec<u8>,
     ends: bool,
     most: u64,
     ran: &mut Ran,
-) -> Shared<Streams>
+) -> Shared<PlaceTable>
     ensures { shared_rules result ≡ shared_rules port }
 {
     *ran = run(alloc, &mut port, who, bytes, ends, most);

@@ -13,9 +13,9 @@ use Rattle.stream_model.specs.contracts.replies.Reply as Reply
 use Rattle.stream_core.proofs.place.Place.TheSendSync as place
 use Rattle.stream_core.specs.contracts.stream.Stream as Stream
 use Rattle.stream_registry.proofs.shared.Shared.TheSendSync as shared
-use Rattle.stream_registry.specs.contracts.desk.Desk as Desk
-use Rattle.stream_registry.specs.contracts.desk.DeskMachine.TheImpl.{ghosts}
-use Rattle.stream_registry.specs.contracts.desk.Site as Site
+use Rattle.stream_registry.specs.contracts.place_table.PlaceTable as PlaceTable
+use Rattle.stream_registry.specs.contracts.place_table.PlaceTableMachine.TheImpl.{ghosts}
+use Rattle.stream_registry.specs.contracts.place_table.Site as Site
 use Rattle.stream_registry.specs.contracts.shared.Shared as Shared
 use Rattle.turn_gate.proofs.pass.Pass.TheSendSync as pass
 use Rattle.turn_gate.specs.contracts.pass.Pass as Pass
@@ -50,17 +50,17 @@ stream_send =
     let r = ring_send in
     search (sendable, crosses, place.the_send) depth 40 fits 20000
 
-desk_send : IsSend Desk.the_row
+desk_send : IsSend PlaceTable.the_row
 desk_send =
     let s = stream_send in
     search (sendable, crosses) depth 40 fits 20000
 
-pub port_send : IsSend (Shared.the_row Desk.the_row Entry.the_row (Result.the_row Reply.the_row OutOfMemory.the_row) Site.the_row ghosts)
+pub port_send : IsSend (Shared.the_row PlaceTable.the_row Entry.the_row (Result.the_row Reply.the_row OutOfMemory.the_row) Site.the_row ghosts)
 port_send =
     let d = desk_send in
     search (sendable, crosses, shared.the_send) depth 40 fits 20000
 
-pub pass_send : IsSend (Pass.the_row Desk.the_row Entry.the_row (Result.the_row Reply.the_row OutOfMemory.the_row) Site.the_row ghosts)
+pub pass_send : IsSend (Pass.the_row PlaceTable.the_row Entry.the_row (Result.the_row Reply.the_row OutOfMemory.the_row) Site.the_row ghosts)
 pass_send =
     let d = desk_send in
     search (sendable, crosses, pass.the_send) depth 40 fits 20000

@@ -18,7 +18,7 @@ use Rattle.stream_registry.specs.Splits.{SplitBy, CallSplits}
 use Rattle.stream_registry.specs.declared.port.PortFail.{PortFail}
 use Rattle.turn_gate.specs.declared.view.Branch.{Branch}
 use Rattle.stream_registry.specs.Told.{Keeps}
-use Rattle.stream_registry.specs.declared.desk.Site.{Site}
+use Rattle.stream_registry.specs.declared.place_table.Site.{Site}
 use Rattle.stream_registry.specs.declared.names.Name.{Name}
 use Rattle.stream_registry.specs.declared.names.OpenName.{OpenName}
 use Rattle.stream_registry.specs.Names.{shape_at}

@@ -7,7 +7,7 @@ use Rattle.stream_model.specs.declared.calls.Shape.{Shape}
 use Rattle.stream_model.specs.Shape.{stream_shape, pool_shape, AreFewSlots}
 use Rattle.stream_model.specs.Names.{is_name}
 use Rattle.turn_gate.specs.Known.{GateId}
-use Rattle.stream_registry.specs.declared.desk.Site.{Site}
+use Rattle.stream_registry.specs.declared.place_table.Site.{Site}
 use Rattle.stream_registry.specs.declared.names.Name.{Name}
 use Rattle.stream_registry.specs.declared.names.OpenName.{OpenName}
 use Rattle.stream_registry.specs.declared.names.NotFound.{NotFound}

@@ -8,7 +8,7 @@ use Rattle.stream_model.specs.Answer.{IsSent}
 use Rattle.stream_model.specs.Shape.{shape_reply}
 use Rattle.turn_gate.specs.Histories.{Begins}
 use Rattle.turn_gate.specs.Known.{PassKnown, met_once}
-use Rattle.stream_registry.specs.declared.desk.Site.{Site}
+use Rattle.stream_registry.specs.declared.place_table.Site.{Site}
 use Rattle.stream_registry.specs.declared.port.PortFail.{PortFail}
 use Rattle.stream_registry.specs.declared.port.PortFail.TheVariants as fail
 use Rattle.stream_registry.specs.Pasts.{Attempt, IsLawfulAt, past_of}

@@ -5,7 +5,7 @@ use Rattle.stream_model.specs.declared.calls.StreamLimits.{StreamLimits}
 use Rattle.stream_model.specs.declared.calls.Shape.{Shape}
 use Rattle.turn_gate.specs.Known.{GateId}
 use Rattle.stream_registry.specs.Pasts.{Attempt}
-use Rattle.stream_registry.specs.declared.desk.Site.{Site}
+use Rattle.stream_registry.specs.declared.place_table.Site.{Site}
 use Rattle.stream_registry.specs.declared.names.Name.{Name}
 use Rattle.stream_registry.specs.declared.names.OpenName.{OpenName}
 use Rattle.stream_registry.specs.Roots.{Root, Unlearned, kin_at, gates}

@@ -2,7 +2,7 @@
 use Rattle.std.specs.Prelude.{◌≡◌, ◌≢◌, ℕ, List, [], slice_get, Some}
 use Rattle.stream_model.specs.declared.calls.Shape.{Shape}
 use Rattle.turn_gate.specs.Known.{GateId}
-use Rattle.stream_registry.specs.declared.desk.Site.{Site}
+use Rattle.stream_registry.specs.declared.place_table.Site.{Site}
 use Rattle.stream_registry.specs.Pasts.{Attempt}
 use Rattle.stream_registry.specs.Roots.{Root}
 use Rattle.stream_registry.specs.Names.{shape_at}

@@ -8,17 +8,17 @@
 
 mod again;
 mod book;
-mod desk;
 mod names;
 mod place;
+mod place_table;
 mod port;
 mod shapes;
 mod shared;
 mod sole;
 mod ways;
 
-pub use desk::{Desk, Site, pasts_law};
 pub use names::{Name, NameList, NotFound, OpenList, OpenName};
+pub use place_table::{PlaceTable, Site, pasts_law};
 pub use port::{PortFail, StreamPort};
 pub use shapes::places_law;
 pub use shared::{Shared, shared_ports};

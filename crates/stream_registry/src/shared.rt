@@ -10,9 +10,9 @@ ghost use Rattle.stream_registry.specs.Sites.{AreNewRoots, AreSites, site};
 ghost use Rattle.stream_model.specs.Shape.{AreFewSlots};
 
 use crate::again::TakeNumbers;
-use crate::desk::{Desk, Site};
 use crate::names::{NameList, NotFound, OpenList, place_of};
 use crate::place::Place;
+use crate::place_table::{PlaceTable, Site};
 use crate::port::{PortFail, StreamPort};
 use crate::shapes::place_shapes;
 use crate::ways::Ways;
@@ -24,7 +24,7 @@ use stream_core::{Entry, Reply, Shape, StreamLimits, Table};
 use stream_law::{tables_law, takes_alone, takes_alone_at_pools};
 use turn_gate::{CallFail, Machine, Pass};
 
-/// A gate for each place, and what was seen there. The machine behind a gate is a [`Desk`], a stream or a pool. The type is generic in
+/// A gate for each place, and what was seen there. The machine behind a gate is a [`PlaceTable`], a stream or a pool. The type is generic in
 /// it, so that it is seen to cross threads.
 #[derive(Drop)]
 pub struct Shared<T: Machine + Drop> {
@@ -55,7 +55,7 @@ pub fn shared_ports(
     opens: OpenList,
     limits: StreamLimits,
     ports: usize,
-) -> Result<Vec<Shared<Desk>>, OutOfMemory>
+) -> Result<Vec<Shared<PlaceTable>>, OutOfMemory>
     requires { AreFew names opens }
     ensures { IfOk result (λ list. AreNewPorts names opens limits ports list.items) }
 {
@@ -71,9 +71,9 @@ pub fn shared_ports(
 // So many ports to the gates of the first.
 fn fork_ports(
     alloc: Global,
-    first: &mut Shared<Desk>,
+    first: &mut Shared<PlaceTable>,
     ports: usize,
-) -> Result<Vec<Shared<Desk>>, OutOfMemory>
+) -> Result<Vec<Shared<PlaceTable>>, OutOfMemory>
     ensures forks { IfOk result (λ list. (length list.items ≡ ports) × All (IsFork first.old) list.items) }
     ensures kin { IfOk result (λ _. (q : ℕ) → kin_at first.new.roots q ≡ cut_times ports (kin_at first.old.roots q)) }
     ensures same { IsAsBefore first.old first.new }
@@ -87,7 +87,7 @@ fn fork_ports(
 }
 
 // Ways to a new gate for each place, which has one of these.
-fn new_ways(alloc: Global, shapes: &[Shape]) -> Result<Ways<Desk>, OutOfMemory>
+fn new_ways(alloc: Global, shapes: &[Shape]) -> Result<Ways<PlaceTable>, OutOfMemory>
     requires { AreTables shapes.now }
     ensures { IfOk result (λ w. (length w ≡ length shapes.now) × AreNewRoots shapes.now w × AreTrunks w) }
 {
@@ -101,22 +101,22 @@ fn new_ways(alloc: Global, shapes: &[Shape]) -> Result<Ways<Desk>, OutOfMemory>
 
 // A new gate at that place, which has one of that shape.
 #[tactic(auto, using(crate::proofs::Wanting::stands_first))]
-fn new_way(alloc: Global, place: u32, limits: Shape) -> Result<Place<Desk>, OutOfMemory>
+fn new_way(alloc: Global, place: u32, limits: Shape) -> Result<Place<PlaceTable>, OutOfMemory>
     requires { AreFewSlots limits.slots }
     ensures { IfOk result (λ p. (p.seen ≡ []) × (p.kin ≡ trunk) × (p.gate.about ≡ site place limits)) }
 {
     let table = Table::new(alloc, limits)?;
-    let way = Place::new(alloc, Desk { place, table }, &Site { place, limits })?;
+    let way = Place::new(alloc, PlaceTable { place, table }, &Site { place, limits })?;
     Ok(way)
 }
 
-impl Shared<Desk> {
+impl Shared<PlaceTable> {
     fn new(
         alloc: Global,
         names: NameList,
         opens: OpenList,
         limits: StreamLimits,
-    ) -> Result<Shared<Desk>, OutOfMemory>
+    ) -> Result<Shared<PlaceTable>, OutOfMemory>
         requires { AreFew names opens }
         ensures new { IfOk result (λ s. IsNewPort names opens (gates s.roots) s) }
         ensures gates { IfOk result (λ s. AreSites (shapes_of limits names opens) (gates s.roots)
@@ -140,7 +140,7 @@ impl Shared<Desk> {
     }
 
     // A port for another thread, to the same gates.
-    pub(crate) fn fork(&mut self, alloc: Global) -> Result<Shared<Desk>, OutOfMemory>
+    pub(crate) fn fork(&mut self, alloc: Global) -> Result<Shared<PlaceTable>, OutOfMemory>
         ensures fork { IfOk result (IsFork self.old) }
         ensures kin { IfOk result (λ _. (q : ℕ) → kin_at self.new.roots q ≡ cut_off (kin_at self.old.roots q)) }
         ensures same { IsAsBefore self.old self.new }
@@ -162,7 +162,7 @@ impl Shared<Desk> {
 
     /// What the other's root had seen is a beginning of what this one has then seen, at each place. Both come from one call
     /// of `shared_ports`.
-    pub fn gather(&mut self, other: Shared<Desk>)
+    pub fn gather(&mut self, other: Shared<PlaceTable>)
         requires { shared_rules other ≡ shared_rules self.old }
         ensures same { (shared_rules self.new ≡ shared_rules self.old) × (self.new.busies ≡ self.old.busies) }
         ensures grown { Later (told_at self.old.roots) (told_at self.new.roots) }
@@ -179,13 +179,13 @@ impl Shared<Desk> {
     }
 }
 
-impl StreamPort for Shared<Desk> {
-    type Pass = Pass<Desk>;
+impl StreamPort for Shared<PlaceTable> {
+    type Pass = Pass<PlaceTable>;
 
     ghost use Rattle.std.specs.Prelude.{◌≡◌, ◌≢◌, ◌<◌, ◌≤◌, ◌^◌, ℕ, [], Some, length, slice_get, IfOk, IfErr};
     ghost use Rattle.turn_gate.specs.Histories.{Begins, longer};
     ghost use Rattle.turn_gate.specs.Known.{PassKnown};
-    ghost use Rattle.stream_registry.specs.declared.desk.Site.{Site};
+    ghost use Rattle.stream_registry.specs.declared.place_table.Site.{Site};
     ghost use Rattle.stream_registry.specs.Pasts.{Attempt};
     ghost use Rattle.stream_registry.specs.Names.{places};
     ghost use Rattle.stream_registry.specs.Told.{Keeps};
@@ -229,7 +229,7 @@ impl StreamPort for Shared<Desk> {
     }
 
     /// As the trait says. The calls that memory refused are among those that the pass has seen.
-    fn attach(&mut self, place: u32) -> Pass<Desk>
+    fn attach(&mut self, place: u32) -> Pass<PlaceTable>
         requires { place < places (shared_rules self.old) }
         ensures pass { (slice_get (gates self.new.roots) place ≡ Some result.gate)
             × (result.gate.about.limits ≡ (shared_rules self.old).limits place) }
@@ -247,7 +247,7 @@ impl StreamPort for Shared<Desk> {
     }
 
     /// As the trait says. The calls that memory refused are among those that the root has then seen.
-    fn detach(&mut self, place: u32, pass: Pass<Desk>)
+    fn detach(&mut self, place: u32, pass: Pass<PlaceTable>)
         requires { slice_get (gates self.old.roots) place ≡ Some pass.gate }
         ensures here { told_at self.new.roots place ≡ longer (told_at self.old.roots place) (told pass.seen) }
         ensures both { Begins (told_at self.old.roots place) (told_at self.new.roots place)
@@ -266,7 +266,12 @@ impl StreamPort for Shared<Desk> {
 
     /// As the trait says. The root learns nothing by it. And by what the pass then knows of the gate: `Busy` comes exactly where its
     /// swap found the turn held.
-    fn call(&mut self, place: u32, pass: &mut Pass<Desk>, entry: Entry) -> Result<Reply, PortFail>
+    fn call(
+        &mut self,
+        place: u32,
+        pass: &mut Pass<PlaceTable>,
+        entry: Entry,
+    ) -> Result<Reply, PortFail>
         requires { slice_get (gates self.old.roots) place ≡ Some pass.old.gate }
         ensures pass { (slice_get (gates self.new.roots) place ≡ Some pass.new.gate)
             × (pass.new.gate.about.limits ≡ pass.old.gate.about.limits) × Begins (told pass.old.seen) (told pass.new.seen) }

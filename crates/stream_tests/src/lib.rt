@@ -3,7 +3,7 @@
 
 ghost use Rattle.std.specs.Prelude.{◌≡◌, ℕ, List, slice_get, Some};
 ghost use Rattle.turn_gate.specs.Known.{GateId};
-ghost use Rattle.stream_registry.specs.declared.desk.Site.{Site};
+ghost use Rattle.stream_registry.specs.declared.place_table.Site.{Site};
 ghost use Rattle.stream_registry.specs.Sites.{AreApart};
 
 #[cfg(test)]

@@ -108,7 +108,7 @@ fn until_made<P: StreamPort>(
 }
 
 /// Begins a broadcast and publishes a unit.
-fn broadcast(port: &mut Shared<Desk>, app: &[u8], begin: Call, unit: UnitArc) -> Option<()> {
+fn broadcast(port: &mut Shared<PlaceTable>, app: &[u8], begin: Call, unit: UnitArc) -> Option<()> {
     let place = port.find(app, b"one").ok()?;
     let mut pass = port.attach(place);
     until_made(port, place, &mut pass, entry(1, begin))?;
@@ -118,7 +118,7 @@ fn broadcast(port: &mut Shared<Desk>, app: &[u8], begin: Call, unit: UnitArc) ->
 }
 
 /// Joins, and takes what was published.
-fn take(port: &mut Shared<Desk>, app: &[u8], join: Call) -> Option<Reply> {
+fn take(port: &mut Shared<PlaceTable>, app: &[u8], join: Call) -> Option<Reply> {
     let place = port.find(app, b"one").ok()?;
     let mut pass = port.attach(place);
     until_made(port, place, &mut pass, entry(2, join))?;
@@ -134,7 +134,7 @@ fn take(port: &mut Shared<Desk>, app: &[u8], join: Call) -> Option<Reply> {
     )
 }
 
-fn is_sent(mut port: Shared<Desk>, join: ShortName) -> bool {
+fn is_sent(mut port: Shared<PlaceTable>, join: ShortName) -> bool {
     matches!(
         take(&mut port, b"open", Call::JoinAs(join)),
         Some(Reply::Sent {

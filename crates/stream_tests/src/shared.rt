@@ -283,16 +283,16 @@ fn counts<P: StreamPort>(port: &mut P, app: &[u8], name: &[u8]) -> Option<Reply>
 }
 
 /// The next port of a list, all of which have the same names and gates.
-fn next_port(list: &mut Vec<Shared<Desk>>) -> Option<Shared<Desk>>
+fn next_port(list: &mut Vec<Shared<PlaceTable>>) -> Option<Shared<PlaceTable>>
     ensures { (r : PortRules) → All (λ s. shared_rules s ≡ r) list.old.items
         → All (λ s. shared_rules s ≡ r) list.new.items × IfSome result (λ s. shared_rules s ≡ r) }
 {
     list.pop()
 }
 
-type TwoPorts = (Shared<Desk>, Shared<Desk>);
+type TwoPorts = (Shared<PlaceTable>, Shared<PlaceTable>);
 
-fn next_pair(list: &mut Vec<Shared<Desk>>) -> Option<TwoPorts>
+fn next_pair(list: &mut Vec<Shared<PlaceTable>>) -> Option<TwoPorts>
     ensures { IfSome result (λ p. (r : PortRules) → All (λ s. shared_rules s ≡ r) list.old.items
         → All (λ s. shared_rules s ≡ r) list.new.items × (shared_rules p.0 ≡ r) × (shared_rules p.1 ≡ r)) }
 {
@@ -321,7 +321,12 @@ fn four_ports(alloc: Global) -> Result<(TwoPorts, TwoPorts), OutOfMemory>
 }
 
 /// All calls of a thread, at a stream and at an open table.
-fn work(alloc: Global, mut port: Shared<Desk>, one: &mut Tally, two: &mut Tally) -> Shared<Desk>
+fn work(
+    alloc: Global,
+    mut port: Shared<PlaceTable>,
+    one: &mut Tally,
+    two: &mut Tally,
+) -> Shared<PlaceTable>
     ensures { shared_rules result ≡ shared_rules port }
 {
     make_all(alloc, &mut port, b"live", b"one", one);
@@ -336,7 +341,7 @@ fn two_threads<R: Threads + Sync>(
     ports: TwoPorts,
     one: &mut Tally,
     two: &mut Tally,
-) -> Shared<Desk>
+) -> Shared<PlaceTable>
     requires { shared_rules ports.1 ≡ shared_rules ports.0 }
     ensures { shared_rules result ≡ shared_rules ports.0 }
 {
@@ -382,7 +387,7 @@ fn four_threads_have_one_history_at_each_place(rt: HostRuntime) -> Result<(), Fa
 }
 
 /// Publishes through one pass, and gives the place and a pass that is cut off after that.
-fn publish(alloc: Global, port: &mut Shared<Desk>) -> Option<(u32, Pass<Desk>)>
+fn publish(alloc: Global, port: &mut Shared<PlaceTable>) -> Option<(u32, Pass<PlaceTable>)>
     ensures fits { IfSome result (λ r. slice_get (gates port.new.roots) r.0 ≡ Some r.1.gate) }
     ensures fixed { shared_rules port.new ≡ shared_rules port.old }
 {
@@ -397,7 +402,12 @@ fn publish(alloc: Global, port: &mut Shared<Desk>) -> Option<(u32, Pass<Desk>)>
 }
 
 /// Joins and takes by that pass, which had seen so many calls.
-fn is_taken(alloc: Global, port: &mut Shared<Desk>, place: u32, pass: &mut Pass<Desk>) -> bool
+fn is_taken(
+    alloc: Global,
+    port: &mut Shared<PlaceTable>,
+    place: u32,
+    pass: &mut Pass<PlaceTable>,
+) -> bool
     requires { slice_get (gates port.old.roots) place ≡ Some pass.old.gate }
 {
     let seen = pass.seen();
@@ -527,7 +537,7 @@ fn new_sole(alloc: Global) -> Result<Sole, OutOfMemory> {
 fn are_given(
     alloc: Global,
     sole: &mut Sole,
-    shared: &mut Shared<Desk>,
+    shared: &mut Shared<PlaceTable>,
     app: &[u8],
     name: &[u8],
     wanted: &[u8],

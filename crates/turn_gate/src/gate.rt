@@ -6,9 +6,9 @@ ghost use Rattle.turn_gate.specs.Known.{newcomer, with_kin, Replied, RepliedAfte
 
 use crate::machine::Machine;
 use crate::pass::Pass;
-use crate::rule::{Learn, Newcomer, Noted, Seize, Taken, Turns};
+use crate::rule::{Learn, Newcomer, Noted, Seize, TakesIn, Turns};
 use crate::serve::serve;
-use crate::view::{Kept, View};
+use crate::view::{Counted, View};
 use atomic_table::{Refused, Table};
 use std::alloc::{AllocError, Global};
 use std::error::Error;
@@ -38,7 +38,7 @@ impl<C: fmt::Debug + Drop> Error for CallFail<C> {}
 /// A machine that threads share. Each of them calls it through a pass of its own.
 #[derive(Drop)]
 pub struct Gate<T: Machine> {
-    turns: Table<Option<Kept<T>>, View<T::Call, T::Reply, T::About>, T::About, Turns<T>, Global>,
+    turns: Table<Option<Counted<T>>, View<T::Call, T::Reply, T::About>, T::About, Turns<T>, Global>,
 }
 
 // Contracts see which gate it is.
@@ -66,7 +66,7 @@ impl<T: Machine + Drop> Gate<T> {
         ensures about { IfOk result (λ r. r.0.about ≡ about.now) }
     {
         let mut slots = Vec::with_capacity(alloc, 1)?;
-        slots.push_reserved(Some(Kept { machine, calls: 0 }));
+        slots.push_reserved(Some(Counted { machine, calls: 0 }));
         match Table::new(alloc, &[0], slots, about) {
             Ok((turns, seat)) => {
                 let pass = Pass { seat, calls: 0 };
@@ -145,7 +145,7 @@ impl<T: Machine + Drop> Gate<T> {
     {
         let Pass { seat, calls } = other;
         let turns = &self.turns.shared;
-        turns.join_seat::<Taken>(&mut into.seat, seat);
+        turns.join_seat::<TakesIn>(&mut into.seat, seat);
         if into.calls < calls {
             into.calls = calls;
         }

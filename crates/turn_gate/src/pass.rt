@@ -3,14 +3,14 @@ ghost use Rattle.std.specs.Prelude.{◌≡◌, length, false};
 ghost use Rattle.turn_gate.specs.Histories.{AreOwn};
 
 use crate::machine::Machine;
-use crate::view::{Kept, View};
+use crate::view::{Counted, View};
 use atomic_table::Seat;
 use std::marker::Model;
 
 /// The right to call a gate. It has seen a beginning of the gate's history.
 #[derive(Drop)]
 pub struct Pass<T: Machine> {
-    pub(crate) seat: Seat<Option<Kept<T>>, View<T::Call, T::Reply, T::About>>,
+    pub(crate) seat: Seat<Option<Counted<T>>, View<T::Call, T::Reply, T::About>>,
     pub(crate) calls: u64,
 }
 

@@ -4,7 +4,7 @@ ghost use Rattle.turn_gate.specs.TurnTable.{TurnRule, opener, newcomer, cutting,
 ghost use Rattle.turn_gate.specs.InSlot.{InSlot};
 
 use crate::machine::Machine;
-use crate::view::{Kept, View};
+use crate::view::{Counted, View};
 use atomic_table::{Join, Play, Split, TableRule};
 use std::marker::{Brand, PhantomData};
 
@@ -13,7 +13,7 @@ pub struct Turns<T> {
     marker: PhantomData<T>,
 }
 
-impl<T: Machine> TableRule<Option<Kept<T>>, View<T::Call, T::Reply, T::About>, T::About>
+impl<T: Machine> TableRule<Option<Counted<T>>, View<T::Call, T::Reply, T::About>, T::About>
     for Turns<T> {
     ghost holds = { λ key. TurnRule (InSlot T.stands T.about) key };
 
@@ -25,7 +25,7 @@ pub struct Seize<T> {
     marker: PhantomData<T>,
 }
 
-impl<T: Machine> Play<Option<Kept<T>>, View<T::Call, T::Reply, T::About>> for Seize<T> {
+impl<T: Machine> Play<Option<Counted<T>>, View<T::Call, T::Reply, T::About>> for Seize<T> {
     ghost then = { λ _ m r n. Seizes (InSlot T.stands T.about) m r n };
 }
 
@@ -64,9 +64,9 @@ impl<C, R, A> Split<View<C, R, A>> for Newcomer {
 }
 
 /// A pass takes in another.
-pub struct Taken;
+pub struct TakesIn;
 
-impl<C, R, A> Join<View<C, R, A>> for Taken {
+impl<C, R, A> Join<View<C, R, A>> for TakesIn {
     ghost both = { taking };
 
     ghost spent = { spent };

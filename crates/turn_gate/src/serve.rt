@@ -7,14 +7,14 @@ ghost use Rattle.turn_gate.specs.Serving.{ServingAt, Gave, Served};
 use crate::gate::CallFail;
 use crate::machine::Machine;
 use crate::rule::{Free, Nothing, Said, Turns};
-use crate::view::{Kept, View};
+use crate::view::{Counted, View};
 use atomic_table::{Seat, Shared};
 use std::marker::Brand;
 use std::snapshot::Snapshot;
 
-pub(crate) type TurnTable<T, C, R, A> = Shared<Option<Kept<T>>, View<C, R, A>, A, Turns<T>>;
+pub(crate) type TurnTable<T, C, R, A> = Shared<Option<Counted<T>>, View<C, R, A>, A, Turns<T>>;
 
-pub(crate) type TurnSeat<T, C, R, A> = Seat<Option<Kept<T>>, View<C, R, A>>;
+pub(crate) type TurnSeat<T, C, R, A> = Seat<Option<Counted<T>>, View<C, R, A>>;
 
 /// The count of a full history.
 const FULL: u64 = 1 << 62;

@@ -26,7 +26,7 @@ pub struct View<C, R, A> {
 
 /// The machine, and the number of calls in its history.
 #[derive(Drop)]
-pub struct Kept<T> {
+pub struct Counted<T> {
     pub machine: T,
     pub calls: u64,
 }

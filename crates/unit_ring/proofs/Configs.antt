@@ -15,7 +15,7 @@ use Rattle.stream_model.specs.Slots.{slot_kind}
 use Rattle.stream_model.specs.Window.{base, newest_key, key_from}
 use Rattle.stream_model.specs.Held.{config_body, config_sum}
 use Rattle.stream_law.proofs.Effect.{in_effect, config_earlier}
-use Rattle.unit_ring.specs.declared.kept.Kept.{Kept}
+use Rattle.unit_ring.specs.declared.kept.NumberedConfig.{NumberedConfig}
 use Rattle.unit_ring.specs.declared.kept.KeptConfigs.{KeptConfigs}
 use Rattle.unit_ring.specs.declared.window.Window.{Window}
 use Rattle.unit_ring.specs.declared.newest.Newest.{Newest}
@@ -37,11 +37,11 @@ slot_kept slot.Audio items n k are = are.audio
 pub config_within : (kind : Kind) (items : List Item) (n m : ℕ) → config_at kind items n ≡ Some m → m < n
 config_within kind items n m e = (in_effect kind items n m e).before
 
-number_is : (kind : Kind) (items : List Item) (base m : ℕ) (kept : Kept) → IsKept kind items base (Some kept) → config_at kind items base ≡ Some m → kept.number ≡ m
+number_is : (kind : Kind) (items : List Item) (base m : ℕ) (kept : NumberedConfig) → IsKept kind items base (Some kept) → config_at kind items base ≡ Some m → kept.number ≡ m
 number_is kind items base m kept k e = let f = k.0 in cc
 
 -- what was in effect before the base, and is in effect behind it, is kept
-pub kept_number : (s : Slot) (items : List Item) (base n m : ℕ) (k : KeptConfigs) (kept : Kept) → AreKept items base k → config_at (slot_kind s) items n ≡ Some m → base ≤ n → m < base →
+pub kept_number : (s : Slot) (items : List Item) (base n m : ℕ) (k : KeptConfigs) (kept : NumberedConfig) → AreKept items base k → config_at (slot_kind s) items n ≡ Some m → base ≤ n → m < base →
     kept_of s k ≡ Some kept → kept.number ≡ m
 kept_number s items base n m k kept are e le lt is =
     number_is (slot_kind s) items base m kept (rw is at (slot_kept s items base k are)) (config_earlier (slot_kind s) items n base m e le lt)
@@ -67,7 +67,7 @@ pub newest_is : (limits : StreamLimits) (w : Window) (s : Newest) → IsWindow l
     newest_key limits w.items ≡ (if s.live then key_from w.base s.key else None)
 newest_is limits w s is least newest = rw (newest.live, newest.key, base_is limits w is least) refl
 
-kept_config : (kind : Kind) (items : List Item) (n : ℕ) (o : Option Kept) → IsKept kind items n o → config_body kind items n ≡ kept_body o
+kept_config : (kind : Kind) (items : List Item) (n : ℕ) (o : Option NumberedConfig) → IsKept kind items n o → config_body kind items n ≡ kept_body o
 kept_config kind items n None k = rw k refl
 kept_config kind items n (Some kept) k = rw (k.0, k.1) refl
 

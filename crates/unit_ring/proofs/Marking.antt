@@ -13,7 +13,7 @@ use Rattle.stream_model.specs.Slots.{is_video}
 use Rattle.stream_model.proofs.Places.{slice_get-append}
 use Rattle.stream_model.proofs.Pushes.{last_of-push, last_where-push, is_live-push, config_at-append, config_at-end}
 use Rattle.unit_ring.specs.declared.newest.Newest.{Newest}
-use Rattle.unit_ring.specs.declared.kept.Kept.{Kept}
+use Rattle.unit_ring.specs.declared.kept.NumberedConfig.{NumberedConfig}
 use Rattle.unit_ring.specs.declared.kept.KeptConfigs.{KeptConfigs}
 use Rattle.unit_ring.specs.Marks.{marks_at, last_after, marks_after, newest_after, IsNewest}
 use Rattle.unit_ring.specs.Kept.{IsKept, AreKept, kept_next, kept_after, AreSmall}
@@ -55,17 +55,17 @@ pub marks_grown : (xs more : List Item) (n : ℕ) → n ≤ length xs → marks_
 marks_grown xs more n le = rw (config_at-append Meta xs more n le, config_at-append VConfig xs more n le, config_at-append AConfig xs more n le) refl
 
 -- what is kept of a kind, past one item
-unit_kept : (b : Bool) (kind : Kind) (items : List Item) (n : ℕ) (u : UnitArc) (o : Option Kept) → slice_get items n ≡ Some (item.Unit u) → has_kind kind (item.Unit u) ≡ b → IsKept kind items n o →
+unit_kept : (b : Bool) (kind : Kind) (items : List Item) (n : ℕ) (u : UnitArc) (o : Option NumberedConfig) → slice_get items n ≡ Some (item.Unit u) → has_kind kind (item.Unit u) ≡ b → IsKept kind items n o →
     IsKept kind items (n + 1) (if b then Some (record { number = n; unit = u }) else o)
 unit_kept true kind items n u o is e k = (config_next kind items n (item.Unit u) is ∙ rw e refl, is)
 unit_kept false kind items n u None is e k = config_next kind items n (item.Unit u) is ∙ rw e k
 unit_kept false kind items n u (Some kept) is e k = (config_next kind items n (item.Unit u) is ∙ rw e k.0, k.1)
 
-end_kept : (kind : Kind) (items : List Item) (n : ℕ) (o : Option Kept) → slice_get items n ≡ Some item.End → IsKept kind items n o → IsKept kind items (n + 1) o
+end_kept : (kind : Kind) (items : List Item) (n : ℕ) (o : Option NumberedConfig) → slice_get items n ≡ Some item.End → IsKept kind items n o → IsKept kind items (n + 1) o
 end_kept kind items n None is k = config_next kind items n item.End is ∙ k
 end_kept kind items n (Some kept) is k = (config_next kind items n item.End is ∙ k.0, k.1)
 
-kind_kept : (kind : Kind) (items : List Item) (n : ℕ) (x : Item) (o : Option Kept) → slice_get items n ≡ Some x → IsKept kind items n o → IsKept kind items (n + 1) (kept_next kind n x o)
+kind_kept : (kind : Kind) (items : List Item) (n : ℕ) (x : Item) (o : Option NumberedConfig) → slice_get items n ≡ Some x → IsKept kind items n o → IsKept kind items (n + 1) (kept_next kind n x o)
 kind_kept kind items n item.Begin o is k = config_next kind items n item.Begin is
 kind_kept kind items n (item.Unit u) o is k = unit_kept (has_kind kind (item.Unit u)) kind items n u o is refl k
 kind_kept kind items n item.End o is k = end_kept kind items n o is k
@@ -78,7 +78,7 @@ kept_passed items n x k is are small = record {
   small = small;
 }
 
-one_grown : (kind : Kind) (xs more : List Item) (n : ℕ) (o : Option Kept) → n ≤ length xs → IsKept kind xs n o → IsKept kind (xs ++ more) n o
+one_grown : (kind : Kind) (xs more : List Item) (n : ℕ) (o : Option NumberedConfig) → n ≤ length xs → IsKept kind xs n o → IsKept kind (xs ++ more) n o
 one_grown kind xs more n None le k = config_at-append kind xs more n le ∙ k
 one_grown kind xs more n (Some kept) le k = (config_at-append kind xs more n le ∙ k.0, slice_get-append xs more kept.number (slice_get_within xs kept.number (item.Unit kept.unit) k.1) ∙ k.1)
 

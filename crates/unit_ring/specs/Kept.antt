@@ -10,19 +10,19 @@ use Rattle.av_unit.specs.declared.unit.Kind.TheVariants.{Meta, VConfig, AConfig}
 use Rattle.av_unit.specs.declared.head.Slot.{Slot}
 use Rattle.av_unit.specs.declared.head.Slot.TheVariants as slot
 use Rattle.stream_model.specs.Items.{config_at, has_kind}
-use Rattle.unit_ring.specs.declared.kept.Kept.{Kept}
+use Rattle.unit_ring.specs.declared.kept.NumberedConfig.{NumberedConfig}
 use Rattle.unit_ring.specs.declared.kept.KeptConfigs.{KeptConfigs}
 
 abbrev pub none_kept : KeptConfigs
 none_kept = record { meta = None; video = None; audio = None }
 
-abbrev pub kept_of : Slot → KeptConfigs → Option Kept
+abbrev pub kept_of : Slot → KeptConfigs → Option NumberedConfig
 kept_of slot.Meta k = k.meta
 kept_of slot.Video k = k.video
 kept_of slot.Audio k = k.audio
 
 -- the kept configuration of a kind after item n
-abbrev pub kept_next : Kind → ℕ → Item → Option Kept → Option Kept
+abbrev pub kept_next : Kind → ℕ → Item → Option NumberedConfig → Option NumberedConfig
 kept_next kind n item.Begin before = None
 kept_next kind n (item.Unit u) before = if has_kind kind (item.Unit u) then Some (record { number = n; unit = u }) else before
 kept_next kind n item.End before = before
@@ -30,7 +30,7 @@ kept_next kind n item.End before = before
 abbrev pub kept_after : ℕ → Item → KeptConfigs → KeptConfigs
 kept_after n x k = record { meta = kept_next Meta n x k.meta; video = kept_next VConfig n x k.video; audio = kept_next AConfig n x k.audio }
 
-abbrev pub kept_body : Option Kept → ℕ
+abbrev pub kept_body : Option NumberedConfig → ℕ
 kept_body None = 0
 kept_body (Some k) = length k.unit.body
 
@@ -44,7 +44,7 @@ pub record AreSmall (k : KeptConfigs) : Type 0 where
   pub audio : kept_body k.audio ≤ 65536
 
 -- the configuration of that kind in effect at n, with its item
-abbrev pub IsKept : Kind → List Item → ℕ → Option Kept → Type 0
+abbrev pub IsKept : Kind → List Item → ℕ → Option NumberedConfig → Type 0
 IsKept kind items n None = config_at kind items n ≡ None
 IsKept kind items n (Some k) = (config_at kind items n ≡ Some k.number) × (slice_get items k.number ≡ Some (item.Unit k.unit))
 

@@ -6,7 +6,7 @@ use av_unit::{Item, Kind, Slot, UnitArc};
 
 /// A configuration with its number.
 #[derive(Drop)]
-pub struct Kept {
+pub struct NumberedConfig {
     pub number: u64,
     pub unit: UnitArc,
 }
@@ -14,9 +14,9 @@ pub struct Kept {
 /// The configurations in effect at the base.
 #[derive(Drop)]
 pub struct KeptConfigs {
-    pub meta: Option<Kept>,
-    pub video: Option<Kept>,
-    pub audio: Option<Kept>,
+    pub meta: Option<NumberedConfig>,
+    pub video: Option<NumberedConfig>,
+    pub audio: Option<NumberedConfig>,
 }
 
 impl KeptConfigs {
@@ -30,7 +30,7 @@ impl KeptConfigs {
         }
     }
 
-    pub fn of(&self, slot: Slot) -> Option<&Kept>
+    pub fn of(&self, slot: Slot) -> Option<&NumberedConfig>
         ensures { option_map (λ k. k.now) result ≡ kept_of slot self.now }
     {
         match slot {
@@ -57,9 +57,9 @@ impl KeptConfigs {
         ensures small { AreSmall self.old → AreSmall self.new }
     {
         match unit.unit().kind {
-            Kind::Meta => self.meta = Some(Kept { number, unit }),
-            Kind::VConfig => self.video = Some(Kept { number, unit }),
-            Kind::AConfig => self.audio = Some(Kept { number, unit }),
+            Kind::Meta => self.meta = Some(NumberedConfig { number, unit }),
+            Kind::VConfig => self.video = Some(NumberedConfig { number, unit }),
+            Kind::AConfig => self.audio = Some(NumberedConfig { number, unit }),
             Kind::Key | Kind::Inter | Kind::Spare | Kind::Audio | Kind::Data => {}
         }
     }
@@ -73,7 +73,7 @@ impl KeptConfigs {
     }
 }
 
-fn bytes_of(kept: &Option<Kept>) -> u64
+fn bytes_of(kept: &Option<NumberedConfig>) -> u64
     ensures body { result ≡ kept_body kept.now }
     ensures most { result ≤ 4194304 }
 {

@@ -1,5 +1,5 @@
 use Rattle.std.proofs.Common.{◌∙◌, ◌-◌, min, length, ap, refl}
-use Rattle.chunk_wire.specs.declared.kept.Kept.{Kept}
+use Rattle.chunk_wire.specs.declared.kept.ChunkStream.{ChunkStream}
 use Rattle.chunk_reader.specs.Core.{the_state}
 use Rattle.chunk_reader.proofs.Places.{put_place, opened_is}
 use Rattle.chunk_reader.proofs.open.open.Goals as goal
@@ -15,7 +15,7 @@ returns-clause-opened c =
       size = refl;
       head = ap length c.clear.ensures.items;
       place = place;
-      need = c.payload-core.ensures ∙ ap (λ (x : Kept). min c.args.core.now.size (x.terms.length - length x.part)) slot;
+      need = c.payload-core.ensures ∙ ap (λ (x : ChunkStream). min c.args.core.now.size (x.terms.length - length x.part)) slot;
       counted = c.in_ok-core.ensures.counted;
       max_is = refl;
     }

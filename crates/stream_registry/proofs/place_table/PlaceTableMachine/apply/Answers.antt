@@ -4,7 +4,7 @@ use Rattle.stream_core.specs.Table.{known}
 use Rattle.stream_registry.specs.Pasts.{past_of}
 use Rattle.stream_registry.proofs.Counted.{few_answered}
 use Rattle.stream_registry.proofs.Wanting.{desk_more, known_same}
-use Rattle.stream_registry.proofs.desk.DeskMachine.apply.Goals as goal
+use Rattle.stream_registry.proofs.place_table.PlaceTableMachine.apply.Goals as goal
 
 pub apply-requires : goal.apply-requires
 apply-requires c =

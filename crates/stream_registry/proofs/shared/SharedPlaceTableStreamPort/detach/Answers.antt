@@ -3,10 +3,10 @@ use Rattle.turn_gate.specs.Histories.{Begins, longer}
 use Rattle.stream_registry.specs.Pasts.{Attempt}
 use Rattle.stream_registry.specs.Roots.{Root, Grown, seen_at}
 use Rattle.stream_registry.specs.SharedState.{Streams}
-use Rattle.stream_registry.specs.declared.desk.Site.{Site}
+use Rattle.stream_registry.specs.declared.place_table.Site.{Site}
 use Rattle.stream_registry.specs.Gates.{told}
 use Rattle.stream_registry.proofs.Tells.{begins_told, told_longer}
-use Rattle.stream_registry.proofs.shared.SharedDeskStreamPort.detach.Goals as goal
+use Rattle.stream_registry.proofs.shared.SharedPlaceTableStreamPort.detach.Goals as goal
 
 pub returns-clause-here : goal.returns-clause-here
 returns-clause-here c =

@@ -1,7 +1,7 @@
 use Rattle.std.proofs.Common.{rules, ◌≡◌, Some, Ok, refl, sym, ap, ◌∙◌, subst}
 use Rattle.stream_model.specs.declared.calls.Shape.{Shape}
 use Rattle.turn_gate.specs.Known.{IsWorn, RepliedAfter}
-use Rattle.stream_registry.specs.declared.desk.Site.{Site}
+use Rattle.stream_registry.specs.declared.place_table.Site.{Site}
 use Rattle.turn_gate.specs.Known.{GateId}
 use Rattle.stream_registry.specs.Pasts.{IsLawfulAt}
 use Rattle.stream_registry.specs.Roots.{gates, seen_at}
@@ -11,7 +11,7 @@ use Rattle.stream_registry.specs.Gates.{told}
 use Rattle.stream_registry.proofs.Placing.{placed, keeps, room, unmade, refused, refused_memory, same_own, passes, kept, worn}
 use Rattle.stream_registry.proofs.Wanting.{take_numbers, take_back}
 use Rattle.std.specs.Option.{IsSome}
-use Rattle.stream_registry.proofs.shared.SharedDeskStreamPort.call.Goals as goal
+use Rattle.stream_registry.proofs.shared.SharedPlaceTableStreamPort.call.Goals as goal
 
 pub returns-in-Ok-Ok-clause-pass : goal.returns-in-Ok-Ok-clause-pass
 returns-in-Ok-Ok-clause-pass c = passes (gates c.args.self.now.roots) (gates c.call.new.self) c.args.place c.args.pass.now c.call.new.pass (c.call.ensures.port.gates ∙ ap (λ (x : Streams). gates x.roots) c.self.view_is) c.requires c.call.ensures.pass

@@ -1,12 +1,12 @@
 use Rattle.std.proofs.Common.{◌∙◌, List, ap, sym, subst}
-use Rattle.stream_registry.specs.declared.desk.Site.{Site}
+use Rattle.stream_registry.specs.declared.place_table.Site.{Site}
 use Rattle.stream_registry.specs.Pasts.{Attempt}
 use Rattle.stream_registry.specs.Names.{PortRules}
 use Rattle.stream_registry.specs.Roots.{Root, Grown, gates, kin_at}
 use Rattle.stream_registry.specs.Splits.{TakesAll}
 use Rattle.stream_registry.specs.SharedState.{Streams}
 use Rattle.stream_registry.proofs.Placing.{later_told}
-use Rattle.stream_registry.proofs.shared.Shared+Desk.gather.Goals as goal
+use Rattle.stream_registry.proofs.shared.Shared+PlaceTable.gather.Goals as goal
 
 pub gather-requires : goal.gather-requires
 gather-requires c =

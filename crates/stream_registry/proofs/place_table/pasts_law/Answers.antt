@@ -1,6 +1,6 @@
 use Rattle.stream_registry.proofs.Counted.{few_answered}
 use Rattle.stream_registry.proofs.Tells.{past_more, past_goes_on}
-use Rattle.stream_registry.proofs.desk.pasts_law.Goals as goal
+use Rattle.stream_registry.proofs.place_table.pasts_law.Goals as goal
 
 pub returns-clause-length : goal.returns-clause-length
 returns-clause-length c = few_answered

@@ -1,13 +1,13 @@
 use Rattle.std.proofs.Common.{rules, refl, ◌≡◌, ◌∙◌, length}
 use Rattle.std.proofs.lemmas.List.{length-map}
-use Rattle.stream_registry.specs.declared.desk.Site.{Site}
+use Rattle.stream_registry.specs.declared.place_table.Site.{Site}
 use Rattle.stream_registry.specs.Pasts.{Attempt}
 use Rattle.stream_registry.specs.Names.{shapes_of}
 use Rattle.stream_registry.specs.Roots.{Root}
 use Rattle.stream_registry.specs.Sites.{AreNewRoots}
 use Rattle.stream_registry.proofs.Placing.{sites_all, seen_all}
 use Rattle.stream_registry.proofs.Shaping.{shapes_length}
-use Rattle.stream_registry.proofs.shared.Shared+Desk.new.Goals as goal
+use Rattle.stream_registry.proofs.shared.Shared+PlaceTable.new.Goals as goal
 
 pub returns-clause-new : goal.returns-clause-new
 returns-clause-new c =

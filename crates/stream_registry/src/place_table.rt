@@ -24,12 +24,12 @@ pub struct Site {
 
 /// The stream or the pool at a place, as the machine of a gate.
 #[derive(Drop)]
-pub struct Desk {
+pub struct PlaceTable {
     pub place: u32,
     pub table: Table,
 }
 
-impl Machine for Desk {
+impl Machine for PlaceTable {
     type Call = Entry;
 
     type Reply = Result<Reply, OutOfMemory>;
