@@ -60,7 +60,7 @@ pub goes_on : (f g : Film) (t : Option Tag) → IsReadOn f g t → (is_some t �
 goes_on f g None r w = tt
 goes_on f g (Some t) r w = (r.reading, w refl t refl)
 
-stopped : (f : Film) (g : Known) (e : FlvFail) (at : ℕ) → IsReading f → IsRefused f.reader f.ahead e g → at ≡ Rattle.file_commands.specs.Remux.place_of e → TagsStop (f.reader.fed ++ f.ahead) (length g.fed) g.given e → IsStopped (came_of f) at f.reader.given
+stopped : (f : Film) (g : Known) (e : FlvFail) (at : ℕ) → IsReading f → IsRefused f.reader f.ahead e g → at ≡ Rattle.file_commands.specs.Remux.offset_of e → TagsStop (f.reader.fed ++ f.ahead) (length g.fed) g.given e → IsStopped (came_of f) at f.reader.given
 stopped f g e at r i place s = record {
   front = came_of f;
   behind = [];
@@ -92,7 +92,7 @@ feed_stops f g flv.OutOfMemory r i = tt
 
 -- ---- it may not end here
 
-cut : (f : Film) (e : FlvFail) (at : ℕ) → IsReading f → f.reader.failed ≡ None → at ≡ Rattle.file_commands.specs.Remux.place_of e → Ends f.reader.fed f.reader.given e → IsCutOff f.reader.fed at f.reader.given
+cut : (f : Film) (e : FlvFail) (at : ℕ) → IsReading f → f.reader.failed ≡ None → at ≡ Rattle.file_commands.specs.Remux.offset_of e → Ends f.reader.fed f.reader.given e → IsCutOff f.reader.fed at f.reader.given
 cut f e at r l place s = record { within = omega (arith, r.came_is, r.near); cause = e; ends = s; place = place }
 
 pub end_stops : (f : Film) (e : FlvFail) → IsReading f → Ends f.reader.fed f.reader.given e → EndsAs (Err (stop_of e)) f

@@ -13,7 +13,7 @@ use Rattle.rtmp_client.specs.declared.core_fields.Core.{Core}
 use Rattle.rtmp_client.specs.declared.end.ClientEnd.{ClientEnd}
 use Rattle.rtmp_client.specs.declared.end.ClientEnd.TheVariants as end
 use Rattle.rtmp_client.specs.declared.end.ClientTurn.TheVariants.{Ended as TurnEnded}
-use Rattle.file_commands.specs.Written.{WritesPart}
+use Rattle.put_text.specs.Written.{WritesPart}
 use Rattle.client_command.specs.Closing.{IsRefusal, Tells, client_how, how_by, how_of}
 use Rattle.client_command.specs.Ends.{How, Whole, ByClient, BySink, ByMemory}
 use Rattle.client_command.specs.Gifts.{IsOn, pull_text}

@@ -5,7 +5,7 @@ use Rattle.std.specs.Io.KnownBytes.{append_known}
 use Rattle.std.proofs.lemmas.List.Concat.{flat_map-append}
 use Rattle.flv_tags.specs.declared.tag.Tag.{Tag}
 use Rattle.flv_tags.specs.Written.{header, tag_bytes}
-use Rattle.file_commands.specs.Written.{WritesPart}
+use Rattle.put_text.specs.Written.{WritesPart}
 use Rattle.client_owed.specs.declared.types.Gift.{Gift}
 use Rattle.client_owed.specs.declared.types.Gift.TheVariants as gift
 use Rattle.client_command.specs.Gifts.{pull_text, tags_in}

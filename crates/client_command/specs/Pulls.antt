@@ -7,7 +7,7 @@ use Rattle.chunk_wire.specs.declared.message.Message.{Message}
 use Rattle.client_owed.specs.declared.types.Asked.{Asked}
 use Rattle.client_owed.specs.declared.types.Gift.{Gift}
 use Rattle.client_owed.specs.declared.types.Gift.TheVariants.{Unpublished}
-use Rattle.file_commands.specs.Written.{WritesPart}
+use Rattle.put_text.specs.Written.{WritesPart}
 use Rattle.client_command.specs.Ends.{How, Whole, ByClient, ByFilm, BySource, BySink, ByMemory, refusal_of, status_of}
 use Rattle.client_command.specs.Gifts.{IsOn, pull_text}
 use Rattle.client_command.specs.Runs.{Causes, HasRun}

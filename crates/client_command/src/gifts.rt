@@ -3,7 +3,7 @@ ghost use Rattle.std.specs.Prelude.{◌≡◌, ◌++◌, ◌∷◌, [], ℕ, Lis
 ghost use Rattle.std.specs.declared.option.Option.{Option};
 ghost use Rattle.std.specs.Io.KnownBytes.{append_known};
 ghost use Rattle.client_owed.specs.declared.types.Gift.{Gift};
-ghost use Rattle.file_commands.specs.Written.{WritesPart};
+ghost use Rattle.put_text.specs.Written.{WritesPart};
 ghost use Rattle.client_command.specs.Gifts.{pull_text};
 ghost use Rattle.client_command.specs.Telling.{IsFine, gift_head, gift_text, has_some, is_last};
 ghost use Rattle.client_command.specs.Turned.{PutCause};

@@ -4,10 +4,11 @@ use Rattle.std.specs.Io.KnownBytes.{prepend_known, IsAtEnd}
 use Rattle.relay_outside.specs.Counts.{Rose}
 use Rattle.file_commands.specs.declared.fail.Fail.{Fail}
 use Rattle.file_commands.specs.declared.fail.Fail.TheVariants.{Refused, SourceFault, SinkFault, OutOfMemory}
-use Rattle.file_commands.specs.Written.{Writes}
+use Rattle.put_text.specs.Written.{Writes}
 use Rattle.file_commands.specs.Outcome.{WritesAll, most_bytes, most_pending}
 use Rattle.file_commands.specs.Parts.{TakeFails, EndFails, WasRead, IsRead, IsRefusedThere, FileFails, Closes, PutEnds, Settles, SettlesFaults, SinkCause, SinkFaults, SourceFaults}
-use Rattle.file_commands.proofs.Writing.{prepend_known_twice, prepend_known_nil, no_part_written, write_part_then, write_rest, wrote_all}
+use Rattle.put_text.proofs.Writing.{no_part_written, write_part_then, write_rest, wrote_all}
+use Rattle.file_commands.proofs.Writing.{prepend_known_twice, prepend_known_nil}
 use Rattle.file_commands.proofs.Pieces.{given_all}
 
 -- more bytes were read

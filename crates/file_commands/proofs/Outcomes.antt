@@ -7,7 +7,8 @@ use Rattle.file_commands.specs.declared.fail.Fail.TheVariants.{Refused, SourceFa
 use Rattle.file_commands.specs.Outcome.{IsReadTo, IsTooLong, Outcome, Refused as IsRefused, Seen, StopsIn, WritesAll, WritesOf, WritesOfRead}
 use Rattle.file_commands.specs.Parts.{Closes, IsRead, IsRefusedThere, SinkFaults, SourceFaults, WasRead, WasTold, status_of, whole_status}
 use Rattle.file_commands.specs.Remux.{IsWholeCode}
-use Rattle.file_commands.proofs.Writing.{no_part_written, prepend_known_nil}
+use Rattle.put_text.proofs.Writing.{no_part_written}
+use Rattle.file_commands.proofs.Writing.{prepend_known_nil}
 use Rattle.file_commands.proofs.Pieces.{given_all}
 
 two_cases : (b : Bool) → b ≡ false → b ≡ true → ⊥

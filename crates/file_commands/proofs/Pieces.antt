@@ -4,10 +4,10 @@ use Rattle.std.proofs.lemmas.List.{take-append-drop, append-nil, take_all, lengt
 use Rattle.std.specs.Io.KnownBytes.{append_known}
 use Rattle.file_commands.specs.declared.fail.Fail.{Fail}
 use Rattle.file_commands.specs.declared.fail.Fail.TheVariants.{Refused, SourceFault, SinkFault, OutOfMemory}
-use Rattle.file_commands.specs.Written.{Writes}
+use Rattle.put_text.specs.Written.{Writes}
 use Rattle.file_commands.specs.Outcome.{GivenBy, WritesAll, most_bytes}
 use Rattle.file_commands.specs.Parts.{Steps, StepFails, Finishes, PutFails, PieceFails, TakeFails, EndFails}
-use Rattle.file_commands.proofs.Writing.{write_part_then, write_rest, write_more}
+use Rattle.put_text.proofs.Writing.{write_part_then, write_rest, write_more}
 
 pub given_all : (Gives : List ℕ → List ℕ → Type 0) (read text : List ℕ) → Gives read text → GivenBy Gives read text
 given_all Gives read text h = record { front = read; behind = []; parts = sym (append-nil read); gives = h }

@@ -32,13 +32,13 @@ abbrev pub check_text : List TsUnit → List ℕ
 check_text units = lines_of units ++ count_line (length units)
 
 -- the place of a refusal
-abbrev pub place_of : TsFail → ℕ
-place_of (NoSync at) = at
-place_of (BadTable at) = at
-place_of (BadCounter at kept found) = at
-place_of (BadPes at) = at
-place_of (BadUnit at) = at
-place_of OutOfMemory = 0
+abbrev pub offset_of : TsFail → ℕ
+offset_of (NoSync at) = at
+offset_of (BadTable at) = at
+offset_of (BadCounter at kept found) = at
+offset_of (BadPes at) = at
+offset_of (BadUnit at) = at
+offset_of OutOfMemory = 0
 
 -- the lines of the units that bytes give, whatever follows
 pub record CheckGives (bytes text : List ℕ) : Type 0 where
@@ -54,7 +54,7 @@ pub record CheckStops (bytes : List ℕ) (at : ℕ) (text : List ℕ) : Type 0 w
   pub count : ℕ
   pub cause : TsFail
   pub stops : Stops bytes count units cause
-  pub place : at ≡ place_of cause
+  pub place : at ≡ offset_of cause
   pub text_is : text ≡ lines_of units
 
 -- why bytes are refused that end here
@@ -62,7 +62,7 @@ pub record CheckCut (bytes : List ℕ) (at : ℕ) (text : List ℕ) : Type 0 whe
   pub units : List TsUnit
   pub cause : TsFail
   pub fails : EndFails bytes units cause
-  pub place : at ≡ place_of cause
+  pub place : at ≡ offset_of cause
   pub text_is : text ≡ lines_of units
 
 -- what is printed of a whole stream, of which nothing is left out

@@ -1,4 +1,3 @@
-pub mod Written
 pub mod Outcome
 pub mod Words
 pub mod LeftOut

@@ -4,7 +4,7 @@ use Rattle.std.specs.declared.option.Option.{Option}
 use Rattle.std.specs.Io.KnownBytes.{append_known, IsAtEnd}
 use Rattle.relay_base.specs.declared.limits.Status.{Status}
 use Rattle.relay_outside.specs.Counts.{Rose}
-use Rattle.file_commands.specs.Written.{WritesNearly, WritesPart}
+use Rattle.put_text.specs.Written.{WritesNearly, WritesPart}
 
 -- how many bytes of a file are read at most; a byte behind them is refused
 abbrev pub most_bytes : ℕ

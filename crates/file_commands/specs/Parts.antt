@@ -7,7 +7,7 @@ use Rattle.relay_base.specs.declared.limits.Status.{Status}
 use Rattle.relay_outside.specs.Counts.{Rose}
 use Rattle.file_commands.specs.declared.fail.Fail.{Fail}
 use Rattle.file_commands.specs.declared.fail.Fail.TheVariants.{Refused, SourceFault, SinkFault, OutOfMemory}
-use Rattle.file_commands.specs.Written.{Writes, WritesPart}
+use Rattle.put_text.specs.Written.{Writes, WritesPart}
 use Rattle.file_commands.specs.Outcome.{GivenBy, IsCut, IsTooLong, StopsIn, WritesAll, WritesOf, WritesOfFront, WritesOfRead}
 
 -- ---- one step

@@ -47,11 +47,11 @@ abbrev pub some_enhanced : List Tag → Bool
 some_enhanced tags = list_any is_enhanced tags
 
 -- the place of a refusal
-abbrev pub place_of : FlvFail → ℕ
-place_of (BadHeader at) = at
-place_of (BadTag at) = at
-place_of (BadBack at stored real) = at
-place_of OutOfMemory = 0
+abbrev pub offset_of : FlvFail → ℕ
+offset_of (BadHeader at) = at
+offset_of (BadTag at) = at
+offset_of (BadBack at stored real) = at
+offset_of OutOfMemory = 0
 
 -- the text of bytes that read as tags, whatever follows
 pub record RemuxGives (bytes text : List ℕ) : Type 0 where
@@ -66,7 +66,7 @@ pub record RemuxStops (bytes : List ℕ) (at : ℕ) (text : List ℕ) : Type 0 w
   pub count : ℕ
   pub cause : FlvFail
   pub stops : Stops bytes count tags cause
-  pub place : at ≡ place_of cause
+  pub place : at ≡ offset_of cause
   pub text_is : text ≡ remux_text tags
 
 -- why bytes aren't a whole file, though they read as tags
@@ -74,7 +74,7 @@ pub record RemuxCut (bytes : List ℕ) (at : ℕ) (text : List ℕ) : Type 0 whe
   pub tags : List Tag
   pub cause : FlvFail
   pub ends : Ends bytes tags cause
-  pub place : at ≡ place_of cause
+  pub place : at ≡ offset_of cause
   pub text_is : text ≡ remux_text tags
 
 -- what a whole file becomes, and whether a unit is left out

@@ -3,7 +3,8 @@ ghost use Rattle.std.specs.Io.KnownBytes.{append_known};
 ghost use Rattle.file_commands.specs.Parts.{PutFails, SinkCause};
 
 use crate::fail::Fail;
-use relay_outside::{Put, Sink};
+use put_text::PutFail;
+use relay_outside::Sink;
 
 /// Puts all of the text.
 pub(crate) fn put_all<K: Sink>(out: &mut K, text: &[u8]) -> Result<(), Fail>
@@ -11,13 +12,9 @@ pub(crate) fn put_all<K: Sink>(out: &mut K, text: &[u8]) -> Result<(), Fail>
         (λ fail. PutFails fail text.now (K.holds out.old) (K.holds out.new)) }
     ensures faults { MatchResult result (λ _. K.faults out.new ≡ K.faults out.old) (λ fail. SinkCause fail (K.faults out.old) (K.faults out.new)) }
 {
-    let mut left = text;
-    while !left.is_empty() {
-        match out.put(left) {
-            Put::Took(count) => left = &left[count..],
-            Put::Failed => return Err(Fail::SinkFault),
-            Put::OutOfMemory => return Err(Fail::OutOfMemory),
-        }
+    match put_text::put_all(out, text) {
+        Ok(()) => Ok(()),
+        Err(PutFail::SinkFault) => Err(Fail::SinkFault),
+        Err(PutFail::OutOfMemory) => Err(Fail::OutOfMemory),
     }
-    Ok(())
 }

@@ -1,6 +1,6 @@
 //! Reading a file to its end.
 ghost use Rattle.std.specs.Prelude.{◌≡◌, ◌≤◌, ◌<◌, ◌+◌, ◌^◌, ◌++◌, ℕ, List, [], length, Option, Some, MatchResult, OnOk, true};
-ghost use Rattle.file_commands.specs.Written.{Writes};
+ghost use Rattle.put_text.specs.Written.{Writes};
 ghost use Rattle.file_commands.specs.Outcome.{Outcome, WritesAll, most_pending, seen};
 ghost use Rattle.file_commands.specs.Remux.{IsWholeCode};
 ghost use Rattle.file_commands.specs.Parts.{PutFails, PieceFails, TakeFails, EndFails, IsRead, FileFails, SinkCause, SinkFaults, SourceFaults, Settles, SettlesFaults, WasTold, status_of, whole_status};

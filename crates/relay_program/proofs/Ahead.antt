@@ -7,10 +7,10 @@ use Rattle.relay_program.specs.declared.drills.DrillFail.{DrillFail}
 use Rattle.relay_program.specs.declared.drills.DrillFail.TheVariants.{Outside, SourceFault, SinkFault, OutOfMemory}
 use Rattle.relay_script.specs.Script.{Line, lines_from, lines}
 use Rattle.relay_program.specs.Drill.{State, fresh, text_from, outside_from, drill_text, outside_line}
-use Rattle.relay_program.specs.Outcome.{Writes, WritesPart}
+use Rattle.put_text.specs.Written.{Writes, WritesPart}
 use Rattle.relay_program.specs.Parts.{lines_ahead, text_ahead, outside_ahead, Advances, FailsAt, Fails}
 use Rattle.relay_program.specs.Ends.{Ahead}
-use Rattle.relay_program.proofs.Known.{nothing_written, write_then, write_part_then}
+use Rattle.put_text.proofs.Writing.{nothing_written, write_then, write_part_then}
 use Rattle.relay_program.proofs.Fails.{fail_part, result_part}
 
 pub start : (d : Drilling) (left held : Option (List ℕ)) (text : List ℕ) → left ≡ Some text → d.made ≡ fresh → d.line ≡ [] → d.place ≡ 0 → d.number ≡ 1

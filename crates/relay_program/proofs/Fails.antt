@@ -2,7 +2,7 @@
 use Rattle.std.proofs.Common.{◌≡◌, ℕ, List, [], Option, None, Result, Ok, Err, MatchResult, ◌∙◌}
 use Rattle.relay_program.specs.declared.drills.DrillFail.{DrillFail}
 use Rattle.relay_program.specs.declared.drills.DrillFail.TheVariants.{Outside, SourceFault, SinkFault, OutOfMemory}
-use Rattle.relay_program.specs.Outcome.{Writes, WritesPart}
+use Rattle.put_text.specs.Written.{Writes, WritesPart}
 use Rattle.relay_program.specs.Parts.{AfterFault, AfterFaultOf, FailsAt, SinkCause, SinkFaults, SourceFaults}
 
 pub sink_faults : (fail : DrillFail) (before now : ℕ) → SinkCause fail before now → SinkFaults fail before now

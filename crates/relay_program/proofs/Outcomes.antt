@@ -4,10 +4,12 @@ use Rattle.std.specs.Io.KnownBytes.{IsAtEnd}
 use Rattle.relay_program.specs.declared.drills.DrillFail.{DrillFail}
 use Rattle.relay_program.specs.declared.drills.DrillFail.TheVariants.{Outside, SourceFault, SinkFault, OutOfMemory}
 use Rattle.relay_program.specs.Drill.{drill_text, outside_line}
-use Rattle.relay_program.specs.Outcome.{Writes, InOut, Outcome, WritesPartOfRead, status_without_faults}
+use Rattle.put_text.specs.Written.{Writes}
+use Rattle.relay_program.specs.Outcome.{InOut, Outcome, WritesPartOfRead, status_without_faults}
 use Rattle.relay_program.specs.Parts.{FailsAt, AfterFault, SinkFaults, SourceFaults}
 use Rattle.relay_program.specs.Ends.{status_of}
-use Rattle.relay_program.proofs.Known.{no_part_written, wrote_all}
+use Rattle.put_text.proofs.Writing.{wrote_all}
+use Rattle.relay_program.proofs.Known.{no_part_written}
 
 two_cases : (b : Bool) → b ≡ false → b ≡ true → ⊥
 two_cases b f t = cc

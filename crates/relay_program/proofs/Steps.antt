@@ -10,10 +10,11 @@ use Rattle.relay_program.specs.declared.drills.Drilling.{Drilling}
 use Rattle.relay_program.specs.declared.drills.DrillFail.{DrillFail}
 use Rattle.relay_program.specs.declared.drills.DrillFail.TheVariants.{Outside, SourceFault, SinkFault, OutOfMemory}
 use Rattle.relay_program.specs.Drill.{State, Done, after_line, text_from, text_then, outside_from}
-use Rattle.relay_program.specs.Outcome.{Writes, WritesPart}
+use Rattle.put_text.specs.Written.{Writes, WritesPart}
 use Rattle.relay_program.specs.Parts.{Answered, AnswerFails, Fit, lines_ahead, text_ahead, outside_ahead}
 use Rattle.relay_program.specs.Parts.{Advances, Fails, Extended, IsOver, ExtendFails, said_by}
-use Rattle.relay_program.proofs.Known.{append_known_nil, no_part_written, write_then, write_part_then, part_of_more}
+use Rattle.put_text.proofs.Writing.{append_known_nil, write_then, write_part_then}
+use Rattle.relay_program.proofs.Known.{no_part_written, part_of_more}
 use Rattle.relay_program.proofs.Script.{HasFeed, lines_of_run, IsFirstOutside, over, outside_first, outside_ends, inside_first, inside_text}
 
 -- ---- one part after another

@@ -9,9 +9,10 @@ use Rattle.relay_script.specs.Script.{NoLineFeed, Line, line_at, lines_from, lin
 use Rattle.relay_script.proofs.OneLine.{both}
 use Rattle.relay_program.specs.declared.drills.Drilling.{Drilling}
 use Rattle.relay_program.specs.Drill.{State, fresh, after_line, text_from, text_then, outside_from, outside_then, drill_text, outside_line}
-use Rattle.relay_program.specs.Outcome.{Writes, IsWholeLines, WritesWholeLines}
+use Rattle.put_text.specs.Written.{Writes}
+use Rattle.relay_program.specs.Outcome.{IsWholeLines, WritesWholeLines}
 use Rattle.relay_program.specs.Ends.{Ahead}
-use Rattle.relay_program.proofs.Known.{wrote_all}
+use Rattle.put_text.proofs.Writing.{wrote_all}
 use Rattle.relay_program.proofs.Script.{lines_of_run, IsFirstOutside, over}
 use Rattle.relay_program.proofs.Steps.{one_left}
 use Rattle.relay_program.proofs.Ahead.{read_is}

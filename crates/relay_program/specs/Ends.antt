@@ -8,7 +8,7 @@ use Rattle.relay_program.specs.declared.drills.DrillFail.{DrillFail}
 use Rattle.relay_program.specs.declared.drills.DrillFail.TheVariants.{Outside, SourceFault, SinkFault, OutOfMemory}
 use Rattle.relay_script.specs.Script.{lines}
 use Rattle.relay_program.specs.Drill.{drill_text, outside_line}
-use Rattle.relay_program.specs.Outcome.{Writes}
+use Rattle.put_text.specs.Written.{Writes}
 use Rattle.relay_program.specs.Parts.{lines_ahead, text_ahead, outside_ahead}
 
 -- what is ahead of a drill in the middle of its script, whatever follows what was read

@@ -4,17 +4,8 @@ use Rattle.std.specs.declared.option.Option.{Option}
 use Rattle.std.specs.Io.KnownBytes.{append_known, IsAtEnd}
 use Rattle.relay_base.specs.declared.limits.Status.{Status}
 use Rattle.relay_outside.specs.Counts.{Rose}
+use Rattle.put_text.specs.Written.{Writes, WritesPart}
 use Rattle.relay_script.specs.Script.{NoLineFeed}
-
--- what is written of a text, and what is left of it
-pub record Writes (text left : List ℕ) (before now : Option (List ℕ)) : Type 0 where
-  pub wrote : List ℕ
-  pub parts : wrote ++ left ≡ text
-  pub grown : now ≡ append_known before wrote
-
--- a first part of the text is written
-abbrev pub WritesPart : List ℕ → Option (List ℕ) → Option (List ℕ) → Type 0
-WritesPart text before now = (left : List ℕ) × Writes text left before now
 
 -- bytes that end with an LF, or none
 abbrev pub IsWholeLines : List ℕ → Type 0

@@ -14,7 +14,8 @@ use Rattle.relay_script.specs.declared.line.LineFail.{LineFail}
 use Rattle.relay_script.specs.declared.line.LineFail.TheVariants as line_fail
 use Rattle.relay_script.specs.Script.{Line, lines_from}
 use Rattle.relay_program.specs.Drill.{State, Done, table_of, text_from, outside_from, drill_text, outside_line}
-use Rattle.relay_program.specs.Outcome.{Writes, WritesPart, WritesWholeLines}
+use Rattle.put_text.specs.Written.{Writes, WritesPart}
+use Rattle.relay_program.specs.Outcome.{WritesWholeLines}
 
 -- why a text isn't put
 abbrev pub PutFails : DrillFail → List ℕ → Option (List ℕ) → Option (List ℕ) → Type 0

@@ -4,7 +4,8 @@ use Rattle.std.specs.declared.option.Option.{Option}
 use Rattle.std.specs.Io.KnownBytes.{append_known, IsAtEnd}
 use Rattle.relay_base.specs.declared.limits.Status.{Status}
 use Rattle.relay_outside.specs.Counts.{Rose}
-use Rattle.relay_program.specs.Outcome.{InOut, IsScriptCode, WritesPart, status_without_faults}
+use Rattle.put_text.specs.Written.{WritesPart}
+use Rattle.relay_program.specs.Outcome.{InOut, IsScriptCode, status_without_faults}
 use Rattle.relay_program.specs.Replay.{Printed, outside_line}
 
 -- all that is printed is written

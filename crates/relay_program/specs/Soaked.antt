@@ -6,7 +6,7 @@ use Rattle.relay_base.specs.declared.limits.Status.{Status}
 use Rattle.relay_outside.specs.Counts.{Rose}
 use Rattle.relay_script.specs.Lines.{count_of, is_text}
 use Rattle.relay_soak.specs.Runs.{Printed}
-use Rattle.relay_program.specs.Outcome.{WritesPart}
+use Rattle.put_text.specs.Written.{WritesPart}
 
 abbrev pub asked_by : List ℕ → List ℕ → Option ℕ
 asked_by word number = if is_text word (codes "soak") then count_of 100001 number else None

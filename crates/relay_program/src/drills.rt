@@ -4,7 +4,8 @@ ghost use Rattle.std.specs.Io.KnownBytes.{append_known, IsAtEnd};
 ghost use Rattle.relay_script.specs.Lines.{meaning};
 ghost use Rattle.relay_script.specs.Script.{NoLineFeed};
 ghost use Rattle.relay_program.specs.Drill.{done, fresh, table_of, after_line, drill_text, outside_line};
-ghost use Rattle.relay_program.specs.Outcome.{in_out, Outcome, Writes, WritesPartOfRead};
+ghost use Rattle.put_text.specs.Written.{Writes};
+ghost use Rattle.relay_program.specs.Outcome.{in_out, Outcome, WritesPartOfRead};
 ghost use Rattle.relay_program.specs.Parts.{PutFails, AfterFaultOf, SinkCause, SinkFaults, SourceFaults, ActFails, Answered, AnswerFails};
 ghost use Rattle.relay_program.specs.Parts.{Fit, Advances, Fails, FailsAt, Extended, ExtendFails, text_ahead, outside_ahead};
 ghost use Rattle.relay_program.specs.Ends.{status_of};
@@ -12,8 +13,9 @@ ghost use Rattle.relay_program.specs.Words.{is_drill, only_word_is};
 
 use crate::made::Made;
 use av_unit::Bytes;
+use put_text::PutFail;
 use relay_base::Status;
-use relay_outside::{Got, Put, Sink, Source};
+use relay_outside::{Got, Sink, Source};
 use relay_script::{LineFail, drill_line};
 use std::alloc::Global;
 
@@ -41,15 +43,11 @@ pub(crate) fn put_all<K: Sink>(out: &mut K, text: &[u8]) -> Result<(), DrillFail
         (λ fail. PutFails fail text.now (K.holds out.old) (K.holds out.new)) }
     ensures faults { MatchResult result (λ _. K.faults out.new ≡ K.faults out.old) (λ fail. SinkCause fail (K.faults out.old) (K.faults out.new)) }
 {
-    let mut left = text;
-    while !left.is_empty() {
-        match out.put(left) {
-            Put::Took(count) => left = &left[count..],
-            Put::Failed => return Err(DrillFail::SinkFault),
-            Put::OutOfMemory => return Err(DrillFail::OutOfMemory),
-        }
+    match put_text::put_all(out, text) {
+        Ok(()) => Ok(()),
+        Err(PutFail::SinkFault) => Err(DrillFail::SinkFault),
+        Err(PutFail::OutOfMemory) => Err(DrillFail::OutOfMemory),
     }
-    Ok(())
 }
 
 // Does what the line says, and gives what it prints.

@@ -8,7 +8,7 @@ use Rattle.relay_worker.specs.Running.{Label, label_of}
 use Rattle.relay_worker.specs.declared.recorder.Recorder.{Recorder}
 use Rattle.stream_registry.specs.Pasts.{Attempt}
 use Rattle.stream_registry.specs.SharedState.{Streams}
-use Rattle.stream_registry.specs.declared.desk.Site.{Site}
+use Rattle.stream_registry.specs.declared.place_table.Site.{Site}
 use Rattle.turn_gate.specs.Known.{PassKnown}
 use Rattle.relay_config.specs.declared.config.PlaceRule.{PlaceRule}
 use Rattle.relay_serve.specs.Recordings.{own_from, recordings_at}

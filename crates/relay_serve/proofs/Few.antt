@@ -10,7 +10,7 @@ use Rattle.relay_config.specs.Sum.{recorders_of}
 use Rattle.relay_config.specs.declared.config.Config.{Config}
 use Rattle.relay_config.specs.declared.config.PlaceRule.{PlaceRule}
 use Rattle.relay_worker.specs.Running.{Label}
-use Rattle.relay_worker.specs.declared.recorder.Form.TheVariants as form
+use Rattle.relay_worker.specs.declared.recorder.RecordingForm.TheVariants as form
 use Rattle.relay_serve.proofs.Having.{same_number}
 use Rattle.relay_serve.specs.Recordings.{own_from, recording, recording_if, recordings_at, recordings_upto}
 

@@ -9,14 +9,14 @@ use Rattle.std.proofs.lemmas.Nat.{mod_below}
 use Rattle.relay_config.specs.declared.config.Config.{Config}
 use Rattle.relay_config.specs.declared.config.PlaceRule.{PlaceRule}
 use Rattle.relay_worker.specs.Running.{Label}
-use Rattle.relay_worker.specs.declared.recorder.Form.{Form}
-use Rattle.relay_worker.specs.declared.recorder.Form.TheVariants as form
+use Rattle.relay_worker.specs.declared.recorder.RecordingForm.{RecordingForm}
+use Rattle.relay_worker.specs.declared.recorder.RecordingForm.TheVariants as form
 use Rattle.relay_serve.specs.Recordings.{file_in, own_from, recording, recording_if, recordings_at, recordings_of, recordings_upto}
 
 if_has : (o : Option (List ℕ)) (r : Label) (name : List ℕ) → o ≡ Some name → Contains (recording_if o r) r
 if_has o r name e = subst (λ (x : Option (List ℕ)). Contains (recording_if x r) r) (sym e) (Contains-push [] r)
 
-at_has : (longest place : ℕ) (rule : PlaceRule) (f : Form) (name : List ℕ) → file_in f rule ≡ Some name → Contains (recordings_at longest place rule) (recording longest place f)
+at_has : (longest place : ℕ) (rule : PlaceRule) (f : RecordingForm) (name : List ℕ) → file_in f rule ≡ Some name → Contains (recordings_at longest place rule) (recording longest place f)
 at_has longest place rule form.Flv name e =
     Contains-append_left (recording_if rule.flv (recording longest place form.Flv)) (recording_if rule.ts (recording longest place form.Ts)) (recording longest place form.Flv)
     (if_has rule.flv (recording longest place form.Flv) name e)
@@ -31,7 +31,7 @@ chosen false rs r e c = absurd (let f : false ≡ true = e in cc)
 pub same_number : (m n : ℕ) → m ≡ n → (m == n) ≡ true
 same_number m n e = grind (arith, nat_tests, e)
 
-own_has : (longest workers worker first i : ℕ) (rules : List PlaceRule) (rule : PlaceRule) (f : Form) (name : List ℕ) → slice_get rules i ≡ Some rule
+own_has : (longest workers worker first i : ℕ) (rules : List PlaceRule) (rule : PlaceRule) (f : RecordingForm) (name : List ℕ) → slice_get rules i ≡ Some rule
     → file_in f rule ≡ Some name → (first + i) % workers ≡ worker → Contains (own_from longest workers worker first rules) (recording longest (first + i) f)
 own_has longest workers worker first i [] rule f name at e m = absurd (let g : None ≡ Some rule = at in cc)
 own_has longest workers worker first zero (r ∷ rules) rule f name at e m =
@@ -62,7 +62,7 @@ module _ (f : ℕ → List Label) (r : Label) (w : ℕ) where
   flat_has a zero l m c = absurd (omega (arith, l, m))
   flat_has a (suc n) l m c = flat_by a n c (flat_next a n (λ k. flat_has (a + 1) n k (omega (arith, m)) c) l (cases_lt a w))
 
-pub has_each : (config : Config) (place : ℕ) (rule : PlaceRule) (f : Form) (name : List ℕ) → 0 < config.workers → slice_get config.places place ≡ Some rule
+pub has_each : (config : Config) (place : ℕ) (rule : PlaceRule) (f : RecordingForm) (name : List ℕ) → 0 < config.workers → slice_get config.places place ≡ Some rule
     → file_in f rule ≡ Some name → Contains (recordings_upto config config.workers) (recording config.limits.max_message place f)
 has_each config place rule f name some at e =
     let w : ℕ = place % config.workers in

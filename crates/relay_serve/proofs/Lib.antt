@@ -1,4 +1,3 @@
-pub mod Puts
 pub mod Ruled
 pub mod Lines
 pub mod Ends

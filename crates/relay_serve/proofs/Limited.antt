@@ -7,7 +7,7 @@ use Rattle.turn_gate.specs.Known.{GateId}
 use Rattle.relay_config.specs.declared.config.Config.{Config}
 use Rattle.stream_model.specs.declared.calls.StreamLimits.{StreamLimits}
 use Rattle.stream_model.specs.Shape.{pool_shape, stream_shape}
-use Rattle.stream_registry.specs.declared.desk.Site.{Site}
+use Rattle.stream_registry.specs.declared.place_table.Site.{Site}
 use Rattle.stream_registry.specs.declared.names.Name.{Name}
 use Rattle.stream_registry.specs.declared.names.OpenName.{OpenName}
 use Rattle.stream_registry.specs.Names.{shape_at, shapes_of}

@@ -22,7 +22,7 @@ use Rattle.stream_registry.specs.Pasts.{Attempt}
 use Rattle.stream_registry.specs.Roots.{Later}
 use Rattle.stream_registry.specs.SharedState.{Streams, shared_rules}
 use Rattle.stream_registry.specs.Told.{Histories}
-use Rattle.stream_registry.specs.declared.desk.Site.{Site}
+use Rattle.stream_registry.specs.declared.place_table.Site.{Site}
 use Rattle.turn_gate.specs.Known.{PassKnown}
 use Rattle.relay_serve.specs.Http.{AsksForHttp, IsBalancedHttp, IsServingHttp, IsShutHttp, LeftHttp, doors_at, http_doors}
 use Rattle.relay_serve.specs.Settling.{TellsMore}

@@ -38,9 +38,9 @@ use Rattle.media_recorder.specs.declared.turn.RecTurn.TheVariants as turn
 use Rattle.relay_worker.specs.Filed.{Tallies, form_of, sink_of, state_of, text_in, text_of}
 use Rattle.relay_worker.specs.Running.{Label, label_of}
 use Rattle.relay_worker.specs.declared.recorder.Recorder.{Recorder}
-use Rattle.relay_worker.specs.declared.recorder.Form.{Form}
+use Rattle.relay_worker.specs.declared.recorder.RecordingForm.{RecordingForm}
 use Rattle.relay_config.specs.declared.config.PlaceRule.{PlaceRule}
-use Rattle.relay_outside.specs.Houses.{Kept, kept_file}
+use Rattle.relay_outside.specs.Houses.{KeptFile, kept_file}
 use Rattle.relay_serve.specs.Recorded.{HasLeft, IsLeave, IsRecorded, IsSettled, IsWhole, Records, starved, worn_out}
 use Rattle.relay_serve.specs.Recordings.{file_in, file_name}
 use Rattle.relay_serve.specs.Settling.{TellsMore}
@@ -159,7 +159,7 @@ as_many : (numbers : List ℕ) (calls : List Step) (history : List Step) → map
 as_many numbers calls history e =
     sym (length-map numbers (slice_get history)) ∙ (ap length e ∙ length-map calls Some)
 
-module _ {Q : Type 0} (mine : Q → List ℕ) (streams : ℕ → Shape) (joined histories : Histories) (worn : ℕ → Type 0) (form : Form) (r : RecorderState Q)
+module _ {Q : Type 0} (mine : Q → List ℕ) (streams : ℕ → Shape) (joined histories : Histories) (worn : ℕ → Type 0) (form : RecordingForm) (r : RecorderState Q)
     (bytes : List ℕ) (left : HasLeft mine (streams r.seat.place) (histories r.seat.place) r) (sent : bytes ≡ r.tape.sent) where
   abbrev Label_is : Label
   Label_is = record { who = r.seat.who; place = r.seat.place; form = form; longest = r.tape.longest }
@@ -229,7 +229,7 @@ module _ {Q : Type 0} (mine : Q → List ℕ) (streams : ℕ → Shape) (joined 
   }
 
 -- WHAT ITS FILE HOLDS once it has left
-pub records_from : {Q : Type 0} (mine : Q → List ℕ) (count : Q → ℕ) (streams : ℕ → Shape) (joined histories : Histories) (worn : ℕ → Type 0) (form : Form)
+pub records_from : {Q : Type 0} (mine : Q → List ℕ) (count : Q → ℕ) (streams : ℕ → Shape) (joined histories : Histories) (worn : ℕ → Type 0) (form : RecordingForm)
     (r : RecorderState Q) (end : Option RecEnd) (held : Option (List ℕ)) (faults : ℕ) (bytes : List ℕ) → IsSettled mine (joined r.seat.place) end r → starved end ≡ false
     → (worn_out end ≡ true → worn r.seat.place) → (end ≡ None → joined_from r.seat.calls ≡ Some 0) → Tallied count held faults r → held ≡ Some bytes → (r.end ≢ Some rec.OutOfMemory → r.tape.sent ++ r.tape.pending ≡ text_in form (taken r.seat.calls))
     → Begins (r.tape.sent ++ r.tape.pending) (text_in form (taken r.seat.calls)) → HasLeft mine (streams r.seat.place) (histories r.seat.place) r
@@ -311,22 +311,22 @@ records_of holds faults mine count streams joined histories worn old r end file 
 pub recorded_by : (streams : ℕ → Shape) (joined histories : Histories) (worn worn' : ℕ → Type 0) (places : List PlaceRule) (r : Label) (name : List ℕ)
     (held : Option (List ℕ)) (faults : ℕ) → file_name places r.place r.form ≡ Some name → (worn r.place → worn' r.place)
     → ((bytes : List ℕ) → held ≡ Some bytes → Records streams joined histories worn r bytes faults)
-    → (file : Kept) → kept_file name held faults ≡ Some file → IsRecorded streams joined histories worn' places r file
+    → (file : KeptFile) → kept_file name held faults ≡ Some file → IsRecorded streams joined histories worn' places r file
 recorded_by streams joined histories worn worn' places r name None faults named on records file e = absurd (let f : None ≡ Some file = e in cc)
 recorded_by streams joined histories worn worn' places r name (Some bytes) faults named on records file e =
-    let kept : Kept = record { name = name; bytes = bytes; faults = faults } in
+    let kept : KeptFile = record { name = name; bytes = bytes; faults = faults } in
     let is : kept ≡ file = let f : Some kept ≡ Some file = e in cc in
     let there = records_later streams joined joined histories histories (later_same joined) (later_same histories) worn worn' r bytes faults on (records bytes refl) in
-    subst (λ (f : Kept). IsRecorded streams joined histories worn' places r f) is (record { named = named; records = there })
+    subst (λ (f : KeptFile). IsRecorded streams joined histories worn' places r f) is (record { named = named; records = there })
 
-place_within : (places : List PlaceRule) (place : ℕ) (form : Form) (name : List ℕ) (o : Option PlaceRule) → slice_get places place ≡ o
+place_within : (places : List PlaceRule) (place : ℕ) (form : RecordingForm) (name : List ℕ) (o : Option PlaceRule) → slice_get places place ≡ o
     → option_and_then (file_in form) o ≡ Some name → place < length places
 place_within places place form name None e n = absurd (let f : None ≡ Some name = n in cc)
 place_within places place form name (Some rule) e n = slice_get_within places place rule e
 
 -- in histories that went on, and by full histories at the places that there are
 pub recorded_later : (streams : ℕ → Shape) (joined joined' histories histories' : Histories) → Later joined joined' → Later histories histories'
-    → (worn worn' : ℕ → Type 0) (places : List PlaceRule) → ((q : ℕ) → q < length places → worn q → worn' q) → (r : Label) (file : Kept)
+    → (worn worn' : ℕ → Type 0) (places : List PlaceRule) → ((q : ℕ) → q < length places → worn q → worn' q) → (r : Label) (file : KeptFile)
     → IsRecorded streams joined' histories worn places r file → IsRecorded streams joined histories' worn' places r file
 recorded_later streams joined joined' histories histories' a b worn worn' places on r file f = record {
   named = f.named;
@@ -336,7 +336,7 @@ recorded_later streams joined joined' histories histories' a b worn worn' places
 
 -- these recordings, and then the others
 pub recorded_then : (q q' : PortRules) (h j k : Histories) (worn worn' : ℕ → Type 0) (places : List PlaceRule) (recordings others : List Label)
-    (before mid now : Option (List Kept)) → q' ≡ q → Later h j → Later j k → ((place : ℕ) → worn place → worn' place)
+    (before mid now : Option (List KeptFile)) → q' ≡ q → Later h j → Later j k → ((place : ℕ) → worn place → worn' place)
     → TellsMore (IsRecorded q.limits h j worn places) recordings before mid → TellsMore (IsRecorded q'.limits j k worn' places) others mid now
     → TellsMore (IsRecorded q.limits h k worn' places) (recordings ++ others) before now
 recorded_then q q' h j k worn worn' places recordings others before mid now e a b on m n =

@@ -7,11 +7,11 @@ use Rattle.stream_registry.specs.Names.{PortRules}
 use Rattle.stream_registry.specs.Pasts.{Attempt}
 use Rattle.stream_registry.specs.Roots.{gates}
 use Rattle.stream_registry.specs.SharedState.{Streams, shared_rules}
-use Rattle.stream_registry.specs.declared.desk.Site.{Site}
+use Rattle.stream_registry.specs.declared.place_table.Site.{Site}
 use Rattle.relay_worker.specs.declared.recorder.Recorder.{Recorder}
 use Rattle.relay_worker.specs.Filed.{form_of, state_of}
 use Rattle.relay_worker.specs.Running.{Label, label_of}
-use Rattle.relay_worker.specs.declared.recorder.Form.{Form}
+use Rattle.relay_worker.specs.declared.recorder.RecordingForm.{RecordingForm}
 use Rattle.relay_worker.specs.Benches.{IsFiled}
 use Rattle.std.proofs.lemmas.List.Elements.{All-weaker}
 use Rattle.std.specs.Prelude.{All, List}
@@ -23,7 +23,7 @@ popped xs ys x e = ap length e ∙ length-append ys (x ∷ [])
 pub kept_all : {X : Type 0} (n : ℕ) (xs ys : List X) → length xs ≡ n → take n (xs ++ ys) ≡ xs
 kept_all {X} n xs ys l = take-append-le n xs ys (omega (arith, l)) ∙ take_all n xs (omega (arith, l))
 
-abbrev label : ℕ → ℕ → Form → ℕ → Label
+abbrev label : ℕ → ℕ → RecordingForm → ℕ → Label
 label who place form longest = record { who = who; place = place; form = form; longest = longest }
 
 module _ {K : Type 0} where
@@ -33,7 +33,7 @@ module _ {K : Type 0} where
   label_same r s who place form longest =
       ap (λ (n : ℕ). label n (state_of s).seat.place (form_of s) (state_of s).tape.longest) who
       ∙ (ap (λ (n : ℕ). label (state_of r).seat.who n (form_of s) (state_of s).tape.longest) place
-      ∙ (ap (λ (f : Form). label (state_of r).seat.who (state_of r).seat.place f (state_of s).tape.longest) form
+      ∙ (ap (λ (f : RecordingForm). label (state_of r).seat.who (state_of r).seat.place f (state_of s).tape.longest) form
       ∙ ap (label (state_of r).seat.who (state_of r).seat.place (form_of r)) longest))
 
   pub filed_by : (rules : PortRules) (port : Streams) (r : Recorder Streams K (PassKnown Site Attempt)) → HasRules rules port

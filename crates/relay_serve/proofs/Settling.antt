@@ -20,7 +20,7 @@ use Rattle.stream_registry.specs.Pasts.{Attempt}
 use Rattle.stream_registry.specs.Roots.{Later}
 use Rattle.stream_registry.specs.SharedState.{Streams}
 use Rattle.stream_registry.specs.Told.{Histories}
-use Rattle.stream_registry.specs.declared.desk.Site.{Site}
+use Rattle.stream_registry.specs.declared.place_table.Site.{Site}
 use Rattle.turn_gate.specs.Known.{PassKnown}
 use Rattle.relay_serve.specs.Recordings.{recordings_of, recordings_upto}
 use Rattle.relay_serve.specs.Settling.{AsksFor, IsBalanced, IsLeft, IsShut, asked_of}

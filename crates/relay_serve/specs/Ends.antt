@@ -9,8 +9,6 @@ use Rattle.relay_config.specs.Accepts.{Accepts, refusal}
 use Rattle.relay_config.specs.Report.{report_text}
 use Rattle.relay_outside.specs.Counts.{Rose}
 use Rattle.relay_outside.specs.Houses.{Asked, HouseTold, Refuses}
-use Rattle.relay_serve.specs.declared.put.PutFail.{PutFail}
-use Rattle.relay_serve.specs.declared.put.PutFail.TheVariants as put
 use Rattle.relay_serve.specs.declared.reading.ReadFail.{ReadFail}
 use Rattle.relay_serve.specs.declared.reading.ReadFail.TheVariants as read
 use Rattle.relay_serve.specs.declared.starting.OpenFail.{OpenFail}
@@ -18,7 +16,7 @@ use Rattle.relay_serve.specs.declared.starting.OpenFail.TheVariants as opened
 use Rattle.relay_serve.specs.declared.serving.Ending.{Ending}
 use Rattle.relay_serve.specs.declared.serving.Ending.TheVariants as end
 use Rattle.relay_serve.specs.Taking.{TakesText}
-use Rattle.relay_serve.specs.Texts.{WritesPart}
+use Rattle.put_text.specs.Written.{WritesPart}
 use Rattle.relay_serve.specs.Counts.{report_lines}
 use Rattle.relay_serve.specs.Lasts.{AllEnd, IsWorn}
 use Rattle.relay_serve.specs.Recorded.{IsRecorded}
@@ -34,14 +32,6 @@ use Rattle.stream_registry.specs.Roots.{Later}
 use Rattle.stream_registry.specs.Told.{Histories}
 
 -- ---- why a part fails
-
-abbrev pub PutFails : PutFail → List ℕ → Option (List ℕ) → Option (List ℕ) → Type 0
-PutFails put.SinkFault text before now = WritesPart text before now
-PutFails put.OutOfMemory text before now = WritesPart text before now
-
-abbrev pub SinkCause : PutFail → ℕ → ℕ → Type 0
-SinkCause put.SinkFault before now = Rose before now
-SinkCause put.OutOfMemory before now = now ≡ before
 
 abbrev pub SourceCause : ReadFail → ℕ → ℕ → Type 0
 SourceCause read.SourceFault before now = Rose before now

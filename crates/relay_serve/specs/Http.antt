@@ -14,7 +14,7 @@ use Rattle.stream_registry.specs.Gates.{told, told_at}
 use Rattle.stream_registry.specs.Pasts.{Attempt}
 use Rattle.stream_registry.specs.SharedState.{Streams, shared_rules}
 use Rattle.stream_registry.specs.Told.{Histories}
-use Rattle.stream_registry.specs.declared.desk.Site.{Site}
+use Rattle.stream_registry.specs.declared.place_table.Site.{Site}
 use Rattle.turn_gate.specs.Known.{PassKnown}
 use Rattle.relay_serve.specs.Settling.{AsksFor, IsShut, TellsMore}
 

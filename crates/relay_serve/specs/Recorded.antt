@@ -6,7 +6,7 @@ use Rattle.stream_model.specs.declared.calls.Shape.{Shape}
 use Rattle.stream_model.specs.declared.replies.Reply.TheVariants as reply
 use Rattle.stream_registry.specs.Told.{Step, Histories}
 use Rattle.relay_config.specs.declared.config.PlaceRule.{PlaceRule}
-use Rattle.relay_outside.specs.Houses.{Kept}
+use Rattle.relay_outside.specs.Houses.{KeptFile}
 use Rattle.media_recorder.specs.declared.turn.RecEnd.{RecEnd}
 use Rattle.media_recorder.specs.declared.turn.RecEnd.TheVariants as rec
 use Rattle.media_recorder.specs.Calls.{Stand}
@@ -56,7 +56,7 @@ module _ (streams : ℕ → Shape) (joined histories : Histories) (worn : ℕ �
     pub whole : faults ≡ 0 → IsWhole r bytes (joined r.place) numbers calls ⊎ (IsTurnedAway r.who calls ⊎ worn r.place)
 
   -- A FILE THAT THE HOUSE KEEPS of a recording stands under the name that the configuration has for it
-  pub record IsRecorded (places : List PlaceRule) (r : Label) (file : Kept) : Type 0 where
+  pub record IsRecorded (places : List PlaceRule) (r : Label) (file : KeptFile) : Type 0 where
     pub named : file_name places r.place r.form ≡ Some file.name
     pub records : Records r file.bytes file.faults
 

@@ -5,25 +5,25 @@ use Rattle.std.specs.Option.{option_and_then, option_map}
 use Rattle.relay_config.specs.declared.config.Config.{Config}
 use Rattle.relay_config.specs.declared.config.PlaceRule.{PlaceRule}
 use Rattle.relay_worker.specs.Running.{Label}
-use Rattle.relay_worker.specs.declared.recorder.Form.{Form}
-use Rattle.relay_worker.specs.declared.recorder.Form.TheVariants as form
+use Rattle.relay_worker.specs.declared.recorder.RecordingForm.{RecordingForm}
+use Rattle.relay_worker.specs.declared.recorder.RecordingForm.TheVariants as form
 
 -- THE NAME of the recorder of a stream in a form. Each place has two, from 2^60 on
-abbrev pub recorder_name : ℕ → Form → ℕ
+abbrev pub recorder_name : ℕ → RecordingForm → ℕ
 recorder_name place form.Flv = 2 ^ 60 + 2 * place
 recorder_name place form.Ts = 2 ^ 60 + 2 * place + 1
 
 -- A RECORDING of the stream at a place, of units of at most `longest` bytes
-abbrev pub recording : ℕ → ℕ → Form → Label
+abbrev pub recording : ℕ → ℕ → RecordingForm → Label
 recording longest place form = record { who = recorder_name place form; place = place; form = form; longest = longest }
 
 -- its file in that form, if it is recorded so
-abbrev pub file_in : Form → PlaceRule → Option (List ℕ)
+abbrev pub file_in : RecordingForm → PlaceRule → Option (List ℕ)
 file_in form.Flv rule = rule.flv
 file_in form.Ts rule = rule.ts
 
 -- THE FILE of the stream at a place
-abbrev pub file_name : List PlaceRule → ℕ → Form → Option (List ℕ)
+abbrev pub file_name : List PlaceRule → ℕ → RecordingForm → Option (List ℕ)
 file_name places place form = option_and_then (file_in form) (slice_get places place)
 
 abbrev pub recording_if : Option (List ℕ) → Label → List Label

@@ -5,7 +5,7 @@ use Rattle.media_recorder.specs.Ports.{FitsIf}
 use Rattle.stream_registry.specs.Names.{PortRules}
 use Rattle.stream_registry.specs.Pasts.{Attempt}
 use Rattle.stream_registry.specs.SharedState.{Streams, shared_rules}
-use Rattle.stream_registry.specs.declared.desk.Site.{Site}
+use Rattle.stream_registry.specs.declared.place_table.Site.{Site}
 use Rattle.relay_worker.specs.declared.recorder.Recorder.{Recorder}
 use Rattle.relay_worker.specs.Benches.{WorkerState}
 use Rattle.relay_worker.specs.Filed.{Tallies, is_ready, state_of}

@@ -3,16 +3,6 @@ use Rattle.std.specs.Prelude.{◌≡◌, ℕ, ◌+◌, List, [], ◌∷◌, ◌+
 use Rattle.std.specs.Fmt.{decimal}
 use Rattle.std.specs.Io.KnownBytes.{append_known}
 
--- what is written of a text, and what is left of it
-pub record Writes (text left : List ℕ) (before now : Option (List ℕ)) : Type 0 where
-  pub wrote : List ℕ
-  pub parts : wrote ++ left ≡ text
-  pub grown : now ≡ append_known before wrote
-
--- a first part of the text is written
-abbrev pub WritesPart : List ℕ → Option (List ℕ) → Option (List ℕ) → Type 0
-WritesPart text before now = (left : List ℕ) × Writes text left before now
-
 -- how many calls of a stream were answered so
 pub record Counted : Type 0 where
   pub began : ℕ

@@ -14,7 +14,7 @@ use av_unit::OutOfMemory;
 use std::alloc::Global;
 use std::sync::Wait;
 use stream_core::{Call, Entry, Reply};
-use stream_registry::{Desk, PortFail, Shared, StreamPort};
+use stream_registry::{PlaceTable, PortFail, Shared, StreamPort};
 
 /// The name with which the server counts.
 const COUNTER: u64 = 1 << 62;
@@ -32,7 +32,7 @@ pub(crate) struct Counts {
 // The Count of a place. None comes where it was answered that the history is full.
 fn count_one<W: Wait>(
     rt: &W,
-    port: &mut Shared<Desk>,
+    port: &mut Shared<PlaceTable>,
     place: u32,
 ) -> Result<Option<Counts>, OutOfMemory>
     requires { place < places (shared_rules port.old) }
@@ -82,7 +82,7 @@ fn count_one<W: Wait>(
 // The same. Where a recorder has found the history full, no Count is taken for an answer: a history doesn't shrink.
 fn count_as_found<W: Wait>(
     rt: &W,
-    port: &mut Shared<Desk>,
+    port: &mut Shared<PlaceTable>,
     place: u32,
     full: &[u32],
 ) -> Result<Option<Counts>, OutOfMemory>
@@ -103,7 +103,7 @@ fn count_as_found<W: Wait>(
 pub(crate) fn count_all<W: Wait>(
     rt: &W,
     alloc: Global,
-    port: &mut Shared<Desk>,
+    port: &mut Shared<PlaceTable>,
     count: u32,
     full: &[u32],
 ) -> Result<Vec<Option<Counts>>, OutOfMemory>

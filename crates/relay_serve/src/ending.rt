@@ -18,10 +18,10 @@ use av_unit::OutOfMemory;
 use media_recorder::{RecEnd, RecTurn};
 use relay_config::{Config, PlaceRule};
 use relay_outside::{Door, House, Rest, Sink};
-use relay_worker::{Form, Parted};
+use relay_worker::{Parted, RecordingForm};
 use std::alloc::Global;
 use std::sync::Wait;
-use stream_registry::{Desk, Shared};
+use stream_registry::{PlaceTable, Shared};
 
 /// What is left of a worker.
 #[derive(Drop)]
@@ -43,7 +43,7 @@ pub(crate) struct AllLeft<D: Door, K: Sink> {
 // of its stream full.
 fn take_apart<D: Door, R: Rest, K: Sink>(
     config: &Config,
-    first: &mut Shared<Desk>,
+    first: &mut Shared<PlaceTable>,
     worker: ServeWorker<D, R, K>,
     number: u32,
 ) -> (Left<D, K>, bool, bool)
@@ -72,7 +72,7 @@ fn take_apart<D: Door, R: Rest, K: Sink>(
 pub(crate) fn take_all_apart<D: Door, R: Rest, K: Sink>(
     alloc: Global,
     config: &Config,
-    first: &mut Shared<Desk>,
+    first: &mut Shared<PlaceTable>,
     mut workers: Vec<ServeWorker<D, R, K>>,
 ) -> Result<AllLeft<D, K>, OutOfMemory>
     requires few { vec_len workers ≤ 16 }
@@ -110,7 +110,7 @@ pub(crate) fn take_all_apart<D: Door, R: Rest, K: Sink>(
 // Turns the recorder until its stream has nothing more for it, or it has ended. Why it has.
 fn settle<W: Wait, K: Sink>(
     rt: &W,
-    port: &mut Shared<Desk>,
+    port: &mut Shared<PlaceTable>,
     recorder: &mut ServeRecorder<K>,
 ) -> Option<RecEnd>
     requires filed { IsFiledBy (shared_rules port.old) recorder.old }
@@ -172,7 +172,7 @@ fn is_first(end: Option<RecEnd>, from: Option<u64>) -> bool
 
 // The recorder leaves its stream, and gives its file. Whether it has left: nobody else has a pass then, so that it isn't busy,
 // but there may be no memory for the call.
-fn part<K: Sink>(port: &mut Shared<Desk>, recorder: ServeRecorder<K>) -> (K, bool)
+fn part<K: Sink>(port: &mut Shared<PlaceTable>, recorder: ServeRecorder<K>) -> (K, bool)
     requires { IsFiledBy (shared_rules port.old) recorder }
     ensures rules { shared_rules port.new ≡ shared_rules port.old }
     ensures grown { Later (told_at port.old.roots) (told_at port.new.roots) }
@@ -199,7 +199,7 @@ struct Outcome<K: Sink> {
 // The recorder takes what is left of its stream, and leaves.
 fn finish<W: Wait, K: Sink>(
     rt: &W,
-    port: &mut Shared<Desk>,
+    port: &mut Shared<PlaceTable>,
     mut recorder: ServeRecorder<K>,
 ) -> Outcome<K>
     requires filed { IsFiledBy (shared_rules port.old) recorder }
@@ -223,13 +223,13 @@ fn finish<W: Wait, K: Sink>(
 }
 
 // The name of the file of the stream at a place.
-fn file_name(places: &[PlaceRule], place: u32, form: Form) -> Option<&[u8]>
+fn file_name(places: &[PlaceRule], place: u32, form: RecordingForm) -> Option<&[u8]>
     ensures { option_map (λ name. name.now) result ≡ file_name places.now place form }
 {
     let rule = places.get(place as usize)?;
     let name = match form {
-        Form::Flv => rule.flv.as_ref(),
-        Form::Ts => rule.ts.as_ref(),
+        RecordingForm::Flv => rule.flv.as_ref(),
+        RecordingForm::Ts => rule.ts.as_ref(),
     };
     Some(name?.as_slice())
 }
@@ -239,7 +239,7 @@ fn keep<H: House>(
     house: &mut H,
     places: &[PlaceRule],
     place: u32,
-    form: Form,
+    form: RecordingForm,
     file: H::File,
 ) -> bool
     ensures faults { (H.told house.new).faults ≡ (H.told house.old).faults }
@@ -270,7 +270,7 @@ fn note(full: &mut Vec<u32>, place: u32, worn: bool) -> bool
 // full, that is noted.
 fn end_recorder<W: Wait, H: House>(
     rt: &W,
-    port: &mut Shared<Desk>,
+    port: &mut Shared<PlaceTable>,
     house: &mut H,
     full: &mut Vec<u32>,
     places: &[PlaceRule],
@@ -300,7 +300,7 @@ fn end_recorder<W: Wait, H: House>(
 // The same of each, the first of them first.
 fn end_recorders<W: Wait, H: House>(
     rt: &W,
-    port: &mut Shared<Desk>,
+    port: &mut Shared<PlaceTable>,
     house: &mut H,
     full: &mut Vec<u32>,
     places: &[PlaceRule],
@@ -330,7 +330,7 @@ fn end_recorders<W: Wait, H: House>(
 // Ends what is left of a worker. Whether there was memory for all of it.
 fn end_left<W: Wait, H: House>(
     rt: &W,
-    port: &mut Shared<Desk>,
+    port: &mut Shared<PlaceTable>,
     house: &mut H,
     full: &mut Vec<u32>,
     config: &Config,
@@ -362,7 +362,7 @@ fn end_left<W: Wait, H: House>(
 /// a recorder found full come to `full`.
 pub(crate) fn end_all<W: Wait, H: House>(
     rt: &W,
-    port: &mut Shared<Desk>,
+    port: &mut Shared<PlaceTable>,
     house: &mut H,
     full: &mut Vec<u32>,
     config: &Config,

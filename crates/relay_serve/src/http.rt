@@ -18,17 +18,17 @@ use http_worker::HttpWorker;
 use relay_config::Config;
 use relay_outside::{Door, House, Rest};
 use std::alloc::Global;
-use stream_registry::{Desk, Shared};
+use stream_registry::{PlaceTable, Shared};
 
 /// The worker of the HTTP players.
-pub type ServeHttp<D, R> = HttpWorker<Shared<Desk>, D, R>;
+pub type ServeHttp<D, R> = HttpWorker<Shared<PlaceTable>, D, R>;
 
 // The worker whose door listens there.
 fn open_at<H: House>(
     alloc: Global,
     house: &mut H,
     config: &Config,
-    port: Shared<Desk>,
+    port: Shared<PlaceTable>,
     listen: &[u8],
 ) -> Result<ServeHttp<H::Door, H::Rest>, OpenFail>
     requires lawful { Lawful config.now }
@@ -62,9 +62,9 @@ pub(crate) fn spare_ports(wanted: bool) -> usize
 /// One port more, where it is wanted: the last of these.
 pub(crate) fn spare_port(
     wanted: bool,
-    rules: &Shared<Desk>,
-    ports: &mut Vec<Shared<Desk>>,
-) -> Option<Shared<Desk>>
+    rules: &Shared<PlaceTable>,
+    ports: &mut Vec<Shared<PlaceTable>>,
+) -> Option<Shared<PlaceTable>>
     requires some { (if wanted then 1 else 0) ≤ vec_len ports.old }
     requires rules { All (HasRules (shared_rules rules.now)) ports.old.items }
     ensures there { is_some result ≡ wanted }
@@ -82,9 +82,9 @@ pub(crate) fn spare_port(
 /// Its port: the last of these.
 pub(crate) fn own_port(
     config: &Config,
-    rules: &Shared<Desk>,
-    ports: &mut Vec<Shared<Desk>>,
-) -> Option<Shared<Desk>>
+    rules: &Shared<PlaceTable>,
+    ports: &mut Vec<Shared<PlaceTable>>,
+) -> Option<Shared<PlaceTable>>
     requires some { http_workers config.now ≤ vec_len ports.old }
     requires rules { All (HasRules (shared_rules rules.now)) ports.old.items }
     ensures there { is_some result ≡ is_some config.now.http }
@@ -104,8 +104,8 @@ pub(crate) fn open_http<H: House>(
     alloc: Global,
     house: &mut H,
     config: &Config,
-    first: &Shared<Desk>,
-    port: Option<Shared<Desk>>,
+    first: &Shared<PlaceTable>,
+    port: Option<Shared<PlaceTable>>,
 ) -> Result<Option<ServeHttp<H::Door, H::Rest>>, OpenFail>
     requires lawful { Lawful config.now }
     requires there { is_some port ≡ is_some config.now.http }
@@ -140,7 +140,7 @@ pub(crate) struct HttpLeft<D: Door> {
 /// Takes the worker apart. Its port is gathered into the first.
 pub(crate) fn take_http_apart<D: Door, R: Rest>(
     config: &Config,
-    first: &mut Shared<Desk>,
+    first: &mut Shared<PlaceTable>,
     http: Option<ServeHttp<D, R>>,
 ) -> HttpLeft<D>
     requires there { is_some http ≡ is_some config.now.http }

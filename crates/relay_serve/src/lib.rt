@@ -10,14 +10,12 @@ mod counting;
 mod ending;
 mod http;
 mod laws;
-mod put;
 mod reading;
 mod serving;
 mod starting;
 
 pub use http::ServeHttp;
 pub use laws::recordings_law;
-pub use put::{PutFail, put_all};
 pub use reading::{ReadFail, read_text};
 pub use serving::{
     Ending, Ready, code_of, conclude, make_ready, ready_workers, refuse, run_workers, serve,

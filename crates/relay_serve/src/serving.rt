@@ -23,10 +23,10 @@ use crate::ending::{end_all, take_all_apart};
 use crate::http::{
     ServeHttp, open_http, own_port, shut_http, spare_port, spare_ports, take_http_apart,
 };
-use crate::put::{PutFail, put_all};
 use crate::reading::{ReadFail, read_text};
 use crate::starting::{OpenFail, ServeWorker, names_of, open_workers, opens_of};
 use key_guard::Guards;
+use put_text::{PutFail, put_all};
 use relay_base::Status;
 use relay_config::{Config, ConfigFail, http_workers, read_config, report};
 use relay_outside::{Door, House, Rest, Sink, Source};
@@ -35,7 +35,7 @@ use std::alloc::Global;
 use std::sync::Wait;
 use std::thread::Threads;
 use stream_core::StreamLimits;
-use stream_registry::{Desk, Shared, places_law, shared_ports};
+use stream_registry::{PlaceTable, Shared, places_law, shared_ports};
 
 /// How `serve` ends.
 #[derive(Clone, Copy, Debug, PartialEq, Eq)]
@@ -105,10 +105,10 @@ pub fn unopened(fail: OpenFail) -> Ending
 /// What is ready before the first worker runs: a port of the server's own, the workers, and one port more where that was asked for.
 #[derive(Drop)]
 pub struct Ready<D: Door, R: Rest, K: Sink> {
-    pub port: Shared<Desk>,
+    pub port: Shared<PlaceTable>,
     pub workers: Vec<ServeWorker<D, R, K>>,
     pub http: Option<ServeHttp<D, R>>,
-    pub spare: Option<Shared<Desk>>,
+    pub spare: Option<Shared<PlaceTable>>,
 }
 
 /// Asks the house for all doors, rests and files, and makes the workers, and one port more where that is wanted.
@@ -169,7 +169,7 @@ pub fn conclude<W: Wait, H: House, K: Sink>(
     config: &Config,
     house: &mut H,
     out: &mut K,
-    port: &mut Shared<Desk>,
+    port: &mut Shared<PlaceTable>,
     workers: Vec<ServeWorker<H::Door, H::Rest, H::File>>,
     http: Option<ServeHttp<H::Door, H::Rest>>,
     mut full: Vec<u32>,
@@ -223,7 +223,7 @@ pub fn conclude<W: Wait, H: House, K: Sink>(
 fn ready_all<W: Wait, D: Door, R: Rest, K: Sink>(
     rt: &W,
     workers: &mut [ServeWorker<D, R, K>],
-    port: &Shared<Desk>,
+    port: &Shared<PlaceTable>,
     config: &Config,
 )
     requires rules { All (λ x. HasRules (shared_rules port.now) x.bench.port) workers.old }
@@ -243,7 +243,7 @@ fn ready_all<W: Wait, D: Door, R: Rest, K: Sink>(
 pub fn ready_workers<W: Wait, D: Door, R: Rest, K: Sink>(
     rt: &W,
     mut workers: Vec<ServeWorker<D, R, K>>,
-    port: &Shared<Desk>,
+    port: &Shared<PlaceTable>,
     config: &Config,
 ) -> Vec<ServeWorker<D, R, K>>
     requires rules { All (λ x. HasRules (shared_rules port.now) x.bench.port) workers.items }
@@ -262,7 +262,7 @@ pub fn run_workers<T: Threads + Wait + Sync, D: Door + Send, R: Rest + Send, K: 
     rt: &T,
     workers: Vec<ServeWorker<D, R, K>>,
     http: Option<ServeHttp<D, R>>,
-    port: &Shared<Desk>,
+    port: &Shared<PlaceTable>,
     guards: &Guards,
     config: &Config,
 ) -> (Vec<ServeWorker<D, R, K>>, Option<ServeHttp<D, R>>)

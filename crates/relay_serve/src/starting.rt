@@ -18,16 +18,16 @@ use av_unit::{Bytes, OutOfMemory};
 use media_recorder::{FlvRecorder, TsRecorder};
 use relay_config::{Config, OpenRule, PlaceRule};
 use relay_outside::{Door, House, Rest, Sink};
-use relay_worker::{Form, Recorder, Worker};
+use relay_worker::{Recorder, RecordingForm, Worker};
 use std::alloc::Global;
 use stream_core::ShortName;
-use stream_registry::{Desk, Name, NameList, OpenList, OpenName, Shared};
+use stream_registry::{Name, NameList, OpenList, OpenName, PlaceTable, Shared};
 
 /// A worker of the server.
-pub type ServeWorker<D, R, K> = Worker<Shared<Desk>, D, R, K>;
+pub type ServeWorker<D, R, K> = Worker<Shared<PlaceTable>, D, R, K>;
 
 /// A recorder of the server.
-pub(crate) type ServeRecorder<K> = Recorder<Shared<Desk>, K>;
+pub(crate) type ServeRecorder<K> = Recorder<Shared<PlaceTable>, K>;
 
 /// The name of the first recorder.
 const RECORDERS: u64 = 1 << 60;
@@ -90,13 +90,13 @@ pub(crate) fn opens_of(alloc: Global, rules: &[OpenRule]) -> Result<OpenList, Ou
 }
 
 // The name of the recorder of the stream at a place.
-fn recorder_name(place: u32, form: Form) -> u64
+fn recorder_name(place: u32, form: RecordingForm) -> u64
     ensures { result ≡ recorder_name place form }
 {
     let first = RECORDERS + 2 * place as u64;
     match form {
-        Form::Flv => first,
-        Form::Ts => first + 1,
+        RecordingForm::Flv => first,
+        RecordingForm::Ts => first + 1,
     }
 }
 
@@ -104,7 +104,7 @@ fn recorder_name(place: u32, form: Form) -> u64
 fn new_recorder<K: Sink>(
     alloc: Global,
     place: u32,
-    form: Form,
+    form: RecordingForm,
     longest: u32,
     file: K,
 ) -> Result<ServeRecorder<K>, OutOfMemory>
@@ -115,8 +115,11 @@ fn new_recorder<K: Sink>(
 {
     let who = recorder_name(place, form);
     match form {
-        Form::Flv => Ok(Recorder::Flv(FlvRecorder::new(alloc, place, who, longest)?, file)),
-        Form::Ts => Ok(Recorder::Ts(TsRecorder::new(alloc, place, who, longest)?, file)),
+        RecordingForm::Flv => Ok(Recorder::Flv(
+            FlvRecorder::new(alloc, place, who, longest)?,
+            file,
+        )),
+        RecordingForm::Ts => Ok(Recorder::Ts(TsRecorder::new(alloc, place, who, longest)?, file)),
     }
 }
 
@@ -126,7 +129,7 @@ fn open_recording<H: House>(
     house: &mut H,
     worker: &mut ServeWorker<H::Door, H::Rest, H::File>,
     place: u32,
-    form: Form,
+    form: RecordingForm,
     longest: u32,
     name: &[u8],
 ) -> Result<(), OpenFail>
@@ -154,7 +157,7 @@ fn open_if<H: House>(
     house: &mut H,
     worker: &mut ServeWorker<H::Door, H::Rest, H::File>,
     place: u32,
-    form: Form,
+    form: RecordingForm,
     longest: u32,
     name: &Option<Bytes>,
 ) -> Result<(), OpenFail>
@@ -185,8 +188,24 @@ fn open_place<H: House>(
     ensures house { MatchResult result (λ _. H.told house.new ≡ H.told house.old) (λ fail. HouseCause fail (H.told house.old) (H.told house.new)) }
     ensures asked { H.asked house.new ≡ H.asked house.old }
 {
-    open_if(alloc, house, worker, place, Form::Flv, longest, &rule.flv)?;
-    open_if(alloc, house, worker, place, Form::Ts, longest, &rule.ts)?;
+    open_if(
+        alloc,
+        house,
+        worker,
+        place,
+        RecordingForm::Flv,
+        longest,
+        &rule.flv,
+    )?;
+    open_if(
+        alloc,
+        house,
+        worker,
+        place,
+        RecordingForm::Ts,
+        longest,
+        &rule.ts,
+    )?;
     Ok(())
 }
 
@@ -255,7 +274,7 @@ fn open_worker<H: House>(
     house: &mut H,
     config: &Config,
     number: u32,
-    port: Shared<Desk>,
+    port: Shared<PlaceTable>,
 ) -> Result<ServeWorker<H::Door, H::Rest, H::File>, OpenFail>
     requires number { number < 16 }
     requires lawful { Lawful config.now }
@@ -285,8 +304,8 @@ pub(crate) fn open_workers<H: House>(
     alloc: Global,
     house: &mut H,
     config: &Config,
-    first: &Shared<Desk>,
-    mut ports: Vec<Shared<Desk>>,
+    first: &Shared<PlaceTable>,
+    mut ports: Vec<Shared<PlaceTable>>,
 ) -> Result<Vec<ServeWorker<H::Door, H::Rest, H::File>>, OpenFail>
     requires lawful { Lawful config.now }
     requires few { vec_len ports ≤ 16 }

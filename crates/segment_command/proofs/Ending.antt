@@ -8,7 +8,7 @@ use Rattle.av_unit.specs.declared.item.Item.{Item}
 use Rattle.flv_tags.specs.declared.tag.Tag.{Tag}
 use Rattle.flv_tags.specs.Reads.{IsFile, Reads}
 use Rattle.file_commands.specs.Outcome.{IsReadTo, Seen, most_bytes}
-use Rattle.file_commands.specs.Written.{WritesPart}
+use Rattle.put_text.specs.Written.{WritesPart}
 use Rattle.hls_segments.specs.Cuts.{segments, some_left_out}
 use Rattle.hls_segments.specs.Known.{Known}
 use Rattle.hls_segments.specs.Playlist.{playlist}

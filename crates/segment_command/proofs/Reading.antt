@@ -18,7 +18,7 @@ use Rattle.flv_tags.specs.Feeds.{IsFedTo, IsRefused, Stands as TagsStand}
 use Rattle.flv_tags.specs.Reads.{Reads}
 use Rattle.flv_tags.specs.Stops.{Ends as TagsEnd, Stops as TagsStop}
 use Rattle.file_commands.specs.Outcome.{most_bytes}
-use Rattle.file_commands.specs.Remux.{items, items_of, place_of}
+use Rattle.file_commands.specs.Remux.{items, items_of, offset_of}
 use Rattle.hls_segments.specs.Cuts.{is_too_many}
 use Rattle.hls_segments.specs.Known.{Known}
 use Rattle.segment_command.specs.declared.stop.Fault.{Fault}
@@ -106,7 +106,7 @@ pub refused_step : (e : FlvFail) (name piece : List ℕ) (r r' : TagsKnown) (k :
     → IsRefused r piece e r' → StandsBy name (list_of k) p o start now
     → Stops (IsEndedBy (StepEnds k.least) (r.fed ++ piece) k.past) (IsReadSo (r.fed ++ piece) k.past) (stop_of_tags e) name k p o start now
 refused_step e name piece r r' k p o start now fits i s = by e refl i.cause where
-  here : (c : FlvFail) → e ≡ c → TagsStop (r.fed ++ piece) (length r'.fed) r'.given e → IsRefusedHere (r.fed ++ piece) (place_of c) r.given
+  here : (c : FlvFail) → e ≡ c → TagsStop (r.fed ++ piece) (length r'.fed) r'.given e → IsRefusedHere (r.fed ++ piece) (offset_of c) r.given
   here c is x = record {
     count = length r'.fed;
     cause = c;

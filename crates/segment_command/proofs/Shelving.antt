@@ -4,8 +4,8 @@ use Rattle.std.specs.Option.{option_map}
 use Rattle.std.specs.Io.KnownBytes.{append_known}
 use Rattle.relay_outside.specs.Counts.{Rose}
 use Rattle.relay_outside.specs.Doors.{with_one}
-use Rattle.relay_outside.specs.Houses.{HouseTold, IsNewFile, Kept, Keeps, Spoils, kept_file}
-use Rattle.file_commands.specs.Written.{WritesPart}
+use Rattle.relay_outside.specs.Houses.{HouseTold, IsNewFile, KeptFile, Keeps, Spoils, kept_file}
+use Rattle.put_text.specs.Written.{WritesPart}
 use Rattle.hls_segments.specs.Playlist.{file_name}
 use Rattle.segment_command.specs.declared.stop.Fault.{Fault}
 use Rattle.segment_command.specs.declared.stop.Fault.TheVariants.{Sink, House, Memory}
@@ -18,19 +18,19 @@ pub grew_none : {X : Type 0} (k : Option (List X)) → Grew [] k k
 grew_none k = λ list e. (list, e, sym (append-nil list))
 
 -- a file more
-grew_by : (xs : List Kept) (a b c : Option (List Kept)) (title bytes : List ℕ) (n : ℕ) (h : Option (List ℕ)) → Grew xs a b → c ≡ with_one b (kept_file title h n) → Holds h bytes
+grew_by : (xs : List KeptFile) (a b c : Option (List KeptFile)) (title bytes : List ℕ) (n : ℕ) (h : Option (List ℕ)) → Grew xs a b → c ≡ with_one b (kept_file title h n) → Holds h bytes
     → Grew (xs ++ record { name = title; bytes = bytes; faults = n } ∷ []) a c
 grew_by xs a None c title bytes n h g e holds = λ list is. absurd (let f : None ≡ Some list = sym e ∙ is in cc)
 grew_by xs a (Some ys) c title bytes n None g e holds = λ list is. absurd (let f : None ≡ Some list = sym e ∙ is in cc)
 grew_by xs a (Some ys) c title bytes n (Some held) g e holds = λ list is.
     let before = g ys refl in
     let same : held ≡ bytes = holds held refl in
-    let file : List ℕ → Kept = λ b. record { name = title; bytes = b; faults = n } in
+    let file : List ℕ → KeptFile = λ b. record { name = title; bytes = b; faults = n } in
     let f : Some (ys ++ file held ∷ []) ≡ Some list = sym e ∙ is in
     let l : ys ++ file held ∷ [] ≡ list = cc in (
       before.0,
       before.1,
-      sym l ∙ ap (λ (b : List ℕ). ys ++ file b ∷ []) same ∙ ap (λ (y : List Kept). y ++ file bytes ∷ []) before.2
+      sym l ∙ ap (λ (b : List ℕ). ys ++ file b ∷ []) same ∙ ap (λ (y : List KeptFile). y ++ file bytes ∷ []) before.2
           ∙ append_assoc before.0 xs (file bytes ∷ []),
     )
 
@@ -52,10 +52,10 @@ spoils_none : (n before now : ℕ) → n ≡ 0 → Spoils n before now → now �
 spoils_none zero before now e s = s
 spoils_none (suc n) before now e s = absurd (omega (arith, e))
 
-kept_after : (old new : HouseTold) (n : ℕ) (file : Option Kept) → Keeps old new n file → new.kept ≡ with_one old.kept file
+kept_after : (old new : HouseTold) (n : ℕ) (file : Option KeptFile) → Keeps old new n file → new.kept ≡ with_one old.kept file
 kept_after old new n file k = ap (λ (t : HouseTold). t.kept) k.1
 
-faults_after : (old new : HouseTold) (n : ℕ) (file : Option Kept) → Keeps old new n file → new.faults ≡ old.faults
+faults_after : (old new : HouseTold) (n : ℕ) (file : Option KeptFile) → Keeps old new n file → new.faults ≡ old.faults
 faults_after old new n file k = ap (λ (t : HouseTold). t.faults) k.1
 
 same_then : (start old new : HouseTold) → IsSameHouse start old → new.faults ≡ old.faults → new.spoiled ≡ old.spoiled → IsSameHouse start new
@@ -143,7 +143,7 @@ kept_last view (Ok x) name list text title count (Some f) o1 o2 start old new b 
     let named : kept_files name b.whole ++ whole_file title (b.wrote ++ text) ∷ [] ≡ kept_files name list =
     ap (λ (t : List ℕ). kept_files name b.whole ++ whole_file t (b.wrote ++ text) ∷ []) b.title_is ∙ ap (kept_files name) (sym b.list_is) in
     record {
-      kept = subst (λ (l : List Kept). Grew l start.kept new.kept) named more;
+      kept = subst (λ (l : List KeptFile). Grew l start.kept new.kept) named more;
       same = same_then start old new b.same (faults_after old new f.faults (kept_file title holds f.faults) e) (spoils_none f.faults old.spoiled new.spoiled b.sound e.0);
     }
 kept_last view (Err fault) name list text title count None o1 None start old new u p gone k =
@@ -231,7 +231,7 @@ pub begin_fails : {F : Type 0} (view : F → FileSeen) (o : Option F) (fault : F
 begin_fails view (Some f) fault name list text title start old new k none e = absurd (let h : Some f ≡ None = none in cc)
 begin_fails view None Sink name list text title start old new k none e = absurd e
 begin_fails view None House name list text title start old new k none e = (
-  record { newer = text ∷ []; whole = list; list_is = refl; kept = subst (λ (x : Option (List Kept)). Grew (kept_files name list) start.kept x) (sym (ap (λ (t : HouseTold). t.kept) e.1)) k.kept },
+  record { newer = text ∷ []; whole = list; list_is = refl; kept = subst (λ (x : Option (List KeptFile)). Grew (kept_files name list) start.kept x) (sym (ap (λ (t : HouseTold). t.kept) e.1)) k.kept },
   subst (λ (n : ℕ). Rose n new.faults) k.same.faults_same e.0,
   ap (λ (t : HouseTold). t.spoiled) e.1 ∙ k.same.spoiled_same,
 )

@@ -6,7 +6,7 @@ use Rattle.flv_tags.specs.declared.fail.FlvFail.{FlvFail}
 use Rattle.flv_tags.specs.Reads.{Reads}
 use Rattle.flv_tags.specs.Stops.{Ends, Stops}
 use Rattle.file_commands.specs.Outcome.{most_bytes}
-use Rattle.file_commands.specs.Remux.{place_of}
+use Rattle.file_commands.specs.Remux.{offset_of}
 
 -- these bytes of a source were read, by what is left of it before and now
 abbrev pub WasRead : List ℕ → Option (List ℕ) → Option (List ℕ) → Type 0
@@ -29,14 +29,14 @@ pub record IsStopped (file : List ℕ) (at : ℕ) (tags : List Tag) : Type 0 whe
   pub count : ℕ
   pub cause : FlvFail
   pub stops : Stops front count tags cause
-  pub place : at ≡ place_of cause
+  pub place : at ≡ offset_of cause
 
 -- the end of all
 pub record IsCutOff (file : List ℕ) (at : ℕ) (tags : List Tag) : Type 0 where
   pub within : length file ≤ most_bytes
   pub cause : FlvFail
   pub ends : Ends file tags cause
-  pub place : at ≡ place_of cause
+  pub place : at ≡ offset_of cause
 
 -- or that they are too many
 pub record IsTooLong (file : List ℕ) (at : ℕ) (tags : List Tag) : Type 0 where

@@ -16,7 +16,7 @@ use Rattle.flv_tags.specs.Reads.{IsFile, Reads}
 use Rattle.flv_tags.specs.Stops.{Ends as TagsEnd, Stops as TagsStop}
 use Rattle.av_unit.specs.declared.item.Item.{Item}
 use Rattle.file_commands.specs.Outcome.{Seen, most_bytes}
-use Rattle.file_commands.specs.Remux.{items_of, place_of}
+use Rattle.file_commands.specs.Remux.{items_of, offset_of}
 use Rattle.hls_segments.specs.declared.cut.CutFail.{CutFail}
 use Rattle.hls_segments.specs.declared.cut.CutFail.TheVariants as cutting
 use Rattle.hls_segments.specs.Cuts.{is_too_many, most_segments, segments, some_left_out}
@@ -111,7 +111,7 @@ pub record IsRefusedHere (read : List ℕ) (at : ℕ) (tags : List Tag) : Type 0
   pub count : ℕ
   pub cause : FlvFail
   pub stops : TagsStop read count tags cause
-  pub place : at ≡ place_of cause
+  pub place : at ≡ offset_of cause
 
 abbrev pub StepEnds : ℕ → End → List ℕ → List Tag → Type 0
 StepEnds least Whole read tags = ⊥
@@ -132,7 +132,7 @@ TakeEnds least SourceFault all tags = ⊥
 abbrev pub FileEnds : Result (Unit {0}) Stop → List ℕ → List Tag → Type 0
 FileEnds (Ok x) fed tags = IsFile fed tags
 FileEnds (Err (Ended Whole)) fed tags = ⊥
-FileEnds (Err (Ended (Refused at))) fed tags = (cause : FlvFail) × TagsEnd fed tags cause × (at ≡ place_of cause)
+FileEnds (Err (Ended (Refused at))) fed tags = (cause : FlvFail) × TagsEnd fed tags cause × (at ≡ offset_of cause)
 FileEnds (Err (Ended TooMany)) fed tags = ⊥
 FileEnds (Err (Ended SourceFault)) fed tags = ⊥
 FileEnds (Err (Broken Sink)) fed tags = ⊥

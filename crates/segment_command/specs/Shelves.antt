@@ -4,7 +4,7 @@ use Rattle.std.specs.Prelude.{◌≡◌, ℕ, List, [], ◌∷◌, ◌++◌, len
 use Rattle.std.specs.Io.KnownBytes.{append_known}
 use Rattle.relay_outside.specs.Counts.{Rose}
 use Rattle.relay_outside.specs.Houses.{HouseTold, Keeps, Refuses, kept_file}
-use Rattle.file_commands.specs.Written.{WritesPart}
+use Rattle.put_text.specs.Written.{WritesPart}
 use Rattle.hls_segments.specs.declared.cut.Cut.{Cut}
 use Rattle.hls_segments.specs.declared.cut.Cut.TheVariants.{First, Next, Same, Nothing}
 use Rattle.hls_segments.specs.Playlist.{file_name}

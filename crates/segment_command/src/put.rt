@@ -1,10 +1,11 @@
 ghost use Rattle.std.specs.Prelude.{◌≡◌, MatchResult};
 ghost use Rattle.std.specs.Io.KnownBytes.{append_known};
-ghost use Rattle.file_commands.specs.Written.{WritesPart};
+ghost use Rattle.put_text.specs.Written.{WritesPart};
 ghost use Rattle.segment_command.specs.Shelves.{PutCause};
 
 use crate::stop::Fault;
-use relay_outside::{Put, Sink};
+use put_text::PutFail;
+use relay_outside::Sink;
 
 /// Puts all of the text.
 pub(crate) fn put_all<K: Sink>(out: &mut K, text: &[u8]) -> Result<(), Fault>
@@ -12,13 +13,9 @@ pub(crate) fn put_all<K: Sink>(out: &mut K, text: &[u8]) -> Result<(), Fault>
         (λ _. WritesPart text.now (K.holds out.old) (K.holds out.new)) }
     ensures faults { MatchResult result (λ _. K.faults out.new ≡ K.faults out.old) (λ fault. PutCause fault (K.faults out.old) (K.faults out.new)) }
 {
-    let mut left = text;
-    while !left.is_empty() {
-        match out.put(left) {
-            Put::Took(count) => left = &left[count..],
-            Put::Failed => return Err(Fault::Sink),
-            Put::OutOfMemory => return Err(Fault::Memory),
-        }
+    match put_text::put_all(out, text) {
+        Ok(()) => Ok(()),
+        Err(PutFail::SinkFault) => Err(Fault::Sink),
+        Err(PutFail::OutOfMemory) => Err(Fault::Memory),
     }
-    Ok(())
 }

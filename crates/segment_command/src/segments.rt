@@ -2,7 +2,7 @@ ghost use Rattle.std.specs.Prelude.{◌≡◌, ◌↔◌, ℕ, List, [], None, S
 ghost use Rattle.std.specs.Option.{option_map};
 ghost use Rattle.std.specs.Io.KnownBytes.{append_known};
 ghost use Rattle.file_commands.specs.Outcome.{seen};
-ghost use Rattle.file_commands.specs.Written.{WritesPart};
+ghost use Rattle.put_text.specs.Written.{WritesPart};
 ghost use Rattle.hls_segments.specs.Cuts.{segments};
 ghost use Rattle.hls_segments.specs.Playlist.{playlist};
 ghost use Rattle.segment_command.specs.Outcome.{Outcome, past_of};

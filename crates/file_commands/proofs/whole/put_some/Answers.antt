@@ -1,6 +1,6 @@
 use Rattle.std.proofs.Common.{sym, subst, List, ℕ, rules}
-use Rattle.file_commands.specs.Written.{Writes}
-use Rattle.file_commands.proofs.Writing.{write_rest}
+use Rattle.put_text.specs.Written.{Writes}
+use Rattle.put_text.proofs.Writing.{write_rest}
 use Rattle.file_commands.proofs.Pieces.{put_part}
 use Rattle.file_commands.proofs.whole.put_some.Goals as goal
 

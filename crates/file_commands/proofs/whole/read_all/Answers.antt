@@ -1,8 +1,9 @@
 use Rattle.std.proofs.Common.{◌∙◌, ◌≤◌, ◌^◌, length, take, sym, ap, subst, arith, length-append, rules, List, ℕ, refl}
 use Rattle.std.proofs.lemmas.List.{length-take}
 use Rattle.std.specs.Io.KnownBytes.{prepend_known}
-use Rattle.file_commands.specs.Written.{Writes}
-use Rattle.file_commands.proofs.Writing.{nothing_written, prepend_known_nil}
+use Rattle.put_text.specs.Written.{Writes}
+use Rattle.put_text.proofs.Writing.{nothing_written}
+use Rattle.file_commands.proofs.Writing.{prepend_known_nil}
 use Rattle.file_commands.proofs.Files.{piece_fails, file_ends, file_told, fault_ends, read_more, source_kept, source_kept_by, sink_faults, sink_faults_by}
 use Rattle.file_commands.proofs.whole.read_all.Goals as goal
 

@@ -1,7 +1,7 @@
 use Rattle.std.proofs.Common.{◌≡◌, ◌≤◌, ◌<◌, ◌-◌, ◌^◌, length}
 use Rattle.std.specs.Io.KnownBytes.{prepend_known}
 use Rattle.file_commands.specs.Outcome.{most_pending}
-use Rattle.file_commands.specs.Written.{Writes}
+use Rattle.put_text.specs.Written.{Writes}
 use Rattle.file_commands.proofs.whole.read_all.Given as goal
 
 abbrev pub invariant-loop-count : goal.invariant-loop-count

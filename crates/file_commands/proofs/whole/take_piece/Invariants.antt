@@ -1,6 +1,6 @@
 use Rattle.std.proofs.Common.{◌≡◌, ◌<◌, ◌++◌, ℕ, List, Option, length}
 use Rattle.file_commands.specs.Outcome.{most_pending}
-use Rattle.file_commands.specs.Written.{Writes}
+use Rattle.put_text.specs.Written.{Writes}
 use Rattle.file_commands.proofs.whole.take_piece.Given as goal
 
 abbrev pub invariant-loop-left : goal.invariant-loop-left

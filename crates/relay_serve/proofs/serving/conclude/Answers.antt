@@ -3,7 +3,7 @@ use Rattle.std.specs.List.{range_with_len}
 use Rattle.std.proofs.lemmas.List.Elements.{All-weaker}
 use Rattle.std.specs.Prelude.{All, Contains, IfSome, slice_get}
 use Rattle.std.specs.Option.{option_map}
-use Rattle.relay_outside.specs.Houses.{Asked, Kept}
+use Rattle.relay_outside.specs.Houses.{Asked, KeptFile}
 use Rattle.stream_registry.specs.Names.{PortRules}
 use Rattle.stream_registry.specs.Gates.{told_at}
 use Rattle.stream_registry.specs.Refusals.{IsFull}
@@ -92,7 +92,7 @@ returns-in-Ok-put_all-clause-runs g c = λ before_asked all before_named names.
             (ap (range_with_len 0) count) refl shut;
         players = c.shut_http.ensures.shut whole.1 streams joined worn player;
       };
-      kept = subst (λ (o : Option (List Kept)). TellsMore (IsRecorded streams joined k (IsWorn c.in-Ok-count_all.counts.items) config.places) (recordings_upto config config.workers) before.kept o) (sym c.shut_http.ensures.kept)
+      kept = subst (λ (o : Option (List KeptFile)). TellsMore (IsRecorded streams joined k (IsWorn c.in-Ok-count_all.counts.items) config.places) (recordings_upto config config.workers) before.kept o) (sym c.shut_http.ensures.kept)
           (more_weaker (IsRecorded streams joined h full config.places) (IsRecorded streams joined k (IsWorn c.in-Ok-count_all.counts.items) config.places)
           (recorded_later streams joined joined h k (later_same joined) c.count_all.ensures.grown full (IsWorn c.in-Ok-count_all.counts.items) config.places
           (λ q l f. c.in-Ok-count_all.ensures.worn q (omega (arith, l, each, c.in-Ok-count_all.ensures.each, c.in-Ok-count_all.counts.ok.0)) (subst (λ (l : List ℕ). Contains l q) (sym slice) f))) (recordings_upto config config.workers) before.kept mid.kept

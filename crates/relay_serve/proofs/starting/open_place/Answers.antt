@@ -1,4 +1,4 @@
-use Rattle.relay_worker.specs.declared.recorder.Form.TheVariants as form
+use Rattle.relay_worker.specs.declared.recorder.RecordingForm.TheVariants as form
 use Rattle.relay_serve.specs.Recordings.{names_if, recording, recording_if}
 use Rattle.relay_serve.proofs.Enlisting.{enlists_then}
 use Rattle.relay_serve.proofs.Naming.{named_then}

@@ -1,6 +1,6 @@
 use Rattle.std.proofs.Common.{◌∙◌}
-use Rattle.relay_serve.proofs.Puts.{put_more}
-use Rattle.relay_serve.proofs.put.put_all.Goals as goal
+use Rattle.put_text.proofs.Writing.{put_more}
+use Rattle.put_text.proofs.put.put_all.Goals as goal
 
 pub loop-left-preserved : goal.loop-left-preserved
 loop-left-preserved g c = record {

@@ -1,6 +1,6 @@
 use Rattle.std.proofs.Common.{◌≡◌, length}
-use Rattle.file_commands.specs.Written.{Writes}
-use Rattle.segment_command.proofs.put.put_all.Given as goal
+use Rattle.put_text.proofs.put.put_all.Given as goal
+use Rattle.put_text.specs.Written.{Writes}
 
 abbrev pub invariant-loop-left : goal.invariant-loop-left
 invariant-loop-left g l = record {
