@@ -52,7 +52,7 @@ use Rattle.relay_session.specs.Acting.{HasGrant, IsHolders, IsRole, Suits, Suits
 use Rattle.relay_session.specs.SeatOwn.{Acts, ActsSo}
 use Rattle.relay_session.specs.SeatState.{IsGranted, IsNoted, Makes, SeatState, active_after, active_at, active_then, is_over, place_of, stays}
 use Rattle.relay_session.specs.SeatVisits.{Visit, calls_at}
-use Rattle.relay_session.specs.Session.{does, does_by as does_with, entry_by, place_by, place_in, place_of as place_after}
+use Rattle.relay_session.specs.Session.{does, does_by as does_with, entry_by, place_by, place_in, place_after}
 use Rattle.relay_session.specs.declared.end.End.{End}
 use Rattle.relay_session.specs.declared.seat_answers.Active.{Active}
 use Rattle.relay_session.specs.declared.seat_answers.Active.TheVariants as active

@@ -83,6 +83,7 @@ stopped_then desk old now next input left e f s =
       left = s.left;
       split = append_assoc f.fed.fed s.fed s.left ∙ ap (λ (l : List ℕ). f.fed.fed ++ l) s.split ∙ f.fed.split;
       x = s.x ∙ ap (λ (l : List ℕ). l ++ s.fed) f.fed.x ∙ append_assoc old.x f.fed.fed s.fed;
+      version = s.version;
       counted = s.counted;
       fixed = s.fixed ∙ f.fed.fixed;
       kept = s.kept ∙ ap (λ (x : Heard). x.kept) f.heard;

@@ -40,7 +40,7 @@ use Rattle.command_dialog.specs.declared.types.Act.{Act}
 use Rattle.command_dialog.specs.declared.types.Act.TheVariants as act
 use Rattle.command_dialog.specs.Dialog.{call_of, shows}
 use Rattle.command_dialog.specs.Dialog as dialog
-use Rattle.relay_session.proofs.Room.{room_none}
+use Rattle.relay_session.proofs.Room.{room_early, room_let}
 use Rattle.relay_session.proofs.Weights.{weight_hand}
 use Rattle.relay_session.specs.Bounds.{Acts, HasRoom, weight}
 use Rattle.relay_session.specs.Feeding.{IsSent}
@@ -125,7 +125,7 @@ hand_now c piece used k l h u ke =
     ke ∙ ap (λ (v : List ℕ). record { fed = v ++ read_of c.hand.fed piece; failed = None }) (hand_is c l h) ∙ ap (λ (v : List ℕ). record { fed = c.x ++ v; failed = None }) (hand_read c piece used l h u)
 
 -- the first byte is the first
-version_kept : (x q : List ℕ) → bad_version x ≡ None → 0 < length x → bad_version (x ++ q) ≡ None
+pub version_kept : (x q : List ℕ) → bad_version x ≡ None → 0 < length x → bad_version (x ++ q) ≡ None
 version_kept [] q e some = absurd (omega (arith, some))
 version_kept (b ∷ x) q e some = e
 
@@ -135,6 +135,10 @@ version_take [] [] zero some e = refl
 version_take [] [] (suc n) some e = refl
 version_take [] (b ∷ piece) zero some e = absurd (omega (arith, some))
 version_take [] (b ∷ piece) (suc n) some e = e
+
+-- whatever the handshake then keeps, it has room
+pub room_hand : (c : Core) (k : Handshake) → IsSound c → length c.x < hand_bytes → HasRoom k c.reader c.kept
+room_hand c k l h = room_early k c.reader c.kept (l.placed (l.early h)).kept (l.fed ∙ drop_all hand_bytes c.x (omega (arith, h))) l.short
 
 pub sound_hand : (c : Core) (piece x : List ℕ) (o : Owing) (used : ℕ) (k : Handshake) (more : List ℕ) → IsSound c → length c.x < hand_bytes → 0 < used → used ≡ used_of c.hand.fed piece
     → k ≡ record { fed = c.hand.fed ++ read_of c.hand.fed piece; failed = None } → length k.fed ≤ hand_bytes → x ≡ c.x ++ take used piece → bad_version (c.hand.fed ++ piece) ≡ None
@@ -161,7 +165,7 @@ sound_hand c piece x o used k more l h some u ke most xe ver be oe =
       sent = l.sent;
       others = omega (arith, l.others, oe, ap length be, length-append (pending c.outgoing) more);
       acts = l.acts;
-      room = l.room;
+      room = room_hand c k l h;
     })
 
 pub before_hand : (desk : Ask → Grant) (c : Core) (piece more x : List ℕ) (o : Owing) (used : ℕ) (k : Handshake) → IsSound c → length c.x < hand_bytes → used ≡ used_of c.hand.fed piece
@@ -209,7 +213,7 @@ pub says_within : (o p : Owing) (l : List Message) → Says o l p → o.others �
 says_within o p l s w = omega (arith, w, says_others o p l s)
 
 pub sound_fed : (c : Core) (part x : List ℕ) (used : ℕ) (m : Option Message) (r : ReaderKnown) (i : InWindow) (b : OutWindow) (s : State) (o : Owing) (kept : Option Entry) (place : Option ℕ) → IsSound c → hand_bytes ≤ length c.x → IsFedTo c.reader part used m r
-    → i.taken ≡ c.inbound.taken + used → b.sent ≡ c.outbound.sent → o.others ≤ length (pending o) → (place ≡ None → IsIdle kept s) → Acts kept → HasRoom r kept → x ≡ c.x ++ take used part
+    → i.taken ≡ c.inbound.taken + used → b.sent ≡ c.outbound.sent → o.others ≤ length (pending o) → (place ≡ None → IsIdle kept s) → Acts kept → HasRoom c.hand r kept → x ≡ c.x ++ take used part
     → IsSound (record c { reader = r; inbound = i; outbound = b; dialog = s; outgoing = o; kept = kept; place = place; fed = c.fed + used; x = x })
 sound_fed c part x used m r i b s o kept place l h f t be oe pl ac ro xe =
     let q = take used part in
@@ -300,7 +304,7 @@ sound_heard c e o s calls l k oe = record {
   sent = l.sent;
   others = oe;
   acts = tt;
-  room = room_none c.reader None refl l.short;
+  room = room_let c.hand c.reader c.kept l.room;
 }
 
 pub on_err : {A B : Type 0} (r : Result A B) (P : Type 0) → P → OnErr r P

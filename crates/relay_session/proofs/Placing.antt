@@ -32,7 +32,7 @@ use Rattle.command_dialog.specs.State.{State}
 use Rattle.av_unit.specs.Media.{Media}
 use Rattle.relay_session.specs.Keeping.{IsIdle}
 use Rattle.relay_session.specs.Places.{IsGrantThere, IsOffered, IsThere}
-use Rattle.relay_session.specs.Session.{does, does_by as does_with, entry_by, place_by, place_in, place_of}
+use Rattle.relay_session.specs.Session.{does, does_by as does_with, entry_by, place_by, place_in, place_after}
 
 -- ---- where no role is active, no message turns a switch or is published
 
@@ -133,7 +133,7 @@ calm s m e = subst (λ (p : Phase). Calm (meaning (record { window = s.window; a
 some_none : {X : Type 0} (x : X) → Some x ≡ None → ⊥
 some_none x e = cc
 
-place_none : (place : Option ℕ) (a : Option Act) → place_of place a ≡ None → place ≡ None
+place_none : (place : Option ℕ) (a : Option Act) → place_after place a ≡ None → place ≡ None
 place_none place None e = e
 place_none place (Some (act.Begin p name)) e = absurd (some_none p e)
 place_none place (Some (act.Join p name)) e = absurd (some_none p e)
@@ -145,7 +145,7 @@ pub record IsStill (a : Option Act) (s : State) : Type 0 where
   pub makes : a ≡ None
   pub phase : s.phase ≡ phase.Idle
 
-asked_still : (place : Option ℕ) (r : Role) (id : ℕ) (name : List ℕ) (g : Option Grant) → place_of place (calls_by r name g) ≡ None → (calls_by r name g ≡ None) × (asked r id g ≡ phase.Idle)
+asked_still : (place : Option ℕ) (r : Role) (id : ℕ) (name : List ℕ) (g : Option Grant) → place_after place (calls_by r name g) ≡ None → (calls_by r name g ≡ None) × (asked r id g ≡ phase.Idle)
 asked_still place role.Publish id name (Some (grant.Place p)) e = absurd (some_none p e)
 asked_still place role.Play id name (Some (grant.Place p)) e = absurd (some_none p e)
 asked_still place role.Publish id name (Some grant.NoName) e = (refl, refl)
@@ -156,7 +156,7 @@ asked_still place role.Play id name (Some grant.Refused) e = (refl, refl)
 asked_still place role.Play id name None e = (refl, refl)
 
 still_by : (desk : Ask → Grant) (s : State) (m : Message) (place : Option ℕ) (w : Result Meant DialogFail) → (place ≡ None → s.phase ≡ phase.Idle) → (s.phase ≡ phase.Idle → Calm w)
-    → place_of place (does_by desk s m w).makes ≡ None → IsStill (does_by desk s m w).makes (does_by desk s m w).state
+    → place_after place (does_by desk s m w).makes ≡ None → IsStill (does_by desk s m w).makes (does_by desk s m w).state
 unfolding makes after
 still_by desk s m place (Err e) f c p = record { makes = refl; phase = f p }
 still_by desk s m place (Ok meant.Passed) f c p = record { makes = refl; phase = f p }
@@ -170,7 +170,7 @@ still_by desk s m place (Ok (meant.Closes id)) f c p =
 still_by desk s m place (Ok (meant.Turns q)) f c p = absurd (c (f p))
 still_by desk s m place (Ok meant.Media) f c p = absurd (c (f (place_none place _ p)))
 
-still : (desk : Ask → Grant) (s : State) (m : Message) (place : Option ℕ) → (place ≡ None → s.phase ≡ phase.Idle) → place_of place (dialog.does desk s m).makes ≡ None → IsStill (dialog.does desk s m).makes (dialog.does desk s m).state
+still : (desk : Ask → Grant) (s : State) (m : Message) (place : Option ℕ) → (place ≡ None → s.phase ≡ phase.Idle) → place_after place (dialog.does desk s m).makes ≡ None → IsStill (dialog.does desk s m).makes (dialog.does desk s m).state
 unfolding dialog.does
 still desk s m place f p = still_by desk s m place (meaning s m) f (calm s m) p
 
@@ -186,7 +186,7 @@ idle_after desk s m place who n f p = idle_in desk s m place who n (control_in m
 
 -- ---- the place is one that the desk grants, or the one before
 
-asked_there : (place : Option ℕ) (count : ℕ) (r : Role) (name : List ℕ) (g : Grant) → IsGrantThere count g → IsThere count place → IsThere count (place_of place (calls_by r name (Some g)))
+asked_there : (place : Option ℕ) (count : ℕ) (r : Role) (name : List ℕ) (g : Grant) → IsGrantThere count g → IsThere count place → IsThere count (place_after place (calls_by r name (Some g)))
 asked_there place count role.Publish name (grant.Place p) i t = i
 asked_there place count role.Play name (grant.Place p) i t = i
 asked_there place count role.Publish name grant.NoName i t = t
@@ -194,21 +194,21 @@ asked_there place count role.Publish name grant.Refused i t = t
 asked_there place count role.Play name grant.NoName i t = t
 asked_there place count role.Play name grant.Refused i t = t
 
-if_place : (place : Option ℕ) (b : Bool) (a : Act) → place_of place (Some a) ≡ place → place_of place (if b then Some a else None) ≡ place
+if_place : (place : Option ℕ) (b : Bool) (a : Act) → place_after place (Some a) ≡ place → place_after place (if b then Some a else None) ≡ place
 if_place place true a e = e
 if_place place false a e = refl
 
-ends_place : (place : Option ℕ) (id : ℕ) (p : Phase) → place_of place (ends id p) ≡ place
+ends_place : (place : Option ℕ) (id : ℕ) (p : Phase) → place_after place (ends id p) ≡ place
 ends_place place id (phase.Publishes n size) = if_place place (n == id) act.End refl
 ends_place place id (phase.Plays p) = if_place place (p.id == id) (act.Leave p.player) refl
 ends_place place id phase.Idle = refl
 ends_place place id (phase.Asked r n) = refl
 
-push_place : (place : Option ℕ) (o : Option Media) → place_of place (option_map act.Push o) ≡ place
+push_place : (place : Option ℕ) (o : Option Media) → place_after place (option_map act.Push o) ≡ place
 push_place place None = refl
 push_place place (Some u) = refl
 
-there_by : (desk : Ask → Grant) (s : State) (m : Message) (place : Option ℕ) (count : ℕ) (w : Result Meant DialogFail) → IsOffered desk count → IsThere count place → IsThere count (place_of place (does_by desk s m w).makes)
+there_by : (desk : Ask → Grant) (s : State) (m : Message) (place : Option ℕ) (count : ℕ) (w : Result Meant DialogFail) → IsOffered desk count → IsThere count place → IsThere count (place_after place (does_by desk s m w).makes)
 unfolding makes
 there_by desk s m place count (Err e) o t = t
 there_by desk s m place count (Ok meant.Passed) o t = t
@@ -220,7 +220,7 @@ there_by desk s m place count (Ok (meant.Closes id)) o t = subst (IsThere count)
 there_by desk s m place count (Ok (meant.Turns p)) o t = t
 there_by desk s m place count (Ok meant.Media) o t = subst (IsThere count) (sym (push_place place (published_in s.phase m))) t
 
-there_command : (desk : Ask → Grant) (s : State) (m : Message) (place : Option ℕ) (count : ℕ) → IsOffered desk count → IsThere count place → IsThere count (place_of place (dialog.does desk s m).makes)
+there_command : (desk : Ask → Grant) (s : State) (m : Message) (place : Option ℕ) (count : ℕ) → IsOffered desk count → IsThere count place → IsThere count (place_after place (dialog.does desk s m).makes)
 unfolding dialog.does
 there_command desk s m place count o t = there_by desk s m place count (meaning s m) o t
 

@@ -1,16 +1,21 @@
 -- Where a message ends, it and the parts of others have room together
 use Rattle.std.proofs.Common.{◌≡◌, ℕ, ◌+◌, ◌<◌, ◌≤◌, zero, suc, Bool, true, false, nat_lt, nat_eq, cond, List, ◌∷◌, [], ◌++◌, length, take, drop, get_or, set, Option, Some, None, refl, sym, ap, ◌∙◌, subst, arith, length-append, length-drop}
 use Rattle.std.specs.List.{concat}
+use Rattle.std.proofs.lemmas.Bool.Decides.{nat_tests}
+use Rattle.std.proofs.lemmas.List.{length-take}
 use Rattle.relay_base.specs.Numbers.{be32_of}
-use Rattle.chunk_wire.specs.declared.kept.Kept.{Kept}
+use Rattle.chunk_wire.specs.declared.kept.ChunkStream.{ChunkStream}
 use Rattle.chunk_wire.specs.declared.message.Message.{Message}
-use Rattle.chunk_wire.specs.State.{State, fresh_kept, fresh_state, part_bytes, place_of, put}
+use Rattle.chunk_wire.specs.State.{State, fresh_kept, fresh_state, part_bytes, index_of, put}
 use Rattle.chunk_wire.specs.Chunk.{after_chunk, filled, header_size, is_done, message_of, opened, with_part}
 use Rattle.chunk_wire.proofs.Records.{parts_more}
 use Rattle.chunk_reader.specs.Control.{by_message, controlled, dropped, dropped_at, next}
 use Rattle.chunk_reader.specs.Feeds.{IsFedTo}
 use Rattle.chunk_reader.specs.ReaderKnown.{ReaderKnown}
 use Rattle.chunk_reader.specs.Reads.{AreChunks, IsChunkWithin, Reads, ended, held_bytes, messages, part_limit, state_after}
+use Rattle.rtmp_handshake.specs.Handshake.{Handshake, held_by, held_of}
+use Rattle.rtmp_handshake.specs.declared.fail.HandFail.{HandFail}
+use Rattle.session_owed.specs.Talk.{hand_bytes}
 use Rattle.relay_session.specs.Bounds.{HasRoom, kept_bytes}
 use Rattle.stream_model.specs.declared.calls.Entry.{Entry}
 use Rattle.chunk_reader.proofs.Once.{one_reading}
@@ -20,19 +25,19 @@ use Rattle.chunk_wire.proofs.Sizes.{basic_size_some}
 use Rattle.chunk_wire.proofs.Same.{basic_in_header}
 
 -- an Abort drops a part, and no other message adds one
-set_less : (ks : List Kept) (i : ℕ) (d : Kept) → part_bytes (set ks i (with_part (get_or ks i d) [])) ≤ part_bytes ks
+set_less : (ks : List ChunkStream) (i : ℕ) (d : ChunkStream) → part_bytes (set ks i (with_part (get_or ks i d) [])) ≤ part_bytes ks
 set_less [] i d = omega arith
 set_less (k ∷ ks) zero d = omega (arith, parts_more k ks, parts_more (with_part k []) ks)
 set_less (k ∷ ks) (suc i) d = omega (arith, parts_more k ks, parts_more k (set ks i (with_part (get_or ks i d) [])), set_less ks i d)
 
-dropped_less : (id : ℕ) (place : Option ℕ) (ks : List Kept) → part_bytes (dropped_at id place ks) ≤ part_bytes ks
+dropped_less : (id : ℕ) (place : Option ℕ) (ks : List ChunkStream) → part_bytes (dropped_at id place ks) ≤ part_bytes ks
 dropped_less id None ks = omega arith
 dropped_less id (Some i) ks = set_less ks i (fresh_kept id)
 
 told_case : (a b c : Bool) (n id : ℕ) (s : State) → part_bytes (cond a s (cond b (record { size = n; kept = s.kept }) (cond c (record { size = s.size; kept = dropped id s.kept }) s))).kept ≤ part_bytes s.kept
 told_case true b c n id s = omega arith
 told_case false true c n id s = omega arith
-told_case false false true n id s = dropped_less id (place_of id s.kept) s.kept
+told_case false false true n id s = dropped_less id (index_of id s.kept) s.kept
 told_case false false false n id s = omega arith
 
 told_less : (m : Option Message) (s : State) → part_bytes (controlled m s).kept ≤ part_bytes s.kept
@@ -122,16 +127,56 @@ fed_room old new piece used m s r f q =
     subst (λ (k : ReaderKnown). held_bytes s r + length m.body ≤ part_limit k.max) (sym f.now) (reads_room old.max b old.given m s r same.rest_same read)
 
 -- and with the unit of a call that the message asks for, which is no longer than it
-pub room_loud : (old new : ReaderKnown) (piece : List ℕ) (used : ℕ) (m : Message) (kept : Option Entry) → IsFedTo old piece used (Some m) new → kept_bytes kept ≤ length m.body → old.max ≤ 4194304 → HasRoom new kept
-room_loud old new piece used m kept f le sh = record {
+pub room_loud : (h : Handshake) (old new : ReaderKnown) (piece : List ℕ) (used : ℕ) (m : Message) (kept : Option Entry) → held_of h ≡ 0 → IsFedTo old piece used (Some m) new → kept_bytes kept ≤ length m.body → old.max ≤ 4194304 → HasRoom h new kept
+room_loud h old new piece used m kept z f le sh = record {
   short = omega (arith, sh, ap (λ (k : ReaderKnown). k.max) f.now);
-  alone = let end = f.at_end refl in omega (arith, le, fed_room old new piece used m end.0 [] f end.1);
-  together = λ s r q. omega (arith, le, fed_room old new piece used m s r f q);
+  alone = let end = f.at_end refl in omega (arith, z, le, fed_room old new piece used m end.0 [] f end.1);
+  together = λ s r q. omega (arith, z, le, fed_room old new piece used m s r f q);
 }
 
-pub room_none : (k : ReaderKnown) (kept : Option Entry) → kept ≡ None → k.max ≤ 4194304 → HasRoom k kept
-room_none k kept e sh = record {
+pub room_none : (h : Handshake) (k : ReaderKnown) (kept : Option Entry) → held_of h ≡ 0 → kept ≡ None → k.max ≤ 4194304 → HasRoom h k kept
+room_none h k kept z e sh = record {
   short = sh;
-  alone = omega (arith, ap kept_bytes e);
-  together = λ s r q. omega (arith, ap kept_bytes e, q.rest.admitted.held);
+  alone = omega (arith, z, ap kept_bytes e);
+  together = λ s r q. omega (arith, z, ap kept_bytes e, q.rest.admitted.held);
+}
+
+-- ---- before a message is read
+
+held_most : (f : Option HandFail) (n : ℕ) → held_by f n ≤ 1532
+held_most None n = grind (arith, nat_tests)
+held_most (Some e) n = omega arith
+
+held_late : (f : Option HandFail) (n : ℕ) → 1537 ≤ n → held_by f n ≡ 0
+held_late None n le = grind (arith, nat_tests)
+held_late (Some e) n le = refl
+
+-- a handshake that has answered keeps nothing
+pub none_kept : (h : Handshake) (x : List ℕ) → h ≡ record { fed = take hand_bytes x; failed = None } → hand_bytes ≤ length x → held_of h ≡ 0
+none_kept h x e le = held_late h.failed (length h.fed) (omega (arith, ap (λ (k : Handshake). length k.fed) e, length-take hand_bytes x, le))
+
+no_chunks : (max : ℕ) (s : State) (cs : List (List ℕ)) → AreChunks max s cs → length (concat cs) ≡ 0 → state_after s cs ≡ s
+no_chunks max s [] a e = refl
+no_chunks max s (c ∷ cs) a e = absurd (omega (arith, e, chunk_some max s c a.0, length-append c (concat cs)))
+
+reads_none : (max : ℕ) (b : List ℕ) (ms : List (ℕ × Message)) (s : State) (r : List ℕ) → b ≡ [] → Reads max b ms s r → held_bytes s r ≡ 0
+reads_none max b ms s r none q =
+    let sum : length (concat q.chunks) + length r ≡ 0 = omega (arith, ap length none, ap length q.whole, length-append (concat q.chunks) r) in
+    let same : s ≡ fresh_state = q.state ∙ no_chunks max fresh_state q.chunks q.are_chunks (omega (arith, sum)) in
+    let short : length r < header_size s r = omega (arith, sum, basic_in_header s r, basic_size_some r) in
+    held_short s r short ∙ ap (λ (t : State). part_bytes t.kept) same
+
+pub room_early : (h : Handshake) (k : ReaderKnown) (kept : Option Entry) → kept ≡ None → k.fed ≡ [] → k.max ≤ 4194304 → HasRoom h k kept
+room_early h k kept e none sh = record {
+  short = sh;
+  alone = omega (arith, held_most h.failed (length h.fed), ap kept_bytes e);
+  together = λ s r q. omega (arith, held_most h.failed (length h.fed), ap kept_bytes e, reads_none k.max k.fed k.given s r none q);
+}
+
+-- without the call that waited
+pub room_let : (h : Handshake) (k : ReaderKnown) (kept : Option Entry) → HasRoom h k kept → HasRoom h k None
+room_let h k kept o = record {
+  short = o.short;
+  alone = omega (arith, o.alone);
+  together = λ s r q. omega (arith, o.together s r q);
 }

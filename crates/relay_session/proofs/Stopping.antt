@@ -15,6 +15,7 @@ use Rattle.chunk_reader.specs.Sound.{IsRead}
 use Rattle.chunk_reader.specs.Stops.{Stops}
 use Rattle.chunk_reader.proofs.Before.{before_last}
 use Rattle.chunk_reader.proofs.Settled.{stays_refused}
+use Rattle.rtmp_handshake.specs.Answer.{bad_version}
 use Rattle.rtmp_handshake.specs.Handshake.{Handshake}
 use Rattle.ack_window.specs.Controls.{control_in}
 use Rattle.ack_window.specs.declared.control.Control.{Control}
@@ -37,10 +38,11 @@ use Rattle.relay_session.specs.Feeding.{Decides, Hears, IsFed, IsRefused, IsStop
 use Rattle.relay_session.specs.Keeping.{IsIdle, IsOver, IsSound, StandsBefore, keeps_of, past_of}
 use Rattle.relay_session.specs.Owing.{Owing, Says, pending}
 use Rattle.relay_session.specs.Session.{does, ended_by, entry_by, outbound_by, outbound_in, place_by, refused, refused_by, session}
+use Rattle.relay_session.specs.Turns.{StandsOnBefore}
 use Rattle.relay_session.specs.declared.core_fields.Core.{Core}
 use Rattle.relay_session.specs.declared.end.End.{End}
 use Rattle.relay_session.specs.declared.end.End.TheVariants as end
-use Rattle.relay_session.proofs.Living.{says_others}
+use Rattle.relay_session.proofs.Living.{says_others, version_kept}
 use Rattle.relay_session.proofs.Placing.{idle_after}
 
 take_past : (x p : List ℕ) (k : ℕ) → take (length x + k) (x ++ p) ≡ x ++ take k p
@@ -62,8 +64,12 @@ fed_hand c piece more x o used k be oe xe = record {
 pub read_here : (c : Core) → IsSound c → IsRead c.reader.max (drop hand_bytes c.x) c.reader.given
 read_here c l = subst (λ (b : List ℕ). IsRead c.reader.max b c.reader.given) l.fed l.read
 
+-- a step that left a sound session
+pub stands_on : (desk : Ask → Grant) (old new : Core) → IsSound new → (StandsBefore desk old → StandsBefore desk new) → StandsOnBefore desk old new
+stands_on desk old new l s = record { stands = s; read = read_here new l; version = l.version; counted = l.counted }
+
 pub stop_memory : (c : Core) (piece : List ℕ) (k : Handshake) (o : Owing) → IsSound c → IsStopped c piece end.OutOfMemory (record c { hand = k; outgoing = o })
-stop_memory c piece k o l = record { fed = []; left = piece; split = refl; x = sym (append-nil c.x); counted = l.counted; fixed = refl; kept = refl; place = refl; read = read_here c l; state = λ ne. refl; cause = tt }
+stop_memory c piece k o l = record { fed = []; left = piece; split = refl; x = sym (append-nil c.x); version = l.version; counted = l.counted; fixed = refl; kept = refl; place = refl; read = read_here c l; state = λ ne. refl; cause = tt }
 
 pub over_here : (desk : Ask → Grant) (e : End) (c : Core) (k : Handshake) (o : Owing) → IsSound c → StandsBefore desk c → IsOver desk e (record c { hand = k; outgoing = o })
 over_here desk e c k o l st = record { ms = c.reader.given; read = read_here c l; more = pending c.outgoing; owes = st.owes; talks = st.talks; state = λ ne. st.state }
@@ -218,6 +224,7 @@ stop_reader c piece part x count at before e r l h f pe ae be xe =
       left = drop before piece;
       split = take-append-drop before piece;
       x = xe ∙ ap (λ (b : List ℕ). c.x ++ b) u.0;
+      version = subst (λ (b : List ℕ). bad_version b ≡ None) (sym xe) (version_kept c.x (take before part) l.version (omega (arith, h)));
       counted = sym lx;
       fixed = ap (λ (n : ℕ). record { who = c.who; window = c.window; max = n; calls = c.calls; sent = c.sent }) (ap (λ (k : ReaderKnown). k.max) f.now);
       kept = refl;
@@ -235,6 +242,7 @@ stop_acknowledge c piece part used m r i o l f = record {
   left = piece;
   split = refl;
   x = sym (append-nil c.x);
+  version = l.version;
   counted = l.counted;
   fixed = ap (λ (n : ℕ). record { who = c.who; window = c.window; max = n; calls = c.calls; sent = c.sent }) (fixed_read c part used m r f);
   kept = refl;
@@ -320,6 +328,7 @@ stop_message c piece part x count used n last m r i b s o e l h f pe ne le xe ee
       left = drop (used - 1) piece;
       split = take-append-drop (used - 1) piece;
       x = xe ∙ ap (λ (k : List ℕ). c.x ++ k) u.0;
+      version = subst (λ (b : List ℕ). bad_version b ≡ None) (sym xe) (version_kept c.x (take (used - 1) part) l.version (omega (arith, h)));
       counted = sym lx;
       fixed = ap (λ (k : ℕ). record { who = c.who; window = c.window; max = k; calls = c.calls; sent = c.sent }) (fixed_read c part used (Some m) r f);
       kept = refl;

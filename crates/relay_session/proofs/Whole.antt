@@ -8,7 +8,7 @@ use Rattle.stream_model.specs.declared.calls.Entry.{Entry}
 use Rattle.session_owed.specs.Owed.{count_of}
 use Rattle.session_owed.proofs.Publishing.{published_are}
 use Rattle.relay_session.proofs.Stopping.{read_here}
-use Rattle.relay_session.proofs.Room.{room_none}
+use Rattle.relay_session.proofs.Room.{room_let}
 use Rattle.relay_session.specs.Bounds.{HasRoom, IsLight}
 use Rattle.relay_session.specs.Holding.{HandFits}
 use Rattle.relay_session.specs.Keeping.{IsSteady, StandsBefore}
@@ -47,7 +47,7 @@ pub living_counted : (o : Option End) (c : Core) → IsLiving o c → c.fed ≡ 
 living_counted None c l = l.sound.counted
 living_counted (Some e) c l = l.counted
 
-pub living_room : (o : Option End) (c : Core) → IsLiving o c → HasRoom c.reader c.kept
+pub living_room : (o : Option End) (c : Core) → IsLiving o c → HasRoom c.hand c.reader c.kept
 living_room None c l = l.sound.room
 living_room (Some e) c l = l.room
 
@@ -62,7 +62,7 @@ living_fits (Some e) c l = l.fits
 -- closed, where the call that waited may have been made
 pub living_closed : (o : Option End) (e : End) (c : Core) (kept : Option Entry) → IsLiving o c → (kept ≡ c.kept) ⊎ (kept ≡ None) → IsLiving (Some e) (record c { kept = kept })
 living_closed o e c kept l (inl k) = rw k (record { counted = living_counted o c l; room = living_room o c l; light = living_light o c l; fits = living_fits o c l })
-living_closed o e c kept l (inr k) = rw k (record { counted = living_counted o c l; room = room_none c.reader None refl (living_room o c l).short; light = light_none c.outgoing.others c.kept (living_light o c l); fits = living_fits o c l })
+living_closed o e c kept l (inr k) = rw k (record { counted = living_counted o c l; room = room_let c.hand c.reader c.kept (living_room o c l); light = light_none c.outgoing.others c.kept (living_light o c l); fits = living_fits o c l })
   where
     light_none : (n : ℕ) (k : Option Entry) → IsLight n k → IsLight n None
     light_none n None li = li

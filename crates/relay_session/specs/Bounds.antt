@@ -5,6 +5,7 @@ use Rattle.chunk_reader.specs.ReaderKnown.{ReaderKnown}
 use Rattle.chunk_reader.specs.Reads.{Reads, held_bytes, part_limit}
 use Rattle.chunk_wire.specs.State.{State}
 use Rattle.rtmp_handshake.specs.Answer.{answered}
+use Rattle.rtmp_handshake.specs.Handshake.{Handshake, held_of}
 use Rattle.session_owed.specs.Talk.{is_take}
 use Rattle.stream_model.specs.declared.calls.Call.{Call}
 use Rattle.stream_model.specs.declared.calls.Call.TheVariants as call
@@ -42,12 +43,12 @@ abbrev pub kept_name : Option Entry → ℕ
 kept_name None = 0
 kept_name (Some e) = name_bytes e.call
 
--- messages in progress and the unit of the call that waits HAVE ROOM TOGETHER: the message that the unit was had the room that
--- it leaves
-pub record HasRoom (k : ReaderKnown) (kept : Option Entry) : Type 0 where
+-- what the handshake keeps, messages in progress and the unit of the call that waits HAVE ROOM TOGETHER: no message is read before the
+-- handshake has let go of all, and the message that the unit was had the room that it leaves
+pub record HasRoom (h : Handshake) (k : ReaderKnown) (kept : Option Entry) : Type 0 where
   pub short : k.max ≤ 4194304
-  pub alone : kept_bytes kept ≤ part_limit k.max
-  pub together : (s : State) (r : List ℕ) → Reads k.max k.fed k.given s r → held_bytes s r + kept_bytes kept ≤ part_limit k.max
+  pub alone : held_of h + kept_bytes kept ≤ part_limit k.max
+  pub together : (s : State) (r : List ℕ) → Reads k.max k.fed k.given s r → held_of h + (held_bytes s r + kept_bytes kept) ≤ part_limit k.max
 
 -- no Take waits
 abbrev pub Acts : Option Entry → Type 0

@@ -97,13 +97,14 @@ Decides max h y n end.LinkFault = ⊥
 Decides max h y n end.Quit = ⊥
 Decides max h y n end.Worn = ⊥
 
--- the bytes before it were fed, which complete no message, and nothing else was received, sent or called; unless memory was wanting
--- the dialogue stands where it did
+-- the bytes before it were fed, whose version is taken and which complete no message, and nothing else was received, sent or called;
+-- unless memory was wanting the dialogue stands where it did
 pub record IsStopped (old : Core) (input : List ℕ) (e : End) (new : Core) : Type 0 where
   pub fed : List ℕ
   pub left : List ℕ
   pub split : fed ++ left ≡ input
   pub x : new.x ≡ old.x ++ fed
+  pub version : bad_version new.x ≡ None
   pub counted : new.fed ≡ length new.x
   pub fixed : fixed_of new ≡ fixed_of old
   pub kept : new.kept ≡ old.kept

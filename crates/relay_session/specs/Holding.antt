@@ -3,6 +3,7 @@ use Rattle.std.specs.Prelude.{◌≡◌, ◌≤◌, ℕ, ◌+◌, List, length, 
 use Rattle.chunk_reader.specs.Feeds.{IsHeld}
 use Rattle.chunk_reader.specs.ReaderKnown.{ReaderKnown}
 use Rattle.command_dialog.specs.State.{app_length}
+use Rattle.rtmp_handshake.specs.Handshake.{held_of}
 use Rattle.session_owed.specs.Chunks.{Hand}
 use Rattle.relay_session.specs.Bounds.{kept_bytes, kept_name}
 use Rattle.relay_session.specs.declared.core_fields.Core.{Core}
@@ -32,6 +33,8 @@ pub record Held : Type 0 where
   pub name : ℕ
   -- of the app that the dialogue keeps
   pub app : ℕ
+  -- of the handshake in progress, for its answer
+  pub hand : ℕ
 
 -- with so many bytes of messages in progress
 abbrev pub held_with : Core → List ℕ → ℕ → Held
@@ -43,10 +46,11 @@ held_with c input parts = record {
   kept = kept_bytes c.kept;
   name = kept_name c.kept;
   app = app_length c.dialog.app;
+  hand = held_of c.hand;
 }
 
 abbrev pub sum_of : Held → ℕ
-sum_of h = h.input + (h.parts + (h.encoded + (h.unit + (h.kept + (h.name + h.app)))))
+sum_of h = h.input + (h.parts + (h.encoded + (h.unit + (h.kept + (h.name + (h.app + h.hand))))))
 
 -- A SESSION WITH THIS INPUT HOLDS SO MANY BYTES
 pub record IsHolding (c : Core) (input : List ℕ) (n : ℕ) : Type 0 where
@@ -63,7 +67,7 @@ abbrev pub HandFits : Core → Type 0
 HandFits c = UnitFits c.outgoing.hand c.longest c.reader.max
 
 -- IT HOLDS NO MORE THAN so many bytes, where it takes messages of at most M bytes and no unit that it sends is longer than m:
--- 4,096 of input; M and 65,536 of messages in progress, with the unit of the call that waits; 32,768 of answers, of encoded
+-- 4,096 of input; M and 65,536 of messages in progress, with the unit of the call that waits, or of the handshake in progress; 32,768 of answers, of encoded
 -- bytes, of the app and of the name that the call that waits asks for; and m
 abbrev pub most_held : ℕ → ℕ → ℕ
 most_held max m = 4096 + ((max + 65536) + (32768 + m))

@@ -59,7 +59,7 @@ pub record IsSound (c : Core) : Type 0 where
   pub sent : c.outbound.sent ≡ min (length c.sent - hand_bytes) (2 ^ 64 - 1)
   pub others : c.outgoing.others ≤ length (pending c.outgoing)
   pub acts : Acts c.kept
-  pub room : HasRoom c.reader c.kept
+  pub room : HasRoom c.hand c.reader c.kept
 
 -- with this call waiting
 abbrev pub waiting : Core → Entry → Core
@@ -84,6 +84,6 @@ pub record IsSteady (c : Core) : Type 0 where
 -- of one that has ended: its bytes are counted, and what it holds still has its bounds
 pub record HasEnded (c : Core) : Type 0 where
   pub counted : c.fed ≡ length c.x
-  pub room : HasRoom c.reader c.kept
+  pub room : HasRoom c.hand c.reader c.kept
   pub light : IsLight c.outgoing.others c.kept
   pub fits : HandFits c

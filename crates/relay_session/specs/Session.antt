@@ -100,16 +100,16 @@ unfoldable pub outbound_by : OutWindow → Message → OutWindow
 outbound_by o m = outbound_in o (control_in m)
 
 -- the place that a Begin or Join names, or the one before
-abbrev pub place_of : Option ℕ → Option Act → Option ℕ
-place_of place None = place
-place_of place (Some (act.Begin p name)) = Some p
-place_of place (Some (act.Join p name)) = Some p
-place_of place (Some (act.Push unit)) = place
-place_of place (Some act.End) = place
-place_of place (Some (act.Leave player)) = place
+abbrev pub place_after : Option ℕ → Option Act → Option ℕ
+place_after place None = place
+place_after place (Some (act.Begin p name)) = Some p
+place_after place (Some (act.Join p name)) = Some p
+place_after place (Some (act.Push unit)) = place
+place_after place (Some act.End) = place
+place_after place (Some (act.Leave player)) = place
 
 abbrev pub place_in : (Ask → Grant) → State → Message → Option ℕ → Result (Option Control) BadControl → Option ℕ
-place_in desk s m place (Ok None) = place_of place (dialog.does desk s m).makes
+place_in desk s m place (Ok None) = place_after place (dialog.does desk s m).makes
 place_in desk s m place (Ok (Some control)) = place
 place_in desk s m place (Err e) = place
 

@@ -14,6 +14,7 @@ use Rattle.stream_model.specs.declared.calls.Entry.{Entry}
 use Rattle.stream_model.specs.declared.replies.Reply.{Reply}
 use Rattle.stream_model.specs.declared.replies.Reply.TheVariants as reply
 use Rattle.chunk_reader.specs.Sound.{IsRead}
+use Rattle.rtmp_handshake.specs.Answer.{bad_version}
 use Rattle.session_owed.specs.Talk.{Own, hand_bytes}
 use Rattle.relay_session.specs.Feeding.{Hears, IsCalled, IsFed, IsOthers, IsSent, IsStopped}
 use Rattle.relay_session.specs.Keeping.{HasEnded, IsOver, IsSteady, StandsBefore}
@@ -92,10 +93,12 @@ pub record IsFilled (old new : Core) : Type 0 where
   pub let_go : IsUnfinished new.outgoing.hand
 
 -- a step goes on from where the one before it stood: where what was sent and what is pending was what is owed before this desk, it is so
--- after it, and the messages read are those of the bytes fed
+-- after it, the messages read are those of the bytes fed, the version that its peer sent is taken, and the bytes fed are counted
 pub record StandsOnBefore (desk : Ask → Grant) (old new : Core) : Type 0 where
   pub stands : StandsBefore desk old → StandsBefore desk new
   pub read : IsRead new.reader.max (drop hand_bytes new.x) new.reader.given
+  pub version : bad_version new.x ≡ None
+  pub counted : new.fed ≡ length new.x
 
 -- before each desk
 abbrev pub StandsOn : Core → Core → Type 0

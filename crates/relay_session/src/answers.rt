@@ -9,7 +9,7 @@ ghost use Rattle.session_owed.specs.Acks.{window_by, windowed};
 ghost use Rattle.relay_session.specs.Holding.{unit_bytes};
 ghost use Rattle.relay_session.specs.Owing.{Says, Shows, Takes, pending};
 ghost use Rattle.relay_session.specs.Session.{commands, does, ended_by, entry_by, item_in, outbound_after};
-ghost use Rattle.relay_session.specs.Session.{outbound_by, place_by, place_of, pongs, refused, told};
+ghost use Rattle.relay_session.specs.Session.{outbound_by, place_by, place_after, pongs, refused, told};
 ghost use Rattle.relay_session.specs.declared.end.End.TheVariants as end;
 
 use crate::{Desk, End, Outgoing};
@@ -74,7 +74,7 @@ pub(crate) struct Asked {
 
 // The place that an act names, or the one before.
 fn place_after(place: Option<u32>, act: &Option<Act>) -> Option<u32>
-    ensures { result ≡ place_of place act.now }
+    ensures { result ≡ place_after place act.now }
 {
     match act {
         None => place,

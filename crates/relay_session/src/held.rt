@@ -65,7 +65,7 @@ fn kept_name(kept: &Option<Entry>) -> usize
 
 /// How many bytes a session with this input holds.
 pub(crate) fn held_in(core: &Core, input: &Input) -> u64
-    requires room { HasRoom core.now.reader core.now.kept }
+    requires room { HasRoom core.now.hand core.now.reader core.now.kept }
     requires light { IsLight core.now.outgoing.others core.now.kept }
     requires fits { HandFits core.now }
     ensures holds { IsHolding core.now input.now result }
@@ -79,7 +79,8 @@ pub(crate) fn held_in(core: &Core, input: &Input) -> u64
     let ready = core.outgoing.ready().len() as u64;
     let parts = core.reader.held();
     let input = input.left().len() as u64;
-    app + kept + name + unit + later + ready + parts + input
+    let hand = core.hand.held() as u64;
+    app + kept + name + unit + later + ready + parts + input + hand
 }
 
 /// How many bytes a session is to send.

@@ -18,6 +18,7 @@ pub(crate) fn fill(core: &mut Core, alloc: Global) -> Result<(), OutOfMemory>
     ensures filled { OnOk result (IsFilled core.old core.new) }
     ensures ready { OnOk result ((16384 ≤ length core.new.outgoing.ready) ⊎ (core.new.outgoing.rest ≡ [])) }
     ensures gone { gone_of core.new ≡ gone_of core.old }
+    ensures hand { core.new.hand ≡ core.old.hand }
     ensures reader { core.new.reader ≡ core.old.reader }
     ensures light { core.new.outgoing.others ≤ core.old.outgoing.others }
     ensures fits { HandFits core.old → HandFits core.new }

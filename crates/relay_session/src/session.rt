@@ -79,6 +79,7 @@ impl<P: StreamPort> Session<P> {
         requires { limits.max_message ≤ 4194304 }
         ensures stands { (desk : Ask → Grant) → StandsFor desk result }
         ensures past { past_of result.parts ≡ new_past }
+        ensures fed { result.parts.fed ≡ 0 }
         ensures fixed { (result.parts.who ≡ who) × (result.parts.window ≡ limits.window) × (result.parts.reader.max ≡ limits.max_message) }
         ensures outbound { result.parts.outbound ≡ new_out limits.window }
         ensures outgoing { result.parts.outgoing ≡ nothing }
@@ -180,7 +181,8 @@ impl<P: StreamPort> Session<P> {
     }
 
     /// How many bytes it holds: of the input that it wasn't fed, of messages in progress, of what is encoded and not sent, of the
-    /// unit that is being sent, which counts whole, of the unit that the call that waits publishes, and of its dialogue's app.
+    /// unit that is being sent, which counts whole, of the unit that the call that waits publishes and of the name that it asks for,
+    /// of its dialogue's app, and of the handshake in progress.
     pub fn held(&self) -> u64
         ensures holds { IsHolding self.now.parts self.now.input result }
         ensures most { result ≤ most_held self.now.parts.reader.max self.now.parts.reader.max }

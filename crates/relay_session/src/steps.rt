@@ -43,6 +43,7 @@ pub fn new_core(alloc: Global, who: u64, window: u32, max_message: u32) -> Core
     ensures sound { IsSound result }
     ensures stands { (desk : Ask → Grant) → StandsBefore desk result }
     ensures past { past_of result ≡ new_past }
+    ensures fed { result.fed ≡ 0 }
     ensures fixed { (result.who ≡ who) × (result.window ≡ window) × (result.reader.max ≡ max_message) }
     ensures outbound { result.outbound ≡ new_out window }
     ensures outgoing { result.outgoing ≡ nothing }
@@ -104,6 +105,7 @@ pub fn hand_piece(core: &mut Core, alloc: Global, piece: &[u8]) -> Result<usize,
     ensures fed { IfOk result (λ used. IsFed core.old piece.now core.new (drop used piece.now)) }
     ensures heard { OnOk result (heard_of core.new ≡ heard_of core.old) }
     ensures stopped { IfErr result (λ e. IsStopped core.old piece.now e core.new) }
+    ensures room { OnErr result (HasRoom core.new.hand core.new.reader core.new.kept) }
     ensures over { (desk : Ask → Grant) → StandsBefore desk core.old → IfErr result (λ e. IsOver desk e core.new) }
     ensures light { weight core.new.outgoing.others core.new.x core.new.inbound ≤ weight core.old.outgoing.others core.old.x core.old.inbound }
     ensures fits { HandFits core.old → HandFits core.new }
@@ -147,6 +149,7 @@ pub fn chunk_piece<D: Desk>(
     ensures fed { IfOk result (λ p. IsFed core.old piece.now core.new (drop p.used piece.now)) }
     ensures heard { IfOk result (λ p. Hears (D.grants desk.now) core.old core.new p.ended) }
     ensures stopped { IfErr result (λ e. IsStopped core.old piece.now e core.new) }
+    ensures room { OnErr result (HasRoom core.new.hand core.new.reader core.new.kept) }
     ensures over { StandsBefore (D.grants desk.now) core.old → IfErr result (λ e. IsOver (D.grants desk.now) e core.new) }
     ensures quiet { IfOk result (λ p. p.ended ≡ false
         → weight core.new.outgoing.others core.new.x core.new.inbound ≤ weight core.old.outgoing.others core.old.x core.old.inbound + 356 * p.used) }
@@ -238,7 +241,7 @@ pub fn hear_reply(
     ensures others { OnOk result (IsOthers core.old core.new) }
     ensures light { 16 * core.new.outgoing.others ≤ 16 * core.old.outgoing.others + 7036 }
     ensures fits { HandFits core.old → HandFits core.new }
-    ensures room { HasRoom core.new.reader core.new.kept }
+    ensures room { HasRoom core.new.hand core.new.reader core.new.kept }
     ensures over { (desk : Ask → Grant) → StandsBefore desk (waiting core.old asked.value) → OnErr result (IsOver desk end.OutOfMemory core.new) }
 {
     core.kept = None;
@@ -268,7 +271,7 @@ pub fn hear_item(
     ensures others { OnOk result (core.new.outgoing.others ≡ 0) }
     ensures light { core.new.outgoing.others ≤ core.old.outgoing.others }
     ensures fits { HandFits core.old → HandFits core.new }
-    ensures room { HasRoom core.new.reader core.new.kept }
+    ensures room { HasRoom core.new.hand core.new.reader core.new.kept }
     ensures over { (desk : Ask → Grant) → StandsBefore desk core.old → OnErr result (IsOver desk end.OutOfMemory core.new) }
 {
     core.calls.add(&Pair::of(asked, &reply));

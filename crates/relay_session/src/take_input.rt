@@ -1,5 +1,5 @@
 ghost use Rattle.std.specs.Prelude.{◌≡◌, ◌<◌, ◌≤◌, ◌+◌, ◌*◌, [], length, drop, None, true, false, IfOk, IfErr, OnOk, OnErr};
-ghost use Rattle.relay_session.specs.Bounds.{weight};
+ghost use Rattle.relay_session.specs.Bounds.{HasRoom, weight};
 ghost use Rattle.relay_session.specs.Feeding.{Hears, IsFed, IsStopped};
 ghost use Rattle.relay_session.specs.Holding.{HandFits};
 ghost use Rattle.relay_session.specs.Keeping.{IsOver, IsSound, StandsBefore};
@@ -23,6 +23,7 @@ fn next_piece<D: Desk>(core: &mut Core, alloc: Global, desk: &D, piece: &[u8]) -
     ensures fed { IfOk result (λ p. IsFed core.old piece.now core.new (drop p.used piece.now)) }
     ensures heard { IfOk result (λ p. Hears (D.grants desk.now) core.old core.new p.ended) }
     ensures stopped { IfErr result (λ e. IsStopped core.old piece.now e core.new) }
+    ensures room { OnErr result (HasRoom core.new.hand core.new.reader core.new.kept) }
     ensures over { StandsBefore (D.grants desk.now) core.old → IfErr result (λ e. IsOver (D.grants desk.now) e core.new) }
     ensures quiet { IfOk result (λ p. p.ended ≡ false
         → weight core.new.outgoing.others core.new.x core.new.inbound ≤ weight core.old.outgoing.others core.old.x core.old.inbound + 356 * p.used) }
@@ -57,6 +58,7 @@ pub(crate) fn feed<D: Desk>(
     ensures all { IfOk result (λ loud. loud ≡ false → input.new ≡ []) }
     ensures grows { IfOk result (λ loud. loud ≡ true → length core.old.x < length core.new.x) }
     ensures stopped { IfErr result (λ e. IsStopped core.old input.old e core.new) }
+    ensures room { OnErr result (HasRoom core.new.hand core.new.reader core.new.kept) }
     ensures over { StandsBefore (D.grants desk.now) core.old → IfErr result (λ e. IsOver (D.grants desk.now) e core.new) }
 {
     while !is_empty(input.left()) {

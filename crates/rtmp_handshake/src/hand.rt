@@ -1,7 +1,7 @@
 ghost use Rattle.std.specs.Prelude.{◌≡◌, ◌+◌, ◌≤◌, ◌<◌, ◌↔◌, [], ◌++◌, length, IsTrue, IsOk, IfOk, IfErr, Some, None, Err};
 ghost use Rattle.rtmp_handshake.specs.declared.fail.HandFail.{HandFail};
 ghost use Rattle.rtmp_handshake.specs.Answer.{bad_version, answered};
-ghost use Rattle.rtmp_handshake.specs.Handshake.{refused_version};
+ghost use Rattle.rtmp_handshake.specs.Handshake.{held_of, refused_version};
 ghost use Rattle.rtmp_handshake.specs.Feeds.{used_of, read_of, out_of};
 ghost use Rattle.rtmp_handshake.specs.Echo.{answer_by, kept_of};
 
@@ -142,5 +142,13 @@ impl Hand {
         self.fed.add_all(taken);
         let done = self.count == TO_C2;
         Ok(HandFed { used, out, done })
+    }
+
+    /// How many bytes it keeps: those of C1's time and random bytes that it has read, until it has answered or failed.
+    pub fn held(&self) -> usize
+        ensures value { result ≡ held_of self.now }
+        ensures most { result ≤ 1532 }
+    {
+        self.kept.len()
     }
 }

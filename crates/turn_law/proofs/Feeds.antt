@@ -26,39 +26,6 @@ use Rattle.turn_law.specs.Twins.{HasRoom, IsPlain, SoleAsks, SoleLife}
 use Rattle.turn_law.proofs.Calls.{Excludes}
 use Rattle.turn_law.proofs.Reading.{BadBytes, BadStart, EndsAt, Fares, Fate, Heard, Quiet, drop_front, ends_some, front_is, version_front}
 
--- ---- calls feed nothing
-
-take_x : (v w : SoleLife) (e : Entry) (moved : Bool) (came : Made) (a : Turn) → TakeMade v e moved came w a → w.parts.x ≡ v.parts.x
-take_x v w e moved (made.Answer r) a t = ap (λ (p : Past). p.x) t.0.past
-take_x v w e moved (made.Busy f) a t = ap (λ (c : Core). c.x) t.0
-take_x v w e moved (made.Worn f) a t = ap (λ (c : Core). c.x) t.0
-take_x v w e moved (made.OutOfMemory f) a t = ap (λ (c : Core). c.x) t.0
-
-taken_by_x : (o : Option Playing) (v : SoleLife) (moved : Bool) (a : Turn) (w : SoleLife) → TakenBy SoleAsks o v moved a w → w.parts.x ≡ v.parts.x
-taken_by_x None v moved a w t = ap (λ (z : SoleLife). z.parts.x) t.1
-taken_by_x (Some p) v moved a w t = take_x v w (take_entry v.parts p) moved t.came a t.taken
-
-pub taken_x : (v : SoleLife) (moved : Bool) (a : Turn) (w : SoleLife) → Taken SoleAsks v moved a w → w.parts.x ≡ v.parts.x
-taken_x v moved a w (inl t) = taken_by_x (takes t.0) (life t.0 v.input v.port v.seat) moved a w t.2 ∙ ap (λ (c : Core). c.x) t.1.rest
-taken_x v moved a w (inr t) = ap (λ (g : Gone). g.x) t.gone
-
-call_x : (v w : SoleLife) (e : Entry) (came : Made) → CallMade v e came w → w.parts.x ≡ v.parts.x
-call_x v w e (made.Answer r) t = ap (λ (p : Past). p.x) t.past
-call_x v w e (made.Busy f) t = ap (λ (c : Core). c.x) t
-call_x v w e (made.Worn f) t = ap (λ (c : Core). c.x) t
-call_x v w e (made.OutOfMemory f) t = ap (λ (c : Core). c.x) t
-
-after_x : (v m : SoleLife) (came : Made) (a : Turn) (w : SoleLife) → AfterCall SoleAsks v came m a w → w.parts.x ≡ m.parts.x
-after_x v m (made.Answer r) a w (inl t) = taken_x m true a w t.1
-after_x v m (made.Answer r) a w (inr t) = ap (λ (g : Gone). g.x) t.gone
-after_x v m (made.Busy f) a w t = taken_x m true a w t
-after_x v m (made.Worn f) a w t = ap (λ (g : Gone). g.x) t.gone
-after_x v m (made.OutOfMemory f) a w t = ap (λ (g : Gone). g.x) t.gone
-
-pub called_x : (o : Option Entry) (v : SoleLife) (a : Turn) (w : SoleLife) → CalledBy SoleAsks o v a w → w.parts.x ≡ v.parts.x
-called_x None v a w t = taken_x v true a w t
-called_x (Some e) v a w t = after_x v t.1.0 t.0 a w t.1.1.1 ∙ call_x v t.1.0 e t.0 t.1.1.0.called
-
 -- ---- what excludes that a call wasn't made
 
 pub take_excludes : (a : Turn) (w : SoleLife) (s : IsPlain a w) (v : SoleLife) (e : Entry) (moved : Bool) (came : Made) → TakeMade v e moved came w a
@@ -124,9 +91,8 @@ module _ (desk : Ask → Grant) (a : Turn) (w : SoleLife) (s : IsPlain a w) (v :
 
   pub quiet_fares : (moved : Bool) → FedAs SoleAsks desk Quietly v moved a w → FaresIn v Quiet
   quiet_fares moved t =
-      let all : t.0.x ≡ bytes_of v = quiet_all moved t in
-      let kept : w.parts.x ≡ t.0.x = taken_x (life t.0 [] v.port v.seat) (moved || not (is_nil v.input)) a w t.1.2 in (
-        sym (ap bad_version (kept ∙ all)) ∙ s.version,
+      let all : t.0.x ≡ bytes_of v = quiet_all moved t in (
+        sym (ap bad_version all) ∙ t.1.3.version,
         read_at v.parts.reader.max t.0.reader.max (drop hand_bytes (bytes_of v)) (drop hand_bytes t.0.x) v.parts.reader.given t.0.reader.given
             (ap (λ (f : Fixed). f.max) t.1.0.fixed) (ap (λ (l : List ℕ). drop hand_bytes l) all) (ap (λ (h : HeardMore). h.given) t.1.1) t.1.3.read,
       )
@@ -138,11 +104,10 @@ module _ (desk : Ask → Grant) (a : Turn) (w : SoleLife) (s : IsPlain a w) (v :
   loud_fares moved t =
       let z : List ℕ = t.0.x in
       let front : z ≡ take (length z) (bytes_of v) = loud_front moved t in
-      let kept : w.parts.x ≡ z = called_x t.0.kept (life t.0 t.1.0 v.port v.seat) a w t.1.1.2 in
       let some : 0 < length z = omega (arith, t.1.1.3) in
       let chunks : drop hand_bytes z ≡ take (length z - hand_bytes) (drop hand_bytes (bytes_of v)) =
       ap (λ (l : List ℕ). drop hand_bytes l) front ∙ drop_front hand_bytes (length z) (bytes_of v) in (
-        version_front z (bytes_of v) front some (sym (ap bad_version kept) ∙ s.version),
+        version_front z (bytes_of v) front some t.1.1.4.version,
         front,
         read_at v.parts.reader.max t.0.reader.max (take (length z - hand_bytes) (drop hand_bytes (bytes_of v))) (drop hand_bytes z)
             (v.parts.reader.given ++ (length z - hand_bytes, t.1.1.1.0) ∷ []) t.0.reader.given
@@ -158,8 +123,7 @@ module _ (desk : Ask → Grant) (a : Turn) (w : SoleLife) (s : IsPlain a w) (v :
 
   stop_version : (e : End) (moved : Bool) (t : FedAs SoleAsks desk (Stopping e) v moved a w) → 0 < length t.0.x → bad_version (bytes_of v) ≡ None
   stop_version e moved t some =
-      let kept : w.parts.x ≡ t.0.x = ap (λ (g : Gone). g.x) t.1.1.gone in
-      version_front t.0.x (bytes_of v) (stop_front e moved t) some (sym (ap bad_version kept) ∙ s.version)
+      version_front t.0.x (bytes_of v) (stop_front e moved t) some t.1.0.version
 
   -- a message ends with the byte that refuses it
   refused_halts : (e : End) (moved : Bool) (t : FedAs SoleAsks desk (Stopping e) v moved a w) → byte_of e ≡ length t.0.x

@@ -106,6 +106,7 @@ alike_filled desk v v' c c' f g h = record {
     lasting = ap lasting_of g.rest ∙ (h.core.lasting ∙ sym (ap lasting_of f.rest));
     place = ap (λ (x : Core). x.place) g.rest ∙ (h.core.place ∙ sym (ap (λ (x : Core). x.place) f.rest));
     past = ap past_of g.rest ∙ (h.core.past ∙ sym (ap past_of f.rest));
+    fed = ap (λ (x : Core). x.fed) g.rest ∙ (h.core.fed ∙ sym (ap (λ (x : Core). x.fed) f.rest));
     outbound = ap (λ (x : Core). x.outbound) g.rest ∙ (h.core.outbound ∙ sym (ap (λ (x : Core). x.outbound) f.rest));
     others = g.others ∙ (h.core.others ∙ sym f.others);
   };
@@ -165,6 +166,7 @@ module _ (v v' k k' : SoleLife) (e e' : Entry) (r r' : Reply) (ee : e' ≡ e) (r
     lasting = called_lasting;
     place = ap (λ (f : Firm). f.place) c'.firm ∙ (core.place ∙ sym (ap (λ (f : Firm). f.place) c.firm));
     past = called_past;
+    fed = ap (λ (f : Firm). f.fed) c'.firm ∙ (core.fed ∙ sym (ap (λ (f : Firm). f.fed) c.firm));
     outbound = c'.outbound ∙ (core.outbound ∙ sym c.outbound);
     others = o;
   }
@@ -220,9 +222,9 @@ past_is c d x ms calls kept sent =
 fed_alike : (desk : Ask → Grant) (v v' : SoleLife) (c c' : Core) (left left' : List ℕ) → c'.x ≡ c.x → heard_of c' ≡ heard_of c → left' ≡ left
     → (lasting_of c ≡ lasting_of v.parts) × (c.calls ≡ v.parts.calls) × (c.sent ≡ v.parts.sent)
     → (lasting_of c' ≡ lasting_of v'.parts) × (c'.calls ≡ v'.parts.calls) × (c'.sent ≡ v'.parts.sent)
-    → IsOthers v.parts c → IsOthers v'.parts c' → StandsBefore desk c → StandsBefore desk c' → Alike desk v v'
+    → IsOthers v.parts c → IsOthers v'.parts c' → StandsBefore desk c → StandsBefore desk c' → c.fed ≡ length c.x → c'.fed ≡ length c'.x → Alike desk v v'
     → Alike desk (life c left v.port v.seat) (life c' left' v'.port v'.seat)
-fed_alike desk v v' c c' left left' x heard rest f f' o o' st st' h =
+fed_alike desk v v' c c' left left' x heard rest f f' o o' st st' n n' h =
     let calls : v'.parts.calls ≡ v.parts.calls = ap (λ (p : Past). p.calls) h.core.past in
     let sent : v'.parts.sent ≡ v.parts.sent = ap (λ (p : Past). p.sent) h.core.past in
     let lasting : lasting_of c' ≡ lasting_of c = f'.0 ∙ (h.core.lasting ∙ sym f.0) in
@@ -233,6 +235,7 @@ fed_alike desk v v' c c' left left' x heard rest f f' o o' st st' h =
         lasting = lasting;
         place = ap (λ (k : HeardMore). k.place) heard;
         past = past;
+        fed = n' ∙ (ap length x ∙ sym n);
         outbound = ap (λ (k : HeardMore). k.outbound) heard;
         others = others_same v.parts v'.parts c c' (pending_same desk v.parts v'.parts h.core.lasting h.core.past h.first h.second)
             (pending_same desk c c' lasting past st st') h.core.others o o';
@@ -351,6 +354,7 @@ sent_alike desk v v' n c c' i i' st st' h =
         place = ap (λ (f : Firm). f.place) i'.firm ∙ (h.core.place ∙ sym (ap (λ (f : Firm). f.place) i.firm));
         past = i'.past ∙ (ap (λ (p : Past). sent_more p (take n (pending v'.parts.outgoing))) h.core.past
             ∙ (ap (λ (l : List ℕ). sent_more (past_of v.parts) (take n l)) was ∙ sym i.past));
+        fed = ap (λ (f : Firm). f.fed) i'.firm ∙ (h.core.fed ∙ sym (ap (λ (f : Firm). f.fed) i.firm));
         outbound = i'.outbound ∙ (ap (λ (o : OutWindow). out_sent o (after_greeting v'.parts.sent n)) h.core.outbound
             ∙ (ap (λ (p : Past). out_sent v.parts.outbound (after_greeting p.sent n)) h.core.past ∙ sym i.outbound));
         others = i'.others ∙ (ap (λ (k : ℕ). min k (length (pending c'.outgoing))) h.core.others
@@ -387,14 +391,13 @@ module _ (desk : Ask → Grant) (a : Turn) (w : SoleLife) (a' : Turn) (w' : Sole
   same_living true e e' h = record { answer = e' ∙ sym e; left = subst (λ (b : Turn). LeftBy b desk w w') (sym e) h }
   same_living false e e' h = record { answer = e' ∙ sym e; left = subst (λ (b : Turn). LeftBy b desk w w') (sym e) h }
 
-  parted : (e : End) (v v' : SoleLife) → v'.parts.x ≡ v.parts.x → v'.parts.who ≡ v.parts.who → v'.parts.kept ≡ v.parts.kept → SameSeat v.seat v'.seat
+  parted : (e : End) (v v' : SoleLife) → v'.parts.fed ≡ v.parts.fed → v'.parts.who ≡ v.parts.who → v'.parts.kept ≡ v.parts.kept → SameSeat v.seat v'.seat
       → SamePort v.port v'.port
       → IsEnded e v a w → IsEnded e v' a' w' → Done
-  parted e v v' x who kept seat port i i' =
-      let fed : w'.parts.x ≡ w.parts.x = ap (λ (g : Gone). g.x) i'.gone ∙ (x ∙ sym (ap (λ (g : Gone). g.x) i.gone)) in
+  parted e v v' fed who kept seat port i i' =
       let gone : Parting w w' = record {
         who = ap (λ (g : Gone). g.who) i'.gone ∙ (who ∙ sym (ap (λ (g : Gone). g.who) i.gone));
-        fed = s'.counted ∙ (ap length fed ∙ sym s.counted);
+        fed = ap (λ (g : Gone). g.fed) i'.gone ∙ (fed ∙ sym (ap (λ (g : Gone). g.fed) i.gone));
         kept = ap (λ (g : Gone). g.kept) i'.gone ∙ (kept ∙ sym (ap (λ (g : Gone). g.kept) i.gone));
         seat = subst (λ (z : SeatState SeenState). SameSeat z w'.seat) (sym i.seat) (subst (λ (z : SeatState SeenState). SameSeat v.seat z) (sym i'.seat) seat);
         port = subst (λ (z : SoleState). SamePort z w'.port) (sym i.port) (subst (λ (z : SoleState). SamePort v.port z) (sym i'.port) port);
@@ -402,7 +405,7 @@ module _ (desk : Ask → Grant) (a : Turn) (w : SoleLife) (a' : Turn) (w' : Sole
       record { answer = i'.ended ∙ sym i.ended; left = subst (λ (b : Turn). LeftBy b desk w w') (sym i.ended) gone }
 
   parted_alike : (e : End) (v v' : SoleLife) → Alike desk v v' → IsEnded e v a w → IsEnded e v' a' w' → Done
-  parted_alike e v v' h i i' = parted e v v' (ap (λ (p : Past). p.x) h.core.past) (ap (λ (k : Lasting). k.who) h.core.lasting)
+  parted_alike e v v' h i i' = parted e v v' h.core.fed (ap (λ (k : Lasting). k.who) h.core.lasting)
       (ap (λ (p : Past). p.kept) h.core.past) h.seat h.port i i'
 
   -- ---- step 6
@@ -518,7 +521,7 @@ module _ (desk : Ask → Grant) (a : Turn) (w : SoleLife) (a' : Turn) (w' : Sole
         (fed_alike desk v v' t.0 t'.0 [] [] x heard refl
         (ap fixed_lasting f.fixed, ap (λ (k : Fixed). k.calls) f.fixed, ap (λ (k : Fixed). k.sent) f.fixed)
         (ap fixed_lasting f'.fixed, ap (λ (k : Fixed). k.calls) f'.fixed, ap (λ (k : Fixed). k.sent) f'.fixed)
-        f.others f'.others (t.1.3.stands h.first) (t'.1.3.stands h.second) h)
+        f.others f'.others (t.1.3.stands h.first) (t'.1.3.stands h.second) t.1.3.counted t'.1.3.counted h)
     fed_as_both Loudly Loudly moved t t' =
         let f = t.1.1.0 in
         let f' = t'.1.1.0 in
@@ -542,17 +545,14 @@ module _ (desk : Ask → Grant) (a : Turn) (w : SoleLife) (a' : Turn) (w' : Sole
         (fed_alike desk v v' c c' t.1.0 t'.1.0 x heard rest
         (ap fixed_lasting f.fixed, ap (λ (k : Fixed). k.calls) f.fixed, ap (λ (k : Fixed). k.sent) f.fixed)
         (ap fixed_lasting f'.fixed, ap (λ (k : Fixed). k.calls) f'.fixed, ap (λ (k : Fixed). k.sent) f'.fixed)
-        f.others f'.others (t.1.1.4.stands h.first) (t'.1.1.4.stands h.second) h)
+        f.others f'.others (t.1.1.4.stands h.first) (t'.1.1.4.stands h.second) t.1.1.4.counted t'.1.1.4.counted h)
     fed_as_both (Stopping e) (Stopping e') moved t t' =
         let p = stop_halts desk a w s v e moved t in
         let p' = stop_halts desk a' w' s' v' e' moved t' in
         let same : Some e' ≡ Some e = sym p'.1.1 ∙ (end_same p.0 p'.0 p.1.0 p'.1.0 ∙ p.1.1) in
         let ee : e' ≡ e = ap (λ (o : Option End). unwrap_or o end.Quit) same in
         let long : length t'.0.x ≡ length t.0.x = sym p'.1.2 ∙ (ap byte_of ee ∙ p.1.2) in
-        let x : t'.0.x ≡ t.0.x =
-        stop_front desk a' w' s' v' e' moved t' ∙ (ap (λ (n : ℕ). take n (bytes_of v')) long
-        ∙ (ap (λ (l : List ℕ). take (length t.0.x) l) bytes_same ∙ sym (stop_front desk a w s v e moved t))) in
-        parted e (life t.0 v.input v.port v.seat) (life t'.0 v'.input v'.port v'.seat) x
+        parted e (life t.0 v.input v.port v.seat) (life t'.0 v'.input v'.port v'.seat) (t'.1.0.counted ∙ (long ∙ sym t.1.0.counted))
         (ap (λ (k : Fixed). k.who) t'.1.0.fixed ∙ (ap (λ (k : Lasting). k.who) h.core.lasting ∙ sym (ap (λ (k : Fixed). k.who) t.1.0.fixed)))
         (t'.1.0.kept ∙ (ap (λ (z : Past). z.kept) h.core.past ∙ sym t.1.0.kept)) h.seat h.port t.1.1
         (subst (λ (z : End). IsEnded z (life t'.0 v'.input v'.port v'.seat) a' w') ee t'.1.1)

@@ -3,7 +3,6 @@ use Rattle.std.specs.Prelude.{◌≡◌, ◌≢◌, ◌<◌, ◌^◌, ◌++◌, 
 use Rattle.command_dialog.specs.declared.types.Ask.{Ask}
 use Rattle.command_dialog.specs.declared.types.Grant.{Grant}
 use Rattle.relay_outside.specs.MemLinks.{MemLinkState}
-use Rattle.rtmp_handshake.specs.Answer.{bad_version}
 use Rattle.stream_model.specs.declared.calls.Entry.{Entry}
 use Rattle.stream_registry.specs.Books.{SoleState, SeenState, FitsSole, journal_at, sole_rules}
 use Rattle.stream_registry.specs.Splits.{Kin}
@@ -65,6 +64,7 @@ pub record SameCore (c d : Core) : Type 0 where
   pub lasting : lasting_of d ≡ lasting_of c
   pub place : d.place ≡ c.place
   pub past : past_of d ≡ past_of c
+  pub fed : d.fed ≡ c.fed
   pub outbound : d.outbound ≡ c.outbound
   pub others : d.outgoing.others ≡ c.outgoing.others
 
@@ -87,13 +87,10 @@ pub record Parting (v w : SoleLife) : Type 0 where
 
 -- ---- turns
 
--- What is asked of a turn: it didn't end for want of memory, and left room in the histories. And what a turn doesn't say of the session
--- that it leaves: the version that its peer sent, if any was fed, is taken, and the bytes fed are counted
+-- what is asked of a turn: it didn't end for want of memory, and left room in the histories
 pub record IsPlain (a : Turn) (w : SoleLife) : Type 0 where
   pub memory : a ≢ Ended end.OutOfMemory
   pub room : HasRoom w.port
-  pub version : bad_version w.parts.x ≡ None
-  pub counted : w.parts.fed ≡ length w.parts.x
 
 abbrev pub LeftBy : Turn → (Ask → Grant) → SoleLife → SoleLife → Type 0
 LeftBy Moved desk v w = Alike desk v w

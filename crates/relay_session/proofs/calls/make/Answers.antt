@@ -1,4 +1,5 @@
-use Rattle.std.proofs.Common.{◌∙◌, ap, refl, subst, sym, false, Ok, Err}
+use Rattle.std.proofs.Common.{◌∙◌, ap, refl, subst, sym, false, Ok, Err, ◌≡◌, None, arith}
+use Rattle.session_owed.specs.Standing.{Past}
 use Rattle.stream_model.specs.declared.calls.Entry.{Entry}
 use Rattle.relay_session.specs.Feeding.{IsCalled}
 use Rattle.relay_session.specs.Keeping.{IsOver, StandsBefore, waiting}
@@ -7,7 +8,8 @@ use Rattle.relay_session.specs.Turns.{life}
 use Rattle.relay_session.specs.declared.end.End.TheVariants as end
 use Rattle.relay_session.specs.declared.seat_answers.Made.TheVariants as made
 use Rattle.relay_session.specs.declared.core_fields.Core.{Core}
-use Rattle.relay_session.proofs.Stopping.{over_here, read_here}
+use Rattle.relay_session.proofs.Holds.{light_none}
+use Rattle.relay_session.proofs.Stopping.{over_here, stands_on}
 use Rattle.relay_session.proofs.Turning.{tried_busy, tried_heard, tried_memory, tried_unheard, tried_worn}
 use Rattle.relay_session.proofs.calls.make.Goals as goal
 
@@ -27,7 +29,7 @@ returns-in-Ok-clause-tried g c =
       splits = e.splits;
     })
     (subst (λ (x : Entry). IsCalled (waiting b.core x) x c.in-Answer.reply d) c.of-asked.ensures h.called) h.others
-    (λ desk. record { stands = subst (λ (x : Entry). StandsBefore desk (waiting b.core x) → StandsBefore desk d) c.of-asked.ensures (h.stands desk); read = read_here d h.sound }) refl
+    (λ desk. stands_on desk (waiting b.core c.args.entry) d h.sound (subst (λ (x : Entry). StandsBefore desk (waiting b.core x) → StandsBefore desk d) c.of-asked.ensures (h.stands desk))) refl
 
 pub returns-in-Answer-clause-tried : goal.returns-in-Answer-clause-tried
 returns-in-Answer-clause-tried g c =
@@ -107,3 +109,10 @@ returns-clause-stands g c = λ desk st. (
     let b = c.args.body.now in
     let w = waiting b.core c.args.entry in
     subst (λ (d : Core). IsOver desk end.OutOfMemory d) (sym (c.keep-in-OutOfMemory.ensures ∙ ap (waiting b.core) c.in-OutOfMemory.ensures.makes.0)) (over_here desk end.OutOfMemory w w.hand w.outgoing c.requires.sound.sound st))
+
+pub returns-in-Ok-clause-sound : goal.returns-in-Ok-clause-sound
+returns-in-Ok-clause-sound g c =
+    let h = c.in-Ok.ensures in
+    let d = c.hear_reply.new.core in
+    let none : d.kept ≡ None = ap (λ (p : Past). p.kept) h.called.past in
+    record { sound = h.sound; light = light_none d.outgoing.others d.kept none (omega (arith, h.light, c.requires.sound.light)); fits = h.fits c.requires.sound.fits }

@@ -6,7 +6,7 @@ use Rattle.relay_session.specs.Turns.{answer, life}
 use Rattle.relay_session.specs.declared.end.End.TheVariants as end
 use Rattle.relay_session.specs.declared.seat_answers.Made.TheVariants as made
 use Rattle.relay_session.specs.declared.turn.Turn.TheVariants.{Ended}
-use Rattle.relay_session.proofs.Stopping.{read_here}
+use Rattle.relay_session.proofs.Stopping.{stands_on}
 use Rattle.relay_session.proofs.Turning.{take_tried}
 use Rattle.relay_session.proofs.calls.take.Goals as goal
 
@@ -26,7 +26,7 @@ returns-in-Ok-clause-taken g c =
       splits = e.splits;
     }) (
       subst (λ (x : Entry). IsCalled b.core x c.in-Answer.reply d) c.of-asked.ensures h.called,
-      inl (c.answer_of.ensures ∙ ap answer (c.either.ensures ∙ ap (λ (x : Bool). c.args.moved || not x) c.finds_nothing-found.ensures), h.others, λ desk. record { stands = h.stands desk; read = read_here d h.sound }),
+      inl (c.answer_of.ensures ∙ ap answer (c.either.ensures ∙ ap (λ (x : Bool). c.args.moved || not x) c.finds_nothing-found.ensures), h.others, λ desk. stands_on desk b.core d h.sound (h.stands desk)),
     ) refl
 
 pub returns-in-Err-clause-taken : goal.returns-in-Err-clause-taken

@@ -6,7 +6,7 @@ use Rattle.relay_session.specs.Turns.{Taken, is_nil, life}
 use Rattle.relay_session.specs.declared.turn.Turn.TheVariants.{Ended}
 use Rattle.relay_session.proofs.Rounds.{at_heard, fed_loud, fed_quiet, fed_stopped}
 use Rattle.relay_session.proofs.Going.{light_fed}
-use Rattle.relay_session.proofs.Stopping.{read_here}
+use Rattle.relay_session.proofs.Stopping.{stands_on}
 use Rattle.relay_session.proofs.six_steps.feed_on.Goals as goal
 
 pub make_on-requires-clause-at : goal.make_on-requires-clause-at
@@ -24,7 +24,7 @@ returns-in-Ok-true-clause-turn g c =
     let e = c.in-Ok-true.ensures in
     let f = c.make_on in
     fed_loud (AskedAlone P.fits P.rules P.root P.seen P.count P.wants P.busies P.adds P.kin P.branches) desk (life b.core b.input c.args.port.now b.seat) (life f.new.body.core f.new.body.input f.new.port f.new.body.seat) c.feed.new.core c.feed.new.input c.args.moved f.result e.fed
-    (subst (Hears desk b.core c.feed.new.core) c.in-Ok-true.field-0-test e.heard) f.ensures.turn (e.grows c.in-Ok-true.field-0-test) (record { stands = e.stands; read = read_here c.feed.new.core e.sound })
+    (subst (Hears desk b.core c.feed.new.core) c.in-Ok-true.field-0-test e.heard) f.ensures.turn (e.grows c.in-Ok-true.field-0-test) (stands_on desk b.core c.feed.new.core e.sound e.stands)
 
 pub returns-in-Ok-false-clause-turn : goal.returns-in-Ok-false-clause-turn
 returns-in-Ok-false-clause-turn g c =
@@ -36,7 +36,7 @@ returns-in-Ok-false-clause-turn g c =
     let w = life f.new.body.core f.new.body.input f.new.port f.new.body.seat in
     fed_quiet (AskedAlone P.fits P.rules P.root P.seen P.count P.wants P.busies P.adds P.kin P.branches) desk (life b.core b.input c.args.port.now b.seat) w c.feed.new.core c.feed.new.input c.is_empty-none.result c.args.moved f.result e.fed (e.all c.in-Ok-false.field-0-test)
     (subst (Hears desk b.core c.feed.new.core) c.in-Ok-false.field-0-test e.heard) (c.is_empty-none.ensures ∙ ap is_nil c.left.ensures.value)
-    (subst (λ (x : Bool). Taken (AskedAlone P.fits P.rules P.root P.seen P.count P.wants P.busies P.adds P.kin P.branches) (life c.feed.new.core c.feed.new.input c.args.port.now b.seat) x f.result w) c.either.ensures f.ensures.turn) (record { stands = e.stands; read = read_here c.feed.new.core e.sound })
+    (subst (λ (x : Bool). Taken (AskedAlone P.fits P.rules P.root P.seen P.count P.wants P.busies P.adds P.kin P.branches) (life c.feed.new.core c.feed.new.input c.args.port.now b.seat) x f.result w) c.either.ensures f.ensures.turn) (stands_on desk b.core c.feed.new.core e.sound e.stands)
 
 pub returns-in-Err-clause-turn : goal.returns-in-Err-clause-turn
 returns-in-Err-clause-turn g c =

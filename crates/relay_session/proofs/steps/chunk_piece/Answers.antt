@@ -8,7 +8,7 @@ use Rattle.relay_session.specs.declared.end.End.{End}
 use Rattle.relay_session.proofs.Bodies.{loud_most}
 use Rattle.relay_session.proofs.Fitting.{fits_kept}
 use Rattle.relay_session.proofs.Living.{before_loud, before_quiet, far, loud_acts, says_within, sound_fed}
-use Rattle.relay_session.proofs.Room.{room_loud, room_none}
+use Rattle.relay_session.proofs.Room.{none_kept, room_loud, room_none}
 use Rattle.relay_session.proofs.Stopping.{fed_chunk, loud_heard, loud_idle, others_both, outbound_kept, over_message, over_reader, stop_acknowledge, stop_message, stop_reader}
 use Rattle.relay_session.proofs.Stopping.{part_room, part_used}
 use Rattle.relay_session.proofs.Weights.{weight_loud, weight_quiet}
@@ -49,7 +49,7 @@ returns-in-None-clause-sound g c =
     let l = c.requires.sound in
     sound_fed d c.first-part.result.now c.add_all-in-None.new.self c.in-Ok.fed.used c.in-Ok.fed.message c.feed.new.self c.acknowledge.new.inbound d.outbound d.dialog c.acknowledge.new.outgoing d.kept d.place
     l c.requires.late (c.in-Ok.ensures.ok l.reads) (search rules) refl (says_within d.outgoing c.acknowledge.new.outgoing _ c.in-Ok-acknowledge.ensures.said l.others) l.placed l.acts
-    (room_none c.feed.new.self d.kept c.requires.open (omega (arith, l.short, ap (λ (k : ReaderKnown). k.max) (c.in-Ok.ensures.ok l.reads).now))) (search rules)
+    (room_none d.hand c.feed.new.self d.kept (none_kept d.hand d.x l.hand c.requires.late) c.requires.open (omega (arith, l.short, ap (λ (k : ReaderKnown). k.max) (c.in-Ok.ensures.ok l.reads).now))) (search rules)
 
 pub returns-in-None-clause-stands : goal.returns-in-None-clause-stands
 returns-in-None-clause-stands g c = λ st. (
@@ -69,7 +69,7 @@ returns-in-Ok-answer-clause-sound g c =
     (says_within c.acknowledge.new.outgoing c.answer.new.outgoing _ e.said o)
     (loud_idle (g.D.Desk.grants c.args.desk.now) d.dialog c.answer.new.dialog c.in-Some.message d.place a.place d.kept a.kept d.who (d.fed + c.in-Ok.fed.used) l.placed e.place e.makes e.state)
     (loud_acts (g.D.Desk.grants c.args.desk.now) d.dialog c.in-Some.message d.who (d.fed + c.in-Ok.fed.used) a.kept e.makes)
-    (room_loud d.reader c.feed.new.self c.first-part.result.now c.in-Ok.fed.used c.in-Some.message a.kept (rw c.in-Some.is at (c.in-Ok.ensures.ok l.reads))
+    (room_loud d.hand d.reader c.feed.new.self c.first-part.result.now c.in-Ok.fed.used c.in-Some.message a.kept (none_kept d.hand d.x l.hand c.requires.late) (rw c.in-Some.is at (c.in-Ok.ensures.ok l.reads))
     (loud_most d.who (d.fed + c.in-Ok.fed.used) (g.D.Desk.grants c.args.desk.now) d.dialog c.in-Some.message a.kept e.makes) l.short) (search rules)
 
 pub returns-in-Ok-answer-clause-stands : goal.returns-in-Ok-answer-clause-stands
@@ -159,3 +159,21 @@ returns-in-Ok-answer-clause-fits g c = λ f.
 pub returns-in-Err-answer-clause-fits : goal.returns-in-Err-answer-clause-fits
 returns-in-Err-answer-clause-fits g c = λ f.
     fits_kept _ _ _ _ _ _ (omega (arith, c.answer.ensures.unit, c.acknowledge.ensures.unit)) refl (ap (λ (k : ReaderKnown). k.max) (c.in-Ok.ensures.ok c.requires.sound.reads).now) f
+
+pub returns-in-Err-clause-room : goal.returns-in-Err-clause-room
+returns-in-Err-clause-room g c =
+    let d = c.args.core.now in
+    let l = c.requires.sound in
+    room_none d.hand c.feed.new.self d.kept (none_kept d.hand d.x l.hand c.requires.late) c.requires.open (omega (arith, l.short, ap (λ (k : ReaderKnown). k.max) (c.in-Err.ensures.err c.requires.sound.reads).now))
+
+pub returns-in-Err-acknowledge-clause-room : goal.returns-in-Err-acknowledge-clause-room
+returns-in-Err-acknowledge-clause-room g c =
+    let d = c.args.core.now in
+    let l = c.requires.sound in
+    room_none d.hand c.feed.new.self d.kept (none_kept d.hand d.x l.hand c.requires.late) c.requires.open (omega (arith, l.short, ap (λ (k : ReaderKnown). k.max) (c.in-Ok.ensures.ok c.requires.sound.reads).now))
+
+pub returns-in-Err-answer-clause-room : goal.returns-in-Err-answer-clause-room
+returns-in-Err-answer-clause-room g c =
+    let d = c.args.core.now in
+    let l = c.requires.sound in
+    room_none d.hand c.feed.new.self d.kept (none_kept d.hand d.x l.hand c.requires.late) c.requires.open (omega (arith, l.short, ap (λ (k : ReaderKnown). k.max) (c.in-Ok.ensures.ok c.requires.sound.reads).now))

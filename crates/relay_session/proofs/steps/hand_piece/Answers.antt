@@ -1,5 +1,5 @@
 use Rattle.std.proofs.Common.{rules}
-use Rattle.relay_session.proofs.Living.{before_hand, hand_used, light_hand, sound_hand}
+use Rattle.relay_session.proofs.Living.{before_hand, hand_used, light_hand, room_hand, sound_hand}
 use Rattle.relay_session.proofs.Stopping.{fed_hand, stop_memory}
 use Rattle.relay_session.proofs.steps.hand_piece.Goals as goal
 
@@ -34,3 +34,12 @@ pub returns-clause-light : goal.returns-clause-light
 returns-clause-light c =
     let e = c.in-Ok.ensures in
     light_hand c.args.core.now c.args.piece.now c.in-Ok.fed.out c.add_all.new.self c.append.new.self c.in-Ok.fed.used c.feed.new.self c.requires.sound c.requires.early e.used e.ok e.sum (search rules) (search rules)
+
+pub returns-in-Err-BadVersion-clause-room : goal.returns-in-Err-BadVersion-clause-room
+returns-in-Err-BadVersion-clause-room c = room_hand c.args.core.now c.feed.new.self c.requires.sound c.requires.early
+
+pub returns-in-Err-OutOfMemory-clause-room : goal.returns-in-Err-OutOfMemory-clause-room
+returns-in-Err-OutOfMemory-clause-room c = room_hand c.args.core.now c.feed.new.self c.requires.sound c.requires.early
+
+pub returns-in-Err-clause-room : goal.returns-in-Err-clause-room
+returns-in-Err-clause-room c = room_hand c.args.core.now c.feed.new.self c.requires.sound c.requires.early
