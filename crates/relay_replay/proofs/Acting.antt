@@ -41,7 +41,8 @@ acted_stand (Rounds k) x e = refl
 acted_stand (Quit n) x e = refl
 
 pub acted_does : (line : ReplayLine) (s : SceneState) (before now : CastState) → is_acting line ≡ true → IsOpen s.cast s before
-    → Plays s.limits (desk_of s) line before now → length now.sessions ≡ opened_by line (length before.sessions) → Does line s (record s { fresh = false; cast = Some now })
+    → Plays s.limits (desk_of s) line before now → length now.sessions ≡ opened_by line (length before.sessions)
+    → Does line s (record s { fresh = false; cast = Some now })
 acted_does line s before now acts begun plays many = record {
   stand = ap (λ (n : ℕ). acted n (stand_of s)) (many ∙ ap (opened_by line) (sym (opened_count s.cast s before begun))) ∙ acted_stand line (stand_of s) acts;
   cast = subst (λ b. CastBy b line s (record s { fresh = false; cast = Some now })) (sym acts)
@@ -61,17 +62,20 @@ short l e =
     (some, few)
 
 -- that many sessions are open
-counted : (n : ℕ) (s : SceneState) (c : CastState) → IsOpen s.cast s c → nat_lt n (count (option_map (λ (x : CastState). length x.sessions) s.cast)) ≡ true → n < length c.sessions
+counted : (n : ℕ) (s : SceneState) (c : CastState) → IsOpen s.cast s c
+    → nat_lt n (count (option_map (λ (x : CastState). length x.sessions) s.cast)) ≡ true → n < length c.sessions
 counted n s c o e = subst (λ (k : ℕ). n < k) (opened_count s.cast s c o) (below n (count (option_map (λ (x : CastState). length x.sessions) s.cast)) e)
 
 -- one more finds room
 roomy : (s : SceneState) (c : CastState) → IsOpen s.cast s c → has_room (stand_of s) ≡ true → length c.sessions < 64
 roomy s c o e = subst (λ (k : ℕ). k < 64) (opened_count s.cast s c o) (below (count (option_map (λ (x : CastState). length x.sessions) s.cast)) 64 e)
 
-recorded : (n : ℕ) (s : SceneState) (c : CastState) → Sits s.places s.opens (length s.recorders) c → nat_lt n (length s.recorders) ≡ true → n < length c.recorders
+recorded : (n : ℕ) (s : SceneState) (c : CastState) → Sits s.places s.opens (length s.recorders) c → nat_lt n (length s.recorders) ≡ true
+    → n < length c.recorders
 recorded n s c k e = subst (λ (m : ℕ). n < m) (sym k.count) (below n (length s.recorders) e)
 
-pub is_there : (line : ReplayLine) (s : SceneState) (c : CastState) → allows line (stand_of s) ≡ true → IsOpen s.cast s c → Sits s.places s.opens (length s.recorders) c → IsThere line c
+pub is_there : (line : ReplayLine) (s : SceneState) (c : CastState) → allows line (stand_of s) ≡ true → IsOpen s.cast s c
+    → Sits s.places s.opens (length s.recorders) c → IsThere line c
 is_there Session s c e o k = roomy s c o e
 is_there OpenHttp s c e o k = roomy s c o e
 is_there (OpenEdge n app name) s c e o k =

@@ -10,14 +10,14 @@ use Rattle.command_dialog.specs.declared.types.Grant.TheVariants.{NoName, Refuse
 use Rattle.relay_config.specs.declared.config.PlaceRule.{PlaceRule}
 use Rattle.relay_config.specs.declared.config.OpenRule.{OpenRule}
 use Rattle.relay_outside.specs.MemLinks.{MemHears, MemSays}
-use Rattle.stream_registry.specs.Books.{SoleState, SeenState, FitsSole, sole_rules}
+use Rattle.stream_registry.specs.Books.{SoleState, SeenState, FitsSole, journal_at, sole_rules}
 use Rattle.stream_model.specs.Names.{is_name}
 use Rattle.stream_registry.specs.Names.{PortRules, places}
 use Rattle.media_recorder.specs.Ports.{FitsIf}
 use Rattle.relay_session.specs.Grants.{Keys, granted_from, has_app, is_named, judged, opened_from, stream_keys, table_keys, tables_from, takes_key}
 use Rattle.relay_session.specs.Places.{IsGrantThere, IsOffered, IsThere}
-use Rattle.relay_session.specs.SeatState.{HasFit}
-use Rattle.relay_session.specs.SessionState.{BeginsOwed, IsWhole, SessionState, StandsFor, lasting_of, life_at}
+use Rattle.relay_session.specs.SeatState.{GoOn, HasFit}
+use Rattle.relay_session.specs.SessionState.{BeginsOwed, IsWhole, SessionState, StandsFor, ended_by, lasting_of, life_at}
 use Rattle.relay_session.specs.Turns.{EndedBy}
 use Rattle.relay_session.specs.declared.end.End.{End}
 use Rattle.relay_session.specs.declared.turn.Turn.{Turn}
@@ -37,7 +37,8 @@ use Rattle.relay_replay.specs.declared.guest.Guest.{Guest}
 use Rattle.relay_replay.specs.declared.guest.Guest.TheVariants as guest
 use Rattle.relay_replay.specs.declared.guest.Answered.{Answered}
 use Rattle.relay_replay.specs.declared.guest.Answered.TheVariants as answered
-use Rattle.relay_replay.specs.Cast.{RecState, CastState, AfterTurn, AnsweredBy, AnsweredTurn, EdgeAnsweredBy, GuestTurn, PlayerAnsweredBy, SoleAsks, Times, Turned, Each, is_moved}
+use Rattle.relay_replay.specs.Cast.{RecState, CastState, AfterTurn, AnsweredBy, AnsweredTurn, EdgeAnsweredBy, GuestTurn, PlayerAnsweredBy, SoleAsks, Times}
+use Rattle.relay_replay.specs.Cast.{Turned, Each, is_moved}
 use Rattle.relay_replay.specs.Cast.{told_edge, told_http, told_turn}
 use Rattle.relay_replay.specs.Turning.{AfterEdgeTurn, AfterHttpTurn, Asks, EdgeTurned, PlayerTurned}
 use Rattle.relay_replay.specs.Scenes.{EdgeReady, Fits, IsPortOf, PlayerReady, ReadyBy, ReadyGuest, Sits, name_of, open_name}
@@ -205,11 +206,26 @@ pub turned : (desk : Ask → Grant) (port between port' : SoleState) (c d : Conn
     → told ≡ told_turn a → is_some c.ended ≡ false
     → EndedBy SoleAsks desk
     MemHears MemSays c.session.ended c.session.quit (life_at c.session port) c.link a (life_at mid between) d.link
-    → (StandsFor desk c.session → StandsFor desk mid) → (StandsFor desk mid → BeginsOwed desk mid.parts) → (StandsFor desk mid → IsWhole desk mid.parts) → lasting_of mid.parts ≡ lasting_of c.session.parts
+    → (StandsFor desk c.session → StandsFor desk mid) → (StandsFor desk mid → BeginsOwed desk mid.parts) → (StandsFor desk mid → IsWhole desk mid.parts)
+    → lasting_of mid.parts ≡ lasting_of c.session.parts
+    → GoOn (journal_at port.books) (journal_at between.books) → mid.ended ≡ ended_by a → mid.quit ≡ c.session.quit
     → AfterTurn a mid between d.session d.ended port' → AnsweredBy told c.ended desk port c port' d
-turned desk port between port' c d mid a told is lives turn stands owed whole lasts leads =
+turned desk port between port' c d mid a told is lives turn stands owed whole lasts roots ended quit leads =
     subst (λ (x : Answered). AnsweredBy x c.ended desk port c port' d) (sym is)
-    (turned_by c.ended desk port c port' d lives (record { answer = a; between = between; mid = mid; turn = turn; stands = stands; owed = owed; whole = whole; lasts = lasts; leads = leads }))
+    (turned_by c.ended desk port c port' d lives (record {
+      answer = a;
+      between = between;
+      mid = mid;
+      turn = turn;
+      stands = stands;
+      owed = owed;
+      whole = whole;
+      lasts = lasts;
+      roots = roots;
+      ended = ended;
+      quit = quit;
+      leads = leads;
+    }))
 
 player_turned_by : (e : Option HttpEnd) (desk : Ask → Grant) (port : SoleState) (c : PlayState) (port' : SoleState) (d : PlayState) → is_some e ≡ false
     → (t : PlayerTurned desk port c port' d) → PlayerAnsweredBy (told_http t.answer) e desk port c port' d
@@ -224,7 +240,8 @@ pub player_turned : (desk : Ask → Grant) (port between port' : SoleState) (c d
     → AfterHttpTurn a mid between d.player d.ended port' → PlayerAnsweredBy told c.ended desk port c port' d
 player_turned desk port between port' c d mid a told is lives turn stands owed lasts leads =
     subst (λ (x : Answered). PlayerAnsweredBy x c.ended desk port c port' d) (sym is)
-    (player_turned_by c.ended desk port c port' d lives (record { answer = a; between = between; mid = mid; turn = turn; stands = stands; owed = owed; lasts = lasts; leads = leads }))
+    (player_turned_by c.ended desk port c port' d lives (record
+    { answer = a; between = between; mid = mid; turn = turn; stands = stands; owed = owed; lasts = lasts; leads = leads }))
 
 edge_turned_by : (e : Option EdgeEnd) (port : SoleState) (c : PullState) (port' : SoleState) (d : PullState) → is_some e ≡ false
     → (t : EdgeTurned port c port' d) → EdgeAnsweredBy (told_edge t.answer) e port c port' d
@@ -238,20 +255,31 @@ pub edge_turned : (port between port' : SoleState) (c d : PullState) (mid : Edge
     → AfterEdgeTurn a mid between d.edge d.ended port' → EdgeAnsweredBy told c.ended port c port' d
 edge_turned port between port' c d mid a told is lives turn stands lasts leads =
     subst (λ (x : Answered). EdgeAnsweredBy x c.ended port c port' d) (sym is)
-    (edge_turned_by c.ended port c port' d lives (record { answer = a; between = between; mid = mid; turn = turn; stands = stands; lasts = lasts; leads = leads }))
+    (edge_turned_by c.ended port c port' d lives (record {
+      answer = a;
+      between = between;
+      mid = mid;
+      turn = turn;
+      stands = stands;
+      lasts = lasts;
+      leads = leads;
+    }))
 
 -- a turn of what was opened is that of its kind
-pub session_turned : (r : Result Answered OutOfMemory) (desk : Ask → Grant) (port : SoleState) (g : Guest) (c : ConnState) (port' : SoleState) (d : ConnState) → g ≡ guest.Session c
+pub session_turned : (r : Result Answered OutOfMemory) (desk : Ask → Grant) (port : SoleState) (g : Guest) (c : ConnState) (port' : SoleState) (d : ConnState)
+    → g ≡ guest.Session c
     → IfOk r (λ a. AnsweredBy a c.ended desk port c port' d) → IfOk r (λ a. GuestTurn a desk port g port' (guest.Session d))
 session_turned (Ok a) desk port g c port' d e t = subst (λ (x : Guest). GuestTurn a desk port x port' (guest.Session d)) (sym e) (d, refl, t)
 session_turned (Err x) desk port g c port' d e t = tt
 
-pub player_turn : (r : Result Answered OutOfMemory) (desk : Ask → Grant) (port : SoleState) (g : Guest) (c : PlayState) (port' : SoleState) (d : PlayState) → g ≡ guest.Player c
+pub player_turn : (r : Result Answered OutOfMemory) (desk : Ask → Grant) (port : SoleState) (g : Guest) (c : PlayState) (port' : SoleState) (d : PlayState)
+    → g ≡ guest.Player c
     → IfOk r (λ a. PlayerAnsweredBy a c.ended desk port c port' d) → IfOk r (λ a. GuestTurn a desk port g port' (guest.Player d))
 player_turn (Ok a) desk port g c port' d e t = subst (λ (x : Guest). GuestTurn a desk port x port' (guest.Player d)) (sym e) (d, refl, t)
 player_turn (Err x) desk port g c port' d e t = tt
 
-pub edge_turn : (r : Result Answered OutOfMemory) (desk : Ask → Grant) (port : SoleState) (g : Guest) (c : PullState) (port' : SoleState) (d : PullState) → g ≡ guest.Edge c
+pub edge_turn : (r : Result Answered OutOfMemory) (desk : Ask → Grant) (port : SoleState) (g : Guest) (c : PullState) (port' : SoleState) (d : PullState)
+    → g ≡ guest.Edge c
     → IfOk r (λ a. EdgeAnsweredBy a c.ended port c port' d) → IfOk r (λ a. GuestTurn a desk port g port' (guest.Edge d))
 edge_turn (Ok a) desk port g c port' d e t = subst (λ (x : Guest). GuestTurn a desk port x port' (guest.Edge d)) (sym e) (d, refl, t)
 edge_turn (Err x) desk port g c port' d e t = tt

@@ -1,5 +1,6 @@
 -- What runs keeps the limits of its script
-use Rattle.std.proofs.Common.{◌≡◌, ◌<◌, ◌+◌, ℕ, zero, suc, Bool, true, false, List, [], ◌∷◌, length, map, All, arith, Option, Some, None, refl, sym, ap, ◌∙◌, subst}
+use Rattle.std.proofs.Common.{◌≡◌, ◌<◌, ◌+◌, ℕ, zero, suc, Bool, true, false, List, [], ◌∷◌, length, map, All, arith, Option, Some, None, refl, sym, ap, ◌∙◌}
+use Rattle.std.proofs.Common.{subst}
 use Rattle.std.proofs.lemmas.List.Elements.{All-nil, All-push, All-set}
 use Rattle.command_dialog.specs.declared.types.Ask.{Ask}
 use Rattle.command_dialog.specs.declared.types.Grant.{Grant}
@@ -10,7 +11,8 @@ use Rattle.relay_session.specs.declared.end.End.{End}
 use Rattle.relay_session.specs.declared.turn.Turn.{Turn as TurnAnswer}
 use Rattle.relay_session.specs.declared.turn.Turn.TheVariants.{Moved, Idle, Ended}
 use Rattle.relay_script.specs.declared.replay.ReplayLine.{ReplayLine}
-use Rattle.relay_script.specs.declared.replay.ReplayLine.TheVariants.{Nothing, Limits, Stream, Guard, Recorder, Session, Piece, Eof, Room, FailRecv, FailSend, FailPut, Turn, Rec, All as Rounds, Quit, OpenApp, GuardOpen, OpenHttp, OpenEdge}
+use Rattle.relay_script.specs.declared.replay.ReplayLine.TheVariants.{Nothing, Limits, Stream, Guard, Recorder, Session, Piece, Eof, Room, FailRecv, FailSend}
+use Rattle.relay_script.specs.declared.replay.ReplayLine.TheVariants.{FailPut, Turn, Rec, All as Rounds, Quit, OpenApp, GuardOpen, OpenHttp, OpenEdge}
 use Rattle.stream_registry.specs.Books.{SeenState, SoleState, sole_rules}
 use Rattle.stream_model.specs.Shape.{pool_shape}
 use Rattle.stream_model.specs.declared.calls.StreamLimits.{StreamLimits}
@@ -49,34 +51,41 @@ Writes m r = r.recorder.tape.longest ≡ m
 
 -- ---- turns
 
-after_takes : (a : TurnAnswer) (mid : SessionState SeenState) (port : SoleState) (d : ConnState) (port' : SoleState) → AfterTurn a mid port d.session d.ended port' → d.session.parts.reader.max ≡ mid.parts.reader.max
+after_takes : (a : TurnAnswer) (mid : SessionState SeenState) (port : SoleState) (d : ConnState) (port' : SoleState)
+    → AfterTurn a mid port d.session d.ended port' → d.session.parts.reader.max ≡ mid.parts.reader.max
 after_takes Moved mid port d port' t = ap (λ (s : SessionState SeenState). s.parts.reader.max) t.0
 after_takes Idle mid port d port' t = ap (λ (s : SessionState SeenState). s.parts.reader.max) t.0
 after_takes (Ended e) mid port d port' t = ap (λ (c : Core). c.reader.max) t.2.parts
 
-turn_takes : (m : ℕ) (e : Option End) (desk : Ask → Grant) (port : SoleState) (c : ConnState) (port' : SoleState) (d : ConnState) → SessionTurn e desk port c port' d → c.session.parts.reader.max ≡ m → d.session.parts.reader.max ≡ m
+turn_takes : (m : ℕ) (e : Option End) (desk : Ask → Grant) (port : SoleState) (c : ConnState) (port' : SoleState) (d : ConnState)
+    → SessionTurn e desk port c port' d → c.session.parts.reader.max ≡ m → d.session.parts.reader.max ≡ m
 turn_takes m None desk port c port' d t k = after_takes t.answer t.mid t.between d port' t.leads ∙ ap (λ (l : Lasting). l.max) t.lasts ∙ k
 turn_takes m (Some e) desk port c port' d t k = subst (λ (x : ConnState). x.session.parts.reader.max ≡ m) (sym t.0) k
 
-after_player : (a : HttpTurn) (mid : PlayerState SeenState) (port : SoleState) (d : PlayState) (port' : SoleState) → AfterHttpTurn a mid port d.player d.ended port' → d.player.parts.longest ≡ mid.parts.longest
+after_player : (a : HttpTurn) (mid : PlayerState SeenState) (port : SoleState) (d : PlayState) (port' : SoleState)
+    → AfterHttpTurn a mid port d.player d.ended port' → d.player.parts.longest ≡ mid.parts.longest
 after_player http_turn.Moved mid port d port' t = ap (λ (s : PlayerState SeenState). s.parts.longest) t.0
 after_player http_turn.Idle mid port d port' t = ap (λ (s : PlayerState SeenState). s.parts.longest) t.0
 after_player (http_turn.Ended e) mid port d port' t = ap (λ (c : PlayerCore). c.longest) t.2.parts
 
-player_sends : (m : ℕ) (e : Option HttpEnd) (desk : Ask → Grant) (port : SoleState) (c : PlayState) (port' : SoleState) (d : PlayState) → PlayerTurn e desk port c port' d → c.player.parts.longest ≡ m → d.player.parts.longest ≡ m
+player_sends : (m : ℕ) (e : Option HttpEnd) (desk : Ask → Grant) (port : SoleState) (c : PlayState) (port' : SoleState) (d : PlayState)
+    → PlayerTurn e desk port c port' d → c.player.parts.longest ≡ m → d.player.parts.longest ≡ m
 player_sends m None desk port c port' d t k = after_player t.answer t.mid t.between d port' t.leads ∙ ap (λ (l : http.Lasting). l.longest) t.lasts ∙ k
 player_sends m (Some e) desk port c port' d t k = subst (λ (x : PlayState). x.player.parts.longest ≡ m) (sym t.0) k
 
-after_edge : (a : EdgeTurn) (mid : EdgeState SeenState) (port : SoleState) (d : PullState) (port' : SoleState) → AfterEdgeTurn a mid port d.edge d.ended port' → d.edge.client.parts.reader.max ≡ mid.client.parts.reader.max
+after_edge : (a : EdgeTurn) (mid : EdgeState SeenState) (port : SoleState) (d : PullState) (port' : SoleState)
+    → AfterEdgeTurn a mid port d.edge d.ended port' → d.edge.client.parts.reader.max ≡ mid.client.parts.reader.max
 after_edge edge_turn.Moved mid port d port' t = ap (λ (s : EdgeState SeenState). s.client.parts.reader.max) t.0
 after_edge edge_turn.Idle mid port d port' t = ap (λ (s : EdgeState SeenState). s.client.parts.reader.max) t.0
 after_edge (edge_turn.Ended e) mid port d port' t = ap (λ (k : ClientState). k.parts.reader.max) t.2.client
 
-edge_takes : (m : ℕ) (e : Option EdgeEnd) (port : SoleState) (c : PullState) (port' : SoleState) (d : PullState) → EdgeTurnBy e port c port' d → c.edge.client.parts.reader.max ≡ m → d.edge.client.parts.reader.max ≡ m
+edge_takes : (m : ℕ) (e : Option EdgeEnd) (port : SoleState) (c : PullState) (port' : SoleState) (d : PullState) → EdgeTurnBy e port c port' d
+    → c.edge.client.parts.reader.max ≡ m → d.edge.client.parts.reader.max ≡ m
 edge_takes m None port c port' d t k = after_edge t.answer t.mid t.between d port' t.leads ∙ ap (λ (l : edge.Lasting). l.max) t.lasts ∙ k
 edge_takes m (Some e) port c port' d t k = subst (λ (x : PullState). x.edge.client.parts.reader.max ≡ m) (sym t.0) k
 
-guest_takes : (m : ℕ) (a : Answered) (desk : Ask → Grant) (port : SoleState) (g : Guest) (port' : SoleState) (h : Guest) → GuestTurn a desk port g port' h → Takes m g → Takes m h
+guest_takes : (m : ℕ) (a : Answered) (desk : Ask → Grant) (port : SoleState) (g : Guest) (port' : SoleState) (h : Guest) → GuestTurn a desk port g port' h
+    → Takes m g → Takes m h
 guest_takes m a desk port (guest.Session c) port' h t k = subst (Takes m) (sym t.1) (turn_takes m c.ended desk port c port' t.0 t.2.0 k)
 guest_takes m a desk port (guest.Player c) port' h t k = subst (Takes m) (sym t.1) (player_sends m c.ended desk port c port' t.0 t.2.0 k)
 guest_takes m a desk port (guest.Edge c) port' h t k = subst (Takes m) (sym t.1) (edge_takes m c.ended port c port' t.0 t.2.0 k)
@@ -221,9 +230,11 @@ pub opened_limited : (s : SceneState) (c : CastState) → IsSound s → IsOpen s
 opened_limited s c h o = opened_by s.cast s c o (limited_if s.fresh s.limits s.cast h.limited)
 
 -- and after that line
-pub acted_limited : (s : SceneState) (line : ReplayLine) (desk : Ask → Grant) (c d : CastState) → IsSound s → IsOpen s.cast s c → Plays s.limits desk line c d → IsLimited s.limits d
+pub acted_limited : (s : SceneState) (line : ReplayLine) (desk : Ask → Grant) (c d : CastState) → IsSound s → IsOpen s.cast s c
+    → Plays s.limits desk line c d → IsLimited s.limits d
 acted_limited s line desk c d h o p = plays_limited line s.limits desk c d p (opened_limited s c h o)
 
 -- and after turns of a session until it is idle
-pub settled_limited : (s : SceneState) (done : Bool) (most : ℕ) (desk : Ask → Grant) (n : ℕ) (c d : CastState) → IsSound s → IsOpen s.cast s c → SettledBy done most desk n c d → IsLimited s.limits d
+pub settled_limited : (s : SceneState) (done : Bool) (most : ℕ) (desk : Ask → Grant) (n : ℕ) (c d : CastState) → IsSound s → IsOpen s.cast s c
+    → SettledBy done most desk n c d → IsLimited s.limits d
 settled_limited s done most desk n c d h o x = settled_keep (IsLimited s.limits) desk n (limited_of s.limits desk n) done most c d x (opened_limited s c h o)

@@ -70,7 +70,8 @@ as_many n (p ∷ ps) [] a = absurd a
 as_many n (p ∷ ps) (r ∷ rs) a = ap suc (as_many (n + 1) ps rs a.1)
 
 pub new_sits : (streams : List PlaceRule) (opens : List OpenRule) (ps : List Plan) (port : SoleState) (rs : List RecState)
-    → IsPortOf streams opens port → AreNew 0 ps rs → All (λ p. p.stream < length streams) ps → Sits streams opens (length ps) (record { port = port; sessions = []; recorders = rs })
+    → IsPortOf streams opens port → AreNew 0 ps rs → All (λ p. p.stream < length streams) ps
+    → Sits streams opens (length ps) (record { port = port; sessions = []; recorders = rs })
 new_sits streams opens ps port rs p a spots =
     let many : length (sole_rules port.rules).names ≡ length streams = ap length p.names ∙ length-map streams name_of in
     record {

@@ -1,5 +1,6 @@
 -- What lines open, and what they say of it, sits at the streams
-use Rattle.std.proofs.Common.{◌≡◌, ◌<◌, ◌+◌, ◌++◌, ℕ, List, [], ◌∷◌, length, length-append, All, Option, Some, None, true, Result, Ok, Err, OnOk, refl, sym, ap, ◌∙◌, subst, arith}
+use Rattle.std.proofs.Common.{◌≡◌, ◌<◌, ◌++◌, ℕ, List, [], ◌∷◌, length, length-append, All, Option, Some, None, true, Result, Ok, Err, OnOk, refl, sym, ap, ◌∙◌}
+use Rattle.std.proofs.Common.{subst, arith}
 use Rattle.std.proofs.lemmas.List.Elements.{All-push, All-set}
 use Rattle.av_unit.specs.declared.bytes.OutOfMemory.{OutOfMemory}
 use Rattle.command_dialog.specs.declared.types.Ask.{Ask}
@@ -52,7 +53,8 @@ player_ready limits who port c n =
       calls = n.empty.2 ∙ sym (ap calls_of n.nowhere.1);
     })
 
-edge_ready : (limits : AllLimits) (who stream : ℕ) (app name : List ℕ) (port : SoleState) (c : PullState) → stream < places (sole_rules port.rules) → IsNewEdge limits who stream app name c → EdgeReady c.ended port c.edge
+edge_ready : (limits : AllLimits) (who stream : ℕ) (app name : List ℕ) (port : SoleState) (c : PullState) → stream < places (sole_rules port.rules)
+    → IsNewEdge limits who stream app name c → EdgeReady c.ended port c.edge
 edge_ready limits who stream app name port c there n =
     subst (λ (e : Option EdgeEnd). EdgeReady e port c.edge) (sym n.lives.1) (record {
       fit = subst (λ (s : SeatState SeenState). HasFit (FitsSole port) s.spot) (sym n.nowhere) tt;
@@ -65,7 +67,8 @@ edge_ready limits who stream app name port c there n =
 
 -- ---- one more is opened
 
-pushed : (streams : List PlaceRule) (opens : List OpenRule) (c d : CastState) (g : Guest) → length c.sessions < 64 → Sits streams opens (length c.recorders) c → ReadyGuest c.port g
+pushed : (streams : List PlaceRule) (opens : List OpenRule) (c d : CastState) (g : Guest) → length c.sessions < 64
+    → Sits streams opens (length c.recorders) c → ReadyGuest c.port g
     → d.sessions ≡ c.sessions ++ g ∷ [] → d.recorders ≡ c.recorders → d.port ≡ c.port → Sits streams opens (length c.recorders) d
 pushed streams opens c d g small s ready sessions recorders port = record {
   port = subst (IsPortOf streams opens) (sym port) s.port;
@@ -76,22 +79,27 @@ pushed streams opens c d g small s ready sessions recorders port = record {
   recorders = subst (λ (p : SoleState). All (Fits p) d.recorders) (sym port) (subst (All (Fits c.port)) (sym recorders) s.recorders);
 }
 
-pub by_session : (r : Result (Unit {0}) OutOfMemory) (limits : AllLimits) (streams : List PlaceRule) (opens : List OpenRule) (c d : CastState) → length c.sessions < 64 → Sits streams opens (length c.recorders) c
+pub by_session : (r : Result (Unit {0}) OutOfMemory) (limits : AllLimits) (streams : List PlaceRule) (opens : List OpenRule) (c d : CastState)
+    → length c.sessions < 64 → Sits streams opens (length c.recorders) c
     → OnOk r (Opens limits c d) → OnOk r (Sits streams opens (length c.recorders) d)
 by_session (Ok x) limits streams opens c d small s o =
     pushed streams opens c d (guest.Session o.new) small s (session_ready limits (length c.sessions) c.port o.new o.fresh) o.sessions o.recorders o.port
 by_session (Err x) limits streams opens c d small s o = tt
 
-pub by_http : (r : Result (Unit {0}) OutOfMemory) (limits : AllLimits) (streams : List PlaceRule) (opens : List OpenRule) (c d : CastState) → length c.sessions < 64 → Sits streams opens (length c.recorders) c
+pub by_http : (r : Result (Unit {0}) OutOfMemory) (limits : AllLimits) (streams : List PlaceRule) (opens : List OpenRule) (c d : CastState)
+    → length c.sessions < 64 → Sits streams opens (length c.recorders) c
     → OnOk r (OpensHttp limits c d) → OnOk r (Sits streams opens (length c.recorders) d)
 by_http (Ok x) limits streams opens c d small s o =
     pushed streams opens c d (guest.Player o.new) small s (player_ready limits (length c.sessions) c.port o.new o.fresh) o.sessions o.recorders o.port
 by_http (Err x) limits streams opens c d small s o = tt
 
-pub by_edge : (r : Result (Unit {0}) OutOfMemory) (limits : AllLimits) (stream : ℕ) (app name : List ℕ) (streams : List PlaceRule) (opens : List OpenRule) (c d : CastState) → length c.sessions < 64
-    → stream < places (sole_rules c.port.rules) → Sits streams opens (length c.recorders) c → OnOk r (OpensEdge limits stream app name c d) → OnOk r (Sits streams opens (length c.recorders) d)
+pub by_edge : (r : Result (Unit {0}) OutOfMemory) (limits : AllLimits) (stream : ℕ) (app name : List ℕ) (streams : List PlaceRule) (opens : List OpenRule)
+    (c d : CastState) → length c.sessions < 64
+    → stream < places (sole_rules c.port.rules) → Sits streams opens (length c.recorders) c → OnOk r (OpensEdge limits stream app name c d)
+    → OnOk r (Sits streams opens (length c.recorders) d)
 by_edge (Ok x) limits stream app name streams opens c d small there s o =
-    pushed streams opens c d (guest.Edge o.new) small s (edge_ready limits (length c.sessions) stream app name c.port o.new there o.fresh) o.sessions o.recorders o.port
+    pushed streams opens c d (guest.Edge o.new) small s (edge_ready limits (length c.sessions) stream app name c.port o.new there o.fresh) o.sessions
+    o.recorders o.port
 by_edge (Err x) limits stream app name streams opens c d small there s o = tt
 
 -- ---- lines about one of them
@@ -109,7 +117,8 @@ told_ready line port (guest.Session c) r = told_session line port c r
 told_ready line port (guest.Player c) r = r
 told_ready line port (guest.Edge c) r = r
 
-pub by_line : (r : Result (Unit {0}) OutOfMemory) (streams : List PlaceRule) (opens : List OpenRule) (line : ReplayLine) (n : ℕ) (c d : CastState) → Sits streams opens (length c.recorders) c
+pub by_line : (r : Result (Unit {0}) OutOfMemory) (streams : List PlaceRule) (opens : List OpenRule) (line : ReplayLine) (n : ℕ) (c d : CastState)
+    → Sits streams opens (length c.recorders) c
     → OnOk r (Told line n c d) → OnOk r (Sits streams opens (length c.recorders) d)
 by_line (Ok x) streams opens line n c d s t =
     let new : ReadyGuest c.port (told_guest line t.old) = told_ready line c.port t.old (all_at (ReadyGuest c.port) c.sessions n t.old t.there s.sessions) in
@@ -150,12 +159,14 @@ about (Turn k j) n limits desk c d e t = absurd (cc)
 about (Rec k j) n limits desk c d e t = absurd (cc)
 about (Rounds j) n limits desk c d e t = absurd (cc)
 
-pub line_plays : (r : Result (Unit {0}) OutOfMemory) (line : ReplayLine) (n : ℕ) (limits : AllLimits) (desk : Ask → Grant) (c d : CastState) → session_in line ≡ Some n
+pub line_plays : (r : Result (Unit {0}) OutOfMemory) (line : ReplayLine) (n : ℕ) (limits : AllLimits) (desk : Ask → Grant) (c d : CastState)
+    → session_in line ≡ Some n
     → OnOk r (Told line n c d) → OnOk r (Plays limits desk line c d)
 line_plays (Ok x) line n limits desk c d e t = (about line n limits desk c d e t).0
 line_plays (Err x) line n limits desk c d e t = tt
 
-pub line_opens : (r : Result (Unit {0}) OutOfMemory) (line : ReplayLine) (n : ℕ) (limits : AllLimits) (desk : Ask → Grant) (c d : CastState) → session_in line ≡ Some n
+pub line_opens : (r : Result (Unit {0}) OutOfMemory) (line : ReplayLine) (n : ℕ) (limits : AllLimits) (desk : Ask → Grant) (c d : CastState)
+    → session_in line ≡ Some n
     → OnOk r (Told line n c d) → OnOk r (length d.sessions ≡ opened_by line (length c.sessions))
 line_opens (Ok x) line n limits desk c d e t = (about line n limits desk c d e t).1
 line_opens (Err x) line n limits desk c d e t = tt

@@ -8,7 +8,8 @@ use Rattle.media_recorder.specs.Taken.{taken}
 use Rattle.relay_base.specs.declared.limits.Limits.{Limits as AllLimits}
 use Rattle.relay_script.specs.declared.replay.Form.{Form}
 use Rattle.relay_script.specs.declared.replay.ReplayLine.{ReplayLine}
-use Rattle.relay_script.specs.declared.replay.ReplayLine.TheVariants.{Nothing, Limits, Stream, Guard, Recorder, Session, Piece, Eof, Room, FailRecv, FailSend, FailPut, Turn, Rec, All as Rounds, Quit, OpenApp, GuardOpen, OpenHttp, OpenEdge}
+use Rattle.relay_script.specs.declared.replay.ReplayLine.TheVariants.{Nothing, Limits, Stream, Guard, Recorder, Session, Piece, Eof, Room, FailRecv, FailSend}
+use Rattle.relay_script.specs.declared.replay.ReplayLine.TheVariants.{FailPut, Turn, Rec, All as Rounds, Quit, OpenApp, GuardOpen, OpenHttp, OpenEdge}
 use Rattle.stream_registry.specs.Books.{SoleState, SeenState}
 use Rattle.relay_replay.specs.declared.recording.Plan.{Plan}
 use Rattle.relay_replay.specs.Cast.{CastState, RecState, RecTurnOf, RecorderTurn, Round, TurnOf, text_in}

@@ -1,5 +1,6 @@
 -- What each session of a replay was sent begins what it owes, after each line
-use Rattle.std.proofs.Common.{◌≡◌, ◌++◌, ℕ, zero, suc, Bool, true, false, ◌&&◌, List, [], ◌∷◌, length, drop, slice_get, All, Option, Some, None, refl, sym, ap, ◌∙◌, subst}
+use Rattle.std.proofs.Common.{◌≡◌, ◌++◌, ℕ, zero, suc, Bool, true, false, ◌&&◌, List, [], ◌∷◌, length, drop, slice_get, All, Option, Some, None, refl, sym, ap}
+use Rattle.std.proofs.Common.{◌∙◌, subst}
 use Rattle.std.specs.Option.{option_map}
 use Rattle.std.proofs.lemmas.List.Elements.{All-head, All-nil, All-push, All-set, All-tail}
 use Rattle.chunk_reader.specs.Sound.{IsRead}
@@ -23,7 +24,8 @@ use Rattle.relay_session.specs.declared.end.End.{End}
 use Rattle.relay_session.specs.declared.turn.Turn.{Turn as TurnAnswer}
 use Rattle.relay_session.specs.declared.turn.Turn.TheVariants.{Moved, Idle, Ended}
 use Rattle.relay_script.specs.declared.replay.ReplayLine.{ReplayLine}
-use Rattle.relay_script.specs.declared.replay.ReplayLine.TheVariants.{Nothing, Limits, Stream, Guard, Recorder, Session, Piece, Eof, Room, FailRecv, FailSend, FailPut, Turn, Rec, All as Rounds, Quit, OpenApp, GuardOpen, OpenHttp, OpenEdge}
+use Rattle.relay_script.specs.declared.replay.ReplayLine.TheVariants.{Nothing, Limits, Stream, Guard, Recorder, Session, Piece, Eof, Room, FailRecv, FailSend}
+use Rattle.relay_script.specs.declared.replay.ReplayLine.TheVariants.{FailPut, Turn, Rec, All as Rounds, Quit, OpenApp, GuardOpen, OpenHttp, OpenEdge}
 use Rattle.http_flv.specs.PlayerState as http
 use Rattle.http_flv.specs.PlayerState.{PlayerState}
 use Rattle.http_flv.specs.declared.core_fields.Core.{Core as PlayerCore}
@@ -54,7 +56,8 @@ use Rattle.relay_replay.proofs.TakingMore.{edge_took, player_took}
 -- ---- what a close leaves
 
 abbrev GoneOwes : (Ask → Grant) → Gone → Type 0
-GoneOwes desk g = (more : List ℕ) × ((ms : List (ℕ × Message)) × (IsRead g.max (drop hand_bytes g.x) ms × (g.sent ++ more ≡ out (session g.who g.window desk) g.x ms g.calls)))
+GoneOwes desk g = (more : List ℕ) × ((ms : List (ℕ × Message))
+    × (IsRead g.max (drop hand_bytes g.x) ms × (g.sent ++ more ≡ out (session g.who g.window desk) g.x ms g.calls)))
 
 gone_owes : (desk : Ask → Grant) (c : Core) → BeginsOwed desk c → GoneOwes desk (gone_but_kept c)
 gone_owes desk c b = (b.0, (b.1.ms, (b.1.read, b.1.owes)))
@@ -67,7 +70,8 @@ closed_owes desk c d e b = owes_gone desk d (subst (GoneOwes desk) (sym e) (gone
 
 -- ---- a session's turn
 
-after_served : (a : TurnAnswer) (desk : Ask → Grant) (mid : SessionState SeenState) (port : SoleState) (d : ConnState) (port' : SoleState) → AfterTurn a mid port d.session d.ended port'
+after_served : (a : TurnAnswer) (desk : Ask → Grant) (mid : SessionState SeenState) (port : SoleState) (d : ConnState) (port' : SoleState)
+    → AfterTurn a mid port d.session d.ended port'
     → StandsFor desk mid → BeginsOwed desk mid.parts → d.link.sent ≡ mid.parts.sent → IsServed desk d
 after_served Moved desk mid port d port' t st owed took = record {
   stands = subst (λ (e : Option End). StandsIf e desk d.session) (sym t.2) (subst (λ (s : SessionState SeenState). StandsFor desk s) (sym t.0) st);
@@ -85,7 +89,8 @@ after_served (Ended e) desk mid port d port' t st owed took = record {
   took = took ∙ sym (ap (λ (c : Core). c.sent) t.2.parts);
 }
 
-served_turn : (e : Option End) (desk : Ask → Grant) (port : SoleState) (c : ConnState) (port' : SoleState) (d : ConnState) → c.ended ≡ e → SessionTurn e desk port c port' d → IsServed desk c → IsServed desk d
+served_turn : (e : Option End) (desk : Ask → Grant) (port : SoleState) (c : ConnState) (port' : SoleState) (d : ConnState) → c.ended ≡ e
+    → SessionTurn e desk port c port' d → IsServed desk c → IsServed desk d
 served_turn None desk port c port' d e t s =
     let was = subst (λ (o : Option End). StandsIf o desk c.session) e s.stands in
     let st = t.stands was in
@@ -102,10 +107,12 @@ owed_begins None desk s o = (s.parts.out.left, o)
 owed_begins (Some e) desk s o = o
 
 -- what a close leaves
-closed_begins : (desk : Ask → Grant) (s s' : PlayerState SeenState) → s'.parts ≡ record s.parts { kept = s'.parts.kept } → http.BeginsOwed desk s.parts → http.BeginsOwed desk s'.parts
+closed_begins : (desk : Ask → Grant) (s s' : PlayerState SeenState) → s'.parts ≡ record s.parts { kept = s'.parts.kept } → http.BeginsOwed desk s.parts
+    → http.BeginsOwed desk s'.parts
 closed_begins desk s s' e o = subst (http.BeginsOwed desk) (sym e) o
 
-after_player : (a : HttpTurn) (desk : Ask → Grant) (mid : PlayerState SeenState) (port : SoleState) (d : PlayState) (port' : SoleState) → AfterHttpTurn a mid port d.player d.ended port'
+after_player : (a : HttpTurn) (desk : Ask → Grant) (mid : PlayerState SeenState) (port : SoleState) (d : PlayState) (port' : SoleState)
+    → AfterHttpTurn a mid port d.player d.ended port'
     → http.StandsFor desk mid → http.BeginsOwed desk mid.parts → d.link.sent ≡ mid.parts.sent → PlayerServed desk d
 after_player http_turn.Moved desk mid port d port' t st owed took = record {
   stands = subst (λ (e : Option HttpEnd). PlayerStandsIf e desk d.player) (sym t.2) (subst (λ (s : PlayerState SeenState). http.StandsFor desk s) (sym t.0) st);
@@ -123,11 +130,13 @@ after_player (http_turn.Ended e) desk mid port d port' t st owed took = record {
   took = took ∙ sym (ap (λ (c : PlayerCore). c.sent) t.2.parts);
 }
 
-player_served : (e : Option HttpEnd) (desk : Ask → Grant) (port : SoleState) (c : PlayState) (port' : SoleState) (d : PlayState) → c.ended ≡ e → PlayerTurn e desk port c port' d → PlayerServed desk c → PlayerServed desk d
+player_served : (e : Option HttpEnd) (desk : Ask → Grant) (port : SoleState) (c : PlayState) (port' : SoleState) (d : PlayState) → c.ended ≡ e
+    → PlayerTurn e desk port c port' d → PlayerServed desk c → PlayerServed desk d
 player_served None desk port c port' d e t s =
     let was = subst (λ (o : Option HttpEnd). PlayerStandsIf o desk c.player) e s.stands in
     let st = t.stands was in
-    after_player t.answer desk t.mid t.between d port' t.leads st (owed_begins t.mid.ended desk t.mid (t.owed st)) (player_took desk c.player.ended (http.life_at c.player port) c.link t.answer (http.life_at t.mid t.between) d.link t.turn s.took)
+    after_player t.answer desk t.mid t.between d port' t.leads st (owed_begins t.mid.ended desk t.mid (t.owed st))
+    (player_took desk c.player.ended (http.life_at c.player port) c.link t.answer (http.life_at t.mid t.between) d.link t.turn s.took)
 player_served (Some x) desk port c port' d e t s = subst (PlayerServed desk) (sym t.0) s
 
 after_edge : (a : EdgeTurn) (mid : EdgeState SeenState) (port : SoleState) (d : PullState) (port' : SoleState) → AfterEdgeTurn a mid port d.edge d.ended port'
@@ -140,14 +149,21 @@ after_edge edge_turn.Idle mid port d port' t st took = record {
   stands = subst edge.StandsFor (sym t.0) st;
   took = took ∙ sym (ap (λ (s : EdgeState SeenState). s.client.parts.sent) t.0);
 }
-after_edge (edge_turn.Ended e) mid port d port' t st took = record { stands = t.2.stands; took = took ∙ sym (ap (λ (k : ClientState). k.parts.sent) t.2.client) }
+after_edge (edge_turn.Ended e) mid port d port' t st took = record {
+  stands = t.2.stands;
+  took = took
+      ∙ sym (ap (λ (k : ClientState). k.parts.sent) t.2.client);
+}
 
-edge_served : (e : Option EdgeEnd) (port : SoleState) (c : PullState) (port' : SoleState) (d : PullState) → EdgeTurnBy e port c port' d → EdgeServed c → EdgeServed d
+edge_served : (e : Option EdgeEnd) (port : SoleState) (c : PullState) (port' : SoleState) (d : PullState) → EdgeTurnBy e port c port' d → EdgeServed c
+    → EdgeServed d
 edge_served None port c port' d t s =
-    after_edge t.answer t.mid t.between d port' t.leads t.stands (edge_took c.edge.ended (edge.life_at c.edge port) c.link t.answer (edge.life_at t.mid t.between) d.link t.turn s.took)
+    after_edge t.answer t.mid t.between d port' t.leads t.stands
+    (edge_took c.edge.ended (edge.life_at c.edge port) c.link t.answer (edge.life_at t.mid t.between) d.link t.turn s.took)
 edge_served (Some x) port c port' d t s = subst EdgeServed (sym t.0) s
 
-guest_served : (a : Answered) (desk : Ask → Grant) (port : SoleState) (g : Guest) (port' : SoleState) (h : Guest) → GuestTurn a desk port g port' h → GuestServed desk g → GuestServed desk h
+guest_served : (a : Answered) (desk : Ask → Grant) (port : SoleState) (g : Guest) (port' : SoleState) (h : Guest) → GuestTurn a desk port g port' h
+    → GuestServed desk g → GuestServed desk h
 guest_served a desk port (guest.Session c) port' h t s = subst (GuestServed desk) (sym t.1) (served_turn c.ended desk port c port' t.0 refl t.2.0 s)
 guest_served a desk port (guest.Player c) port' h t s = subst (GuestServed desk) (sym t.1) (player_served c.ended desk port c port' t.0 refl t.2.0 s)
 guest_served a desk port (guest.Edge c) port' h t s = subst (GuestServed desk) (sym t.1) (edge_served c.ended port c port' t.0 t.2.0 s)
@@ -172,12 +188,14 @@ pub times_keep : {A : Type 0} (Q : A → Type 0) (step : A → A → Type 0) →
 times_keep Q step f zero c d t q = subst Q (sym t) q
 times_keep Q step f (suc k) c d t q = f t.0 d t.1.1 (times_keep Q step f k c t.0 t.1.0 q)
 
-pub each_keep : {A : Type 0} (Q : A → Type 0) (step : ℕ → A → A → Type 0) → ((n : ℕ) (c d : A) → step n c d → Q c → Q d) → (k : ℕ) (c d : A) → Each k step c d → Q c → Q d
+pub each_keep : {A : Type 0} (Q : A → Type 0) (step : ℕ → A → A → Type 0) → ((n : ℕ) (c d : A) → step n c d → Q c → Q d) → (k : ℕ) (c d : A)
+    → Each k step c d → Q c → Q d
 each_keep Q step f zero c d t q = subst Q (sym t) q
 each_keep Q step f (suc k) c d t q = f k t.0 d t.1.1 (each_keep Q step f k c t.0 t.1.0 q)
 
 -- what each turn of a session keeps, turns until it is idle keep
-pub settled_keep : (Q : CastState → Type 0) (desk : Ask → Grant) (n : ℕ) → ((c d : CastState) → TurnOf desk n c d → Q c → Q d) → (done : Bool) (most : ℕ) (c d : CastState) → SettledBy done most desk n c d → Q c → Q d
+pub settled_keep : (Q : CastState → Type 0) (desk : Ask → Grant) (n : ℕ) → ((c d : CastState) → TurnOf desk n c d → Q c → Q d)
+    → (done : Bool) (most : ℕ) (c d : CastState) → SettledBy done most desk n c d → Q c → Q d
 settled_keep Q desk n f true most c d t q =
     f t.between d (t.answer, t.last) (times_keep Q (AnsweredTurn desk n answered.Moved) (λ x y a. f x y (answered.Moved, a)) t.moved c t.between t.moves q)
 settled_keep Q desk n f false most c d t q = times_keep Q (AnsweredTurn desk n answered.Moved) (λ x y a. f x y (answered.Moved, a)) most c d t q
@@ -238,11 +256,14 @@ new_edge limits who stream app name c n = record {
 
 plays_served : (line : ReplayLine) (limits : AllLimits) (desk : Ask → Grant) (c d : CastState) → Plays limits desk line c d → ServedIn desk c → ServedIn desk d
 plays_served Session limits desk c d p s =
-    subst (All (GuestServed desk)) (sym p.sessions) (All-push (GuestServed desk) c.sessions (guest.Session p.new) s (new_served limits (length c.sessions) desk p.new p.fresh))
+    subst (All (GuestServed desk)) (sym p.sessions) (All-push (GuestServed desk) c.sessions (guest.Session p.new) s
+    (new_served limits (length c.sessions) desk p.new p.fresh))
 plays_served OpenHttp limits desk c d p s =
-    subst (All (GuestServed desk)) (sym p.sessions) (All-push (GuestServed desk) c.sessions (guest.Player p.new) s (new_player limits (length c.sessions) desk p.new p.fresh))
+    subst (All (GuestServed desk)) (sym p.sessions) (All-push (GuestServed desk) c.sessions (guest.Player p.new) s
+    (new_player limits (length c.sessions) desk p.new p.fresh))
 plays_served (OpenEdge n app name) limits desk c d p s =
-    subst (All (GuestServed desk)) (sym p.sessions) (All-push (GuestServed desk) c.sessions (guest.Edge p.new) s (new_edge limits (length c.sessions) n app name p.new p.fresh))
+    subst (All (GuestServed desk)) (sym p.sessions) (All-push (GuestServed desk) c.sessions (guest.Edge p.new) s
+    (new_edge limits (length c.sessions) n app name p.new p.fresh))
 plays_served (FailPut n) limits desk c d p s = subst (All (GuestServed desk)) (sym p.sessions) s
 plays_served (Turn n k) limits desk c d p s = times_keep (ServedIn desk) (TurnOf desk n) (served_of desk n) k c d p s
 plays_served (Rec n k) limits desk c d p s = times_keep (ServedIn desk) (RecTurnOf n) (served_rec desk n) k c d p s
@@ -281,7 +302,8 @@ same_served s t d c k =
     subst (λ (g : Ask → Grant). ServedIf g t.cast) (sym (same_desk s t d)) (subst (ServedIf (desk_of s)) (sym c) k)
 
 -- nothing runs yet
-none_served : (s t : SceneState) (more : Bool) → (is_setting (option_map (λ (c : CastState). length c.sessions) s.cast) && more) ≡ true → t.cast ≡ s.cast → AreServed t
+none_served : (s t : SceneState) (more : Bool) → (is_setting (option_map (λ (c : CastState). length c.sessions) s.cast) && more) ≡ true → t.cast ≡ s.cast
+    → AreServed t
 none_served s t more e c = by_cast s.cast e c
   where
     by_cast : (o : Option CastState) → (is_setting (option_map (λ (c : CastState). length c.sessions) o) && more) ≡ true → t.cast ≡ o → AreServed t
@@ -300,7 +322,8 @@ acts_served line s t d a k =
 pub stand_desk : (s t : SceneState) (x : Stand) → stand_of t ≡ x → SameDesk (stand_of s) x → SameDesk (stand_of s) (stand_of t)
 stand_desk s t x e d = (ap (λ (y : Stand). y.places) e ∙ d.0, ap (λ (y : Stand). y.opens) e ∙ d.1)
 
-line_served : (line : ReplayLine) (s t : SceneState) → allows line (stand_of s) ≡ true → stand_of t ≡ after line (stand_of s) → CastBy (is_acting line) line s t → AreServed s → AreServed t
+line_served : (line : ReplayLine) (s t : SceneState) → allows line (stand_of s) ≡ true → stand_of t ≡ after line (stand_of s)
+    → CastBy (is_acting line) line s t → AreServed s → AreServed t
 line_served Nothing s t e p c k = same_served s t (stand_desk s t _ p (refl, refl)) c k
 line_served (Limits a b i q w) s t e p c k = same_served s t (stand_desk s t _ p (refl, refl)) c k
 line_served (Recorder n form) s t e p c k = same_served s t (stand_desk s t _ p (refl, refl)) c k
@@ -328,7 +351,8 @@ does_served line s t e d k = line_served line s t e d.stand d.cast k
 pub settled_served : (done : Bool) (most n : ℕ) (s t : SceneState) → SettledIn done most n s t → AreServed s → AreServed t
 settled_served done most n s t x k =
     now_served s t x.now (stand_desk s t _ x.stand (refl, refl)) x.cast
-    (settled_keep (ServedIn (desk_of s)) (desk_of s) n (served_of (desk_of s) n) done most x.before x.now x.turns (opened_served s.cast s (desk_of s) x.before x.opened k))
+    (settled_keep (ServedIn (desk_of s)) (desk_of s) n (served_of (desk_of s) n) done most x.before x.now x.turns
+    (opened_served s.cast s (desk_of s) x.before x.opened k))
 
 pub cast_served : (s : SceneState) (c : CastState) → IsOpen s.cast s c → AreServed s → ServedIn (desk_of s) c
 cast_served s c o k = opened_served s.cast s (desk_of s) c o k

@@ -12,7 +12,9 @@ use Rattle.stream_model.specs.declared.calls.Entry.{Entry}
 use Rattle.session_owed.specs.Standing.{Past}
 use Rattle.relay_session.specs.Feeding.{Fixed}
 use Rattle.relay_session.specs.Owing.{pending}
-use Rattle.relay_session.specs.Turns.{AfterCall, AfterKept, CallMade, CalledBy, CameAs, EmptyBy, EndedBy, Fed, FedAs, FedBy, Gone, Input, InputBy, IsEnded, IsFilled, KeptBy, Life, Loudly, Quietly, QuitBy, SendBy, Sent, SentAs, Stopping, TakeMade, Taken, TakenBy, is_hungry, is_nil, life, takes}
+use Rattle.relay_session.specs.Turns.{AfterCall, AfterKept, CallMade, CalledBy, CameAs, EmptyBy, EndedBy, Fed, FedAs, FedBy, Gone, Input, InputBy, IsEnded}
+use Rattle.relay_session.specs.Turns.{IsFilled, KeptBy, Life, Loudly, Quietly, QuitBy, SendBy, Sent, SentAs, Stopping, TakeMade, Taken, TakenBy, is_hungry}
+use Rattle.relay_session.specs.Turns.{is_nil, life, takes}
 use Rattle.relay_session.specs.declared.core_fields.Core.{Core}
 use Rattle.relay_session.specs.declared.end.End.{End}
 use Rattle.relay_session.specs.declared.seat_answers.Made.{Made}
@@ -90,7 +92,8 @@ module _ {P S : Type 0} (asks : P → S → ℕ → Entry → Made → P → S �
     -- ---- step 5
 
     fed_as_same : (by : FedBy) (v : Life P S) (moved : Bool) (a : Turn) (w : Life P S) → FedAs asks desk by v moved a w → Same v.parts w.parts
-    fed_as_same Quietly v moved a w t = taken_same (life t.0 [] v.port v.seat) (moved || not (is_nil v.input)) a w t.1.2 ∙ ap (λ (f : Fixed). f.sent) t.1.0.fixed
+    fed_as_same Quietly v moved a w t = taken_same (life t.0 [] v.port v.seat) (moved || not (is_nil v.input)) a w t.1.2
+        ∙ ap (λ (f : Fixed). f.sent) t.1.0.fixed
     fed_as_same Loudly v moved a w t = called_same _ (life t.0 t.1.0 v.port v.seat) a w t.1.1.2 ∙ ap (λ (f : Fixed). f.sent) t.1.1.0.fixed
     fed_as_same (Stopping e) v moved a w t = ended_same e (life t.0 v.input v.port v.seat) a w t.1.1 ∙ ap (λ (f : Fixed). f.sent) t.1.0.fixed
 
@@ -104,58 +107,71 @@ module _ {P S : Type 0} (asks : P → S → ℕ → Entry → Made → P → S �
     came_same CameEnd v moved a w t = ended_same _ v a w t
     came_same CameFailed v moved a w t = ended_same _ v a w t
 
-    empty_took : (b : Bool) (v : Life P S) (l : MemLinkState) (moved : Bool) (a : Turn) (w : Life P S) (m : MemLinkState) → EmptyBy asks desk MemHears b v l moved a w m → Took v.parts l → Took w.parts m
+    empty_took : (b : Bool) (v : Life P S) (l : MemLinkState) (moved : Bool) (a : Turn) (w : Life P S) (m : MemLinkState)
+        → EmptyBy asks desk MemHears b v l moved a w m → Took v.parts l → Took w.parts m
     empty_took true v l moved a w m t k = heard_same l 4096 t.0 m t.1.0 ∙ k ∙ sym (came_same t.0 v moved a w t.1.1)
     empty_took false v l moved a w m t k = ap (λ (x : MemLinkState). x.sent) t.1 ∙ k ∙ sym (fed_same v moved a w t.0)
 
-    input_by_took : (b : Bool) (v : Life P S) (l : MemLinkState) (moved : Bool) (a : Turn) (w : Life P S) (m : MemLinkState) → InputBy asks desk MemHears b v l moved a w m → Took v.parts l → Took w.parts m
+    input_by_took : (b : Bool) (v : Life P S) (l : MemLinkState) (moved : Bool) (a : Turn) (w : Life P S) (m : MemLinkState)
+        → InputBy asks desk MemHears b v l moved a w m → Took v.parts l → Took w.parts m
     input_by_took true v l moved a w m t k = empty_took (is_nil v.input) v l moved a w m t k
     input_by_took false v l moved a w m t k = ap (λ (x : MemLinkState). x.sent) t.1 ∙ k ∙ sym (taken_same v moved a w t.0)
 
-    input_took : (v : Life P S) (l : MemLinkState) (moved : Bool) (a : Turn) (w : Life P S) (m : MemLinkState) → Input asks desk MemHears v l moved a w m → Took v.parts l → Took w.parts m
+    input_took : (v : Life P S) (l : MemLinkState) (moved : Bool) (a : Turn) (w : Life P S) (m : MemLinkState) → Input asks desk MemHears v l moved a w m
+        → Took v.parts l → Took w.parts m
     input_took v l moved a w m t k = input_by_took (is_hungry v.parts) v l moved a w m t k
 
     -- ---- step 4
 
-    ended_took : (e : End) (v : Life P S) (l : MemLinkState) (a : Turn) (w : Life P S) (m : MemLinkState) → IsEnded e v a w × (m ≡ l) → Took v.parts l → Took w.parts m
+    ended_took : (e : End) (v : Life P S) (l : MemLinkState) (a : Turn) (w : Life P S) (m : MemLinkState) → IsEnded e v a w × (m ≡ l) → Took v.parts l
+        → Took w.parts m
     ended_took e v l a w m t k = ap (λ (x : MemLinkState). x.sent) t.1 ∙ k ∙ sym (ended_same e v a w t.0)
 
     -- a send that took none leaves what the link took
-    sent_as_took : (q : Said) (v : Life P S) (l k : MemLinkState) (moved : Bool) (a : Turn) (w : Life P S) (m : MemLinkState) → MemSays l (take 16384 (pending v.parts.outgoing)) q k → SentAs asks desk MemHears MemSays q v k moved a w m
+    sent_as_took : (q : Said) (v : Life P S) (l k : MemLinkState) (moved : Bool) (a : Turn) (w : Life P S) (m : MemLinkState)
+        → MemSays l (take 16384 (pending v.parts.outgoing)) q k → SentAs asks desk MemHears MemSays q v k moved a w m
         → Took v.parts l → Took w.parts m
     sent_as_took (said.Took n) v l k moved a w m s t h =
-        let sent : Took t.0 k = said_took l (pending v.parts.outgoing) n k s ∙ ap (λ (b : List ℕ). b ++ take n (pending v.parts.outgoing)) h ∙ sym (ap (λ (p : Past). p.sent) t.1.0.past) in
+        let sent : Took t.0 k = said_took l (pending v.parts.outgoing) n k s ∙ ap (λ (b : List ℕ). b ++ take n (pending v.parts.outgoing)) h
+        ∙ sym (ap (λ (p : Past). p.sent) t.1.0.past) in
         input_took (life t.0 v.input v.port v.seat) k true a w m t.1.1 sent
     sent_as_took said.NotYet v l k moved a w m s t h = input_took v k moved a w m t (ap (λ (x : MemLinkState). x.sent) s.2 ∙ h)
     sent_as_took said.Failed v l k moved a w m s t h = ended_took _ v k a w m t (ap (λ (x : MemLinkState). x.sent) s.1 ∙ h)
     sent_as_took said.OutOfMemory v l k moved a w m s t h = ended_took _ v k a w m t (ap (λ (x : MemLinkState). x.sent) s.2 ∙ h)
 
-    send_took : (b : Bool) (v : Life P S) (l : MemLinkState) (moved : Bool) (a : Turn) (w : Life P S) (m : MemLinkState) → SendBy asks desk MemHears MemSays b v l moved a w m → Took v.parts l → Took w.parts m
+    send_took : (b : Bool) (v : Life P S) (l : MemLinkState) (moved : Bool) (a : Turn) (w : Life P S) (m : MemLinkState)
+        → SendBy asks desk MemHears MemSays b v l moved a w m → Took v.parts l → Took w.parts m
     send_took true v l moved a w m t h = input_took v l moved a w m t h
     send_took false v l moved a w m t h = sent_as_took t.0 v l t.1.0 moved a w m t.1.1.0 t.1.1.1 h
 
-    sent_took : (v : Life P S) (l : MemLinkState) (moved : Bool) (a : Turn) (w : Life P S) (m : MemLinkState) → Sent asks desk MemHears MemSays v l moved a w m → Took v.parts l → Took w.parts m
-    sent_took v l moved a w m (inl t) h = send_took (is_nil (pending t.0.outgoing)) (life t.0 v.input v.port v.seat) l moved a w m t.1.1 (h ∙ sym (filled_same v.parts t.0 t.1.0))
+    sent_took : (v : Life P S) (l : MemLinkState) (moved : Bool) (a : Turn) (w : Life P S) (m : MemLinkState)
+        → Sent asks desk MemHears MemSays v l moved a w m → Took v.parts l → Took w.parts m
+    sent_took v l moved a w m (inl t) h = send_took (is_nil (pending t.0.outgoing)) (life t.0 v.input v.port v.seat) l moved a w m t.1.1 (h
+        ∙ sym (filled_same v.parts t.0 t.1.0))
     sent_took v l moved a w m (inr t) h = ended_took _ v l a w m t h
 
     -- ---- steps 3, 2 and 1
 
-    quit_took : (quit : Bool) (v : Life P S) (l : MemLinkState) (moved : Bool) (a : Turn) (w : Life P S) (m : MemLinkState) → QuitBy asks desk MemHears MemSays quit v l moved a w m → Took v.parts l → Took w.parts m
+    quit_took : (quit : Bool) (v : Life P S) (l : MemLinkState) (moved : Bool) (a : Turn) (w : Life P S) (m : MemLinkState)
+        → QuitBy asks desk MemHears MemSays quit v l moved a w m → Took v.parts l → Took w.parts m
     quit_took true v l moved a w m t h = ended_took _ v l a w m t h
     quit_took false v l moved a w m t h = sent_took v l moved a w m t h
 
-    after_kept_took : (quit : Bool) (v k : Life P S) (came : Made) (l : MemLinkState) (a : Turn) (w : Life P S) (m : MemLinkState) → AfterKept asks desk MemHears MemSays quit v came k l a w m → Took k.parts l → Took w.parts m
+    after_kept_took : (quit : Bool) (v k : Life P S) (came : Made) (l : MemLinkState) (a : Turn) (w : Life P S) (m : MemLinkState)
+        → AfterKept asks desk MemHears MemSays quit v came k l a w m → Took k.parts l → Took w.parts m
     after_kept_took quit v k (made.Answer r) l a w m (inl t) h = quit_took quit k l true a w m t.1 h
     after_kept_took quit v k (made.Answer r) l a w m (inr t) h = ended_took _ k l a w m t h
     after_kept_took quit v k (made.Busy f) l a w m t h = ap (λ (x : MemLinkState). x.sent) t.2 ∙ h ∙ sym (ap (λ (x : Life P S). x.parts.sent) t.1)
     after_kept_took quit v k (made.Worn f) l a w m t h = ended_took _ k l a w m t h
     after_kept_took quit v k (made.OutOfMemory f) l a w m t h = ended_took _ k l a w m t h
 
-    kept_took : (o : Option Entry) (quit : Bool) (v : Life P S) (l : MemLinkState) (a : Turn) (w : Life P S) (m : MemLinkState) → KeptBy asks desk MemHears MemSays o quit v l a w m → Took v.parts l → Took w.parts m
+    kept_took : (o : Option Entry) (quit : Bool) (v : Life P S) (l : MemLinkState) (a : Turn) (w : Life P S) (m : MemLinkState)
+        → KeptBy asks desk MemHears MemSays o quit v l a w m → Took v.parts l → Took w.parts m
     kept_took None quit v l a w m t h = quit_took quit v l false a w m t h
     kept_took (Some e) quit v l a w m t h = after_kept_took quit v t.1.0 t.0 l a w m t.1.1.1 (h ∙ sym (call_same v e t.0 t.1.0 t.1.1.0.called))
 
     -- AFTER A TURN the link took what the session sent, if it had before
-    pub turn_took : (o : Option End) (quit : Bool) (v : Life P S) (l : MemLinkState) (a : Turn) (w : Life P S) (m : MemLinkState) → EndedBy asks desk MemHears MemSays o quit v l a w m → Took v.parts l → Took w.parts m
+    pub turn_took : (o : Option End) (quit : Bool) (v : Life P S) (l : MemLinkState) (a : Turn) (w : Life P S) (m : MemLinkState)
+        → EndedBy asks desk MemHears MemSays o quit v l a w m → Took v.parts l → Took w.parts m
     turn_took None quit v l a w m t h = kept_took v.parts.kept quit v l a w m t h
     turn_took (Some e) quit v l a w m t h = ap (λ (x : MemLinkState). x.sent) t.2 ∙ h ∙ sym (ap (λ (x : Life P S). x.parts.sent) t.1)

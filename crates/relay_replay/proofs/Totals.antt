@@ -48,7 +48,8 @@ next_within total held sum i most is le one =
     subst (λ (k : ℕ). sum ≤ k * most) (one_more i) (omega (arith, is, le, one, split))
 
 module _ {A : Type 0} (holds : A → ℕ → Type 0) where
-  more_at : (xs : List A) (i : ℕ) (x : A) (n h : ℕ) → i < length xs → x ≡ get_or xs i x → AllHold holds (take i xs) n → holds x h → AllHold holds (take (suc i) xs) (n + h)
+  more_at : (xs : List A) (i : ℕ) (x : A) (n h : ℕ) → i < length xs → x ≡ get_or xs i x → AllHold holds (take i xs) n → holds x h
+      → AllHold holds (take (suc i) xs) (n + h)
   more_at [] i x n h l e s k = absurd (omega (arith, l))
   more_at (y ∷ ys) zero x n h l e s k = (h, (subst (λ (z : A). holds z h) e k, (0, (refl, omega (arith, s)))))
   more_at (y ∷ ys) (suc i) x n h l e s k =
@@ -59,11 +60,13 @@ module _ {A : Type 0} (holds : A → ℕ → Type 0) where
       (a, (s.1.0, (m + h, (rest, omega (arith, split)))))
 
   -- one more of a list
-  pub more : (xs : List A) (i : ℕ) (x : A) (n h : ℕ) → i < length xs → x ≡ get_or xs i x → AllHold holds (take i xs) n → holds x h → AllHold holds (take (i + 1) xs) (n + h)
+  pub more : (xs : List A) (i : ℕ) (x : A) (n h : ℕ) → i < length xs → x ≡ get_or xs i x → AllHold holds (take i xs) n → holds x h
+      → AllHold holds (take (i + 1) xs) (n + h)
   more xs i x n h l e s k = subst (λ (j : ℕ). AllHold holds (take j xs) (n + h)) (one_more i) (more_at xs i x n h l e s k)
 
   -- of which each holds no more than so much
-  all_within : (P : A → Type 0) (most : ℕ) → ((x : A) (n : ℕ) → P x → holds x n → n ≤ most) → (xs : List A) (n : ℕ) → All P xs → AllHold holds xs n → n ≤ length xs * most
+  all_within : (P : A → Type 0) (most : ℕ) → ((x : A) (n : ℕ) → P x → holds x n → n ≤ most) → (xs : List A) (n : ℕ) → All P xs → AllHold holds xs n
+      → n ≤ length xs * most
   all_within P most each [] n p h = omega (arith, h)
   all_within P most each (x ∷ xs) n p h =
       let m = h.1.1.0 in

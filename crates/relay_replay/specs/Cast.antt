@@ -12,7 +12,7 @@ use Rattle.turn_gate.specs.declared.view.Branch.{Branch}
 use Rattle.relay_session.specs.Alone.{GrowsFrom}
 use Rattle.relay_session.specs.Places.{AskedAlone}
 use Rattle.relay_session.specs.SeatState.{GoOn, IsElsewhere, LeaveFails, LeavesFrom, SeatState, StandsAt, known, left_at, place_of}
-use Rattle.relay_session.specs.SessionState.{BeginsOwed, IsWhole, SessionState, StandsFor, end_or_quit, lasting_of, life_at}
+use Rattle.relay_session.specs.SessionState.{BeginsOwed, IsWhole, SessionState, StandsFor, end_or_quit, ended_by, lasting_of, life_at}
 use Rattle.relay_session.specs.Turns.{EndedBy}
 use Rattle.relay_session.specs.declared.end.End.{End}
 use Rattle.relay_session.specs.declared.end.End.TheVariants as end
@@ -96,7 +96,8 @@ no_branches = λ (p : SeenState). []
 
 -- one call of a session at these streams
 abbrev pub SoleAsks : SoleState → SeatState SeenState → ℕ → Entry → Made → SoleState → SeatState SeenState → Type 0
-SoleAsks = AskedAlone FitsSole (λ (s : SoleState). sole_rules s.rules) (λ s. journal_at s.books) (λ (p : SeenState). p.seen) (λ p. length p.seen) (λ (_ : Entry). Unit {0}) (λ _. 0)
+SoleAsks = AskedAlone FitsSole (λ (s : SoleState). sole_rules s.rules) (λ s. journal_at s.books) (λ (p : SeenState). p.seen) (λ p. length p.seen)
+    (λ (_ : Entry). Unit {0}) (λ _. 0)
     SoleAdds no_kin no_branches
 
 -- ---- a session's turn
@@ -152,6 +153,11 @@ pub record Turned (desk : Ask → Grant) (port : SoleState) (c : ConnState) (por
   pub owed : StandsFor desk mid → BeginsOwed desk mid.parts
   pub whole : StandsFor desk mid → IsWhole desk mid.parts
   pub lasts : lasting_of mid.parts ≡ lasting_of c.session.parts
+  -- the histories went on
+  pub roots : GoOn (journal_at port.books) (journal_at between.books)
+  -- it ends as it was answered, and is told to quit by no turn
+  pub ended : mid.ended ≡ ended_by answer
+  pub quit : mid.quit ≡ c.session.quit
   pub leads : AfterTurn answer mid between d.session d.ended port'
 
 -- one that has ended does nothing
@@ -176,11 +182,13 @@ told_edge edge_turn.Idle = answered.Idle
 told_edge (edge_turn.Ended e) = answered.Ended
 
 -- one that has ended is asked nothing
-abbrev pub session_answer : (e : Option End) (desk : Ask → Grant) (port : SoleState) (c : ConnState) (port' : SoleState) (d : ConnState) → SessionTurn e desk port c port' d → Answered
+abbrev pub session_answer : (e : Option End) (desk : Ask → Grant) (port : SoleState) (c : ConnState) (port' : SoleState) (d : ConnState)
+    → SessionTurn e desk port c port' d → Answered
 session_answer None desk port c port' d t = told_turn t.answer
 session_answer (Some e) desk port c port' d t = answered.Nothing
 
-abbrev pub player_answer : (e : Option HttpEnd) (desk : Ask → Grant) (port : SoleState) (c : PlayState) (port' : SoleState) (d : PlayState) → PlayerTurn e desk port c port' d → Answered
+abbrev pub player_answer : (e : Option HttpEnd) (desk : Ask → Grant) (port : SoleState) (c : PlayState) (port' : SoleState) (d : PlayState)
+    → PlayerTurn e desk port c port' d → Answered
 player_answer None desk port c port' d t = told_http t.answer
 player_answer (Some e) desk port c port' d t = answered.Nothing
 

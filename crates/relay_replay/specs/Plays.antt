@@ -10,7 +10,8 @@ use Rattle.relay_session.specs.Keeping.{past_of}
 use Rattle.relay_session.specs.Owing.{nothing}
 use Rattle.relay_session.specs.SessionState.{BeginsOwed, IsWhole, SessionState, StandsFor}
 use Rattle.relay_script.specs.declared.replay.ReplayLine.{ReplayLine}
-use Rattle.relay_script.specs.declared.replay.ReplayLine.TheVariants.{Session, OpenHttp, OpenEdge, Piece, Eof, Room, FailRecv, FailSend, FailPut, Turn, Rec, All, Quit}
+use Rattle.relay_script.specs.declared.replay.ReplayLine.TheVariants.{Session, OpenHttp, OpenEdge, Piece, Eof, Room, FailRecv, FailSend, FailPut, Turn, Rec}
+use Rattle.relay_script.specs.declared.replay.ReplayLine.TheVariants.{All, Quit}
 use Rattle.http_flv.specs.PlayerState as http
 use Rattle.http_flv.specs.declared.stage.Stage.TheVariants.{Reading}
 use Rattle.client_owed.specs.declared.types.Wish.TheVariants.{Pull}
@@ -41,6 +42,7 @@ new_link = record {
 -- a session of that name that was fed nothing and is at no stream
 pub record IsNewSession (limits : AllLimits) (who : ℕ) (c : ConnState) : Type 0 where
   pub past : past_of c.session.parts ≡ new_past
+  pub fed : c.session.parts.fed ≡ 0
   pub who_is : c.session.parts.who ≡ who
   pub window : c.session.parts.window ≡ limits.window
   pub max : c.session.parts.reader.max ≡ limits.max_message

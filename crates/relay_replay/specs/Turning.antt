@@ -31,11 +31,13 @@ SeatStands port s = StandsAt (λ (p : SoleState). sole_rules p.rules) (λ p. jou
 
 -- a call at these streams
 abbrev pub Asks : SoleState → SeatState SeenState → ℕ → Entry → Made → SoleState → SeatState SeenState → Type 0
-Asks = Asked FitsSole (λ (s : SoleState). sole_rules s.rules) (λ s. journal_at s.books) (λ (p : SeenState). p.seen) (λ p. length p.seen) (λ (_ : Entry). Unit {0}) (λ _. 0)
+Asks = Asked FitsSole (λ (s : SoleState). sole_rules s.rules) (λ s. journal_at s.books) (λ (p : SeenState). p.seen) (λ p. length p.seen)
+    (λ (_ : Entry). Unit {0}) (λ _. 0)
 
 -- A SEAT WAS LEFT, named so at so many bytes of input: its last calls were made. Where its calls stood in the histories they do so after
 -- it, and no history has more but that of the place where it was
-pub record IsLeft (port : SoleState) (who fed : ℕ) (kept : Option Entry) (s : SeatState SeenState) (port' : SoleState) (kept' : Option Entry) (s' : SeatState SeenState) : Type 0 where
+pub record IsLeft (port : SoleState) (who fed : ℕ) (kept : Option Entry) (s : SeatState SeenState) (port' : SoleState) (kept' : Option Entry)
+    (s' : SeatState SeenState) : Type 0 where
   pub leaving : Leaving
   pub leaves : LeavesFrom (place_of s.spot) who fed kept s.active s.visits leaving kept' s'.active s'.visits
   -- a call is left out only where the history there has as many as it can have
@@ -102,7 +104,8 @@ pub record EdgeTurned (port : SoleState) (c : PullState) (port' : SoleState) (d 
   pub answer : EdgeTurn
   pub between : SoleState
   pub mid : EdgeState SeenState
-  pub turn : edge_turns.EndedBy Asks (edge_turns.ClientTurns MemHears MemSays) c.edge.ended (edge.life_at c.edge port) c.link answer (edge.life_at mid between) d.link
+  pub turn : edge_turns.EndedBy Asks (edge_turns.ClientTurns MemHears MemSays) c.edge.ended (edge.life_at c.edge port) c.link answer
+      (edge.life_at mid between) d.link
   pub stands : edge.StandsFor mid
   pub lasts : edge.lasting_of mid.parts mid.client ≡ edge.lasting_of c.edge.parts c.edge.client
   pub leads : AfterEdgeTurn answer mid between d.edge d.ended port'

@@ -21,7 +21,7 @@ use stream_registry::Sole;
 
 /// A session with its link.
 #[derive(Drop)]
-pub(crate) struct Connection {
+pub struct Connection {
     session: Session<Sole>,
     link: MemLink,
     ended: Option<End>,

@@ -19,7 +19,7 @@ use stream_registry::Sole;
 
 /// What a turn was answered; nothing, where it has ended before.
 #[derive(Clone, Copy, Debug, PartialEq, Eq)]
-pub(crate) enum Answered {
+pub enum Answered {
     Nothing,
     Moved,
     Idle,
@@ -28,7 +28,7 @@ pub(crate) enum Answered {
 
 /// What was opened, with its link.
 #[derive(Drop)]
-pub(crate) enum Guest {
+pub enum Guest {
     Session(Connection),
     Player(Playing),
     Edge(Pulling),

@@ -21,7 +21,10 @@ mod served;
 mod summary;
 mod whole;
 
+// Named by laws of two runs: what a turn was answered, what was opened, and a recorder that is to be.
+pub use guest::{Answered, Guest};
 pub use recorded::what_was_recorded_is_the_text_of_what_was_taken;
+pub use recording::Plan;
 pub use scene::Scene;
 pub use served::what_was_sent_begins_what_is_owed;
 pub use whole::what_a_run_comes_to;

@@ -25,7 +25,7 @@ use stream_registry::Sole;
 
 /// A player over HTTP with its link.
 #[derive(Drop)]
-pub(crate) struct Playing {
+pub struct Playing {
     player: HttpPlayer<Sole>,
     link: MemLink,
     ended: Option<HttpEnd>,

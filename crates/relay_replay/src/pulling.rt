@@ -25,7 +25,7 @@ use stream_registry::Sole;
 
 /// An edge with its link.
 #[derive(Drop)]
-pub(crate) struct Pulling {
+pub struct Pulling {
     edge: Edge<Sole>,
     link: MemLink,
     ended: Option<EdgeEnd>,

@@ -17,7 +17,7 @@ use stream_registry::Sole;
 
 /// A recorder that is to be: the number of its stream, and how it writes.
 #[derive(Clone, Copy)]
-pub(crate) struct Plan {
+pub struct Plan {
     pub stream: u32,
     pub form: Form,
 }

@@ -10,5 +10,6 @@ loop-i-preserved c =
     let sum : c.in_ok-total.total ≡ c.loop-i.total + c.held.result = search rules in
     record {
       hold = subst (λ (n : ℕ). AllHold RecHolds (take (c.loop-i.i + 1) c.args.recorders.now) n) (sym sum)
-          (more RecHolds c.args.recorders.now c.loop-i.i c.index-recorders-i.result c.loop-i.total c.held.result there read c.loop-i.invariant.hold c.held.ensures);
+          (more RecHolds c.args.recorders.now c.loop-i.i c.index-recorders-i.result c.loop-i.total c.held.result there read c.loop-i.invariant.hold
+          c.held.ensures);
     }

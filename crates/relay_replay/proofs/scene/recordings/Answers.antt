@@ -14,5 +14,6 @@ loop-i-preserved c =
       made = subst (λ (l : List RecState). AreNew 0 (take (c.loop-i.i + 1) c.args.plans.now) l) (sym items)
           (more c.args.plans.now c.loop-i.i c.loop-i.list.items r there c.loop-i.invariant.made c.in_ok-recording_at.ensures.new);
       longest = subst (λ (l : List RecState). All (λ x. x.recorder.tape.longest ≡ c.args.longest) l) (sym items)
-          (All-push (λ (x : RecState). x.recorder.tape.longest ≡ c.args.longest) c.loop-i.list.items r c.loop-i.invariant.longest c.in_ok-recording_at.ensures.longest);
+          (All-push (λ (x : RecState). x.recorder.tape.longest ≡ c.args.longest) c.loop-i.list.items r c.loop-i.invariant.longest
+          c.in_ok-recording_at.ensures.longest);
     }

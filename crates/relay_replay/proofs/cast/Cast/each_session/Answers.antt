@@ -15,5 +15,6 @@ loop-n-preserved g c =
       sits = subst (λ k. Sits list opens k c.turn.new.self) before.files one.sits;
       count = one.count ∙ before.count;
       files = ap length one.turn.recorders ∙ before.files;
-      turns = each_more c.loop-n.n (TurnOf (granted_from 0 list opens)) c.args.self.now c.loop-n.self c.turn.new.self before.turns (c.in_ok-turn.field-0, one.turn);
+      turns = each_more c.loop-n.n (TurnOf (granted_from 0 list opens)) c.args.self.now c.loop-n.self c.turn.new.self before.turns
+          (c.in_ok-turn.field-0, one.turn);
     }

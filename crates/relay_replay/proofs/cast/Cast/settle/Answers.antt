@@ -16,5 +16,6 @@ loop-preserved g c =
       sits = subst (λ k. Sits list opens k c.turn.new.self) before.files one.sits;
       count = one.count ∙ before.count;
       files = ap length one.turn.recorders ∙ before.files;
-      moves = moved_more (granted_from 0 list opens) c.args.n c.loop.counter c.in_ok-answer.answer c.args.self.now c.loop.self c.turn.new.self moved before.moves one.turn;
+      moves = moved_more (granted_from 0 list opens) c.args.n c.loop.counter c.in_ok-answer.answer c.args.self.now c.loop.self c.turn.new.self moved
+          before.moves one.turn;
     }

@@ -32,5 +32,6 @@ returns-clause-turn g c =
     let old : CastState = record { port = i.port; sessions = i.sessions.items; recorders = i.recorders.items } in
     let there : c.args.n < length i.sessions.items = search rules in
     let read : c.index_mut.result.now ≡ get_or i.sessions.items c.args.n c.index_mut.result.now = search rules in
-    rw (← c.self.view_is) (turn_of c.turn.result (granted_from 0 c.args.desk.now.list.now c.args.desk.now.opens.now) c.args.n old c.index_mut.result.now c.turn.new.port
+    rw (← c.self.view_is) (turn_of c.turn.result (granted_from 0 c.args.desk.now.list.now c.args.desk.now.opens.now) c.args.n old c.index_mut.result.now
+    c.turn.new.port
     c.turn.new.self there read c.turn.ensures.fixed c.turn.ensures.turn)

@@ -15,5 +15,6 @@ loop-preserved g c =
       sits = subst (λ k. Sits list opens k c.turn.new.self) before.files one.sits;
       count = one.count ∙ before.count;
       files = ap length one.turn.recorders ∙ before.files;
-      turns = times_more c.loop.counter (TurnOf (granted_from 0 list opens) c.args.n) c.args.self.now c.loop.self c.turn.new.self before.turns (c.in_ok-turn.field-0, one.turn);
+      turns = times_more c.loop.counter (TurnOf (granted_from 0 list opens) c.args.n) c.args.self.now c.loop.self c.turn.new.self before.turns
+          (c.in_ok-turn.field-0, one.turn);
     }

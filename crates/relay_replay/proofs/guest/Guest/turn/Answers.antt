@@ -16,10 +16,12 @@ pub returns-in-Player-clause-turn : goal.returns-in-Player-clause-turn
 returns-in-Player-clause-turn g c =
     let desk : Ask → Grant = granted_from 0 c.args.desk.now.list.now c.args.desk.now.opens.now in
     let same : c.args.self.now ≡ Player c.in-Player.player = search rules in
-    player_turn c.turn-in-Player.result desk c.args.port.now c.args.self.now c.in-Player.player c.turn-in-Player.new.port c.turn-in-Player.new.self same c.turn-in-Player.ensures.turn
+    player_turn c.turn-in-Player.result desk c.args.port.now c.args.self.now c.in-Player.player c.turn-in-Player.new.port c.turn-in-Player.new.self same
+    c.turn-in-Player.ensures.turn
 
 pub returns-in-Edge-clause-turn : goal.returns-in-Edge-clause-turn
 returns-in-Edge-clause-turn g c =
     let desk : Ask → Grant = granted_from 0 c.args.desk.now.list.now c.args.desk.now.opens.now in
     let same : c.args.self.now ≡ Edge c.in-Edge.edge = search rules in
-    edge_turn c.turn-in-Edge.result desk c.args.port.now c.args.self.now c.in-Edge.edge c.turn-in-Edge.new.port c.turn-in-Edge.new.self same c.turn-in-Edge.ensures.turn
+    edge_turn c.turn-in-Edge.result desk c.args.port.now c.args.self.now c.in-Edge.edge c.turn-in-Edge.new.port c.turn-in-Edge.new.self same
+    c.turn-in-Edge.ensures.turn

@@ -9,8 +9,11 @@ returns-clause-turn g c =
     let i = c.self.inside in
     let old : PlayState = record { player = i.player; link = i.link; ended = i.ended } in
     let new : PlayState = record { player = c.after.new.player; link = c.turn-answer.new.link; ended = c.after.new.ended } in
-    rw (← c.self.view_is) (player_turned (granted_from 0 c.args.desk.now.list.now c.args.desk.now.opens.now) c.args.port.now c.turn-answer.new.port c.after.new.port old new
-    c.turn-answer.new.self c.turn-answer.result c.told_http.result c.told_http.ensures (search rules) c.turn-answer.ensures.turn c.turn-answer.ensures.stands (c.owed_law.ensures (granted_from 0 c.args.desk.now.list.now c.args.desk.now.opens.now)) c.turn-answer.ensures.lasts c.in_ok-after.ensures.leads)
+    rw (← c.self.view_is) (player_turned (granted_from 0 c.args.desk.now.list.now c.args.desk.now.opens.now) c.args.port.now c.turn-answer.new.port
+    c.after.new.port old new
+    c.turn-answer.new.self c.turn-answer.result c.told_http.result c.told_http.ensures (search rules) c.turn-answer.ensures.turn
+    c.turn-answer.ensures.stands (c.owed_law.ensures (granted_from 0 c.args.desk.now.list.now c.args.desk.now.opens.now)) c.turn-answer.ensures.lasts
+    c.in_ok-after.ensures.leads)
 
 pub returns-clause-fits : goal.returns-clause-fits
 returns-clause-fits g c = λ q p h. c.after.ensures.fits q p (c.turn-answer.ensures.goes_on.passes q p h)

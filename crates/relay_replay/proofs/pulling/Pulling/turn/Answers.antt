@@ -9,7 +9,8 @@ returns-clause-turn c =
     let old : PullState = record { edge = i.edge; link = i.link; ended = i.ended } in
     let new : PullState = record { edge = c.after.new.edge; link = c.turn-answer.new.link; ended = c.after.new.ended } in
     rw (← c.self.view_is) (edge_turned c.args.port.now c.turn-answer.new.port c.after.new.port old new
-    c.turn-answer.new.self c.turn-answer.result c.told_edge.result c.told_edge.ensures (search rules) c.turn-answer.ensures.turn c.turn-answer.ensures.stands c.turn-answer.ensures.lasts c.in_ok-after.ensures.leads)
+    c.turn-answer.new.self c.turn-answer.result c.told_edge.result c.told_edge.ensures (search rules) c.turn-answer.ensures.turn
+    c.turn-answer.ensures.stands c.turn-answer.ensures.lasts c.in_ok-after.ensures.leads)
 
 pub returns-clause-fits : goal.returns-clause-fits
 returns-clause-fits c = λ q p h. c.after.ensures.fits q p (c.turn-answer.ensures.goes_on.passes q p h)

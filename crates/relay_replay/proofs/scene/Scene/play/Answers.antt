@@ -10,7 +10,8 @@ use Rattle.relay_replay.proofs.Acting.{acted_does, is_there}
 use Rattle.relay_replay.proofs.scene.Scene.play.Goals as goal
 
 pub play-played-requires-clause-there : goal.play-played-requires-clause-there
-play-played-requires-clause-there g c = is_there c.args.line c.args.self.now c.in_ok-cast.cast c.requires.allowed c.in_ok-cast.ensures.open c.in_ok-cast.ensures.sits
+play-played-requires-clause-there g c = is_there c.args.line c.args.self.now c.in_ok-cast.cast c.requires.allowed c.in_ok-cast.ensures.open
+    c.in_ok-cast.ensures.sits
 
 pub returns-clause-does : goal.returns-clause-does
 returns-clause-does g c =
