@@ -27,7 +27,7 @@ use Rattle.stream_registry.specs.Refusals.{IsFull}
 use Rattle.stream_registry.specs.SharedState.{Streams, shared_rules}
 use Rattle.edge_serve.specs.Ends.{BothEndAs, LinesAs, RunsBoth, TellsAs}
 use Rattle.edge_serve.specs.Line.{edge_line}
-use Rattle.edge_serve.specs.Pulls.{HasPulled, Origin, edge_name, edge_place}
+use Rattle.edge_serve.specs.Pulls.{HasPlayed, HasPulled, Origin, edge_name, edge_place}
 
 -- ---- the line
 
@@ -53,7 +53,8 @@ pub record IsTold (k : Asked) (config : Config) (attempts : ℕ → List Attempt
   pub full : e ≡ edge.Worn → IsFull (shapes edge_place) (attempts edge_place)
 
 module _ (k : Asked) (config : Config) (attempts : ℕ → List Attempt) (e : EdgeEnd) (line : List ℕ) (o o' : Origin)
-    (held held' held'' : Option (List ℕ)) (faults faults' faults'' : ℕ) (house house' : HouseTold) (asked asked' : Option (List Door)) (named named' : Option (List (List ℕ))) where
+    (held held' held'' : Option (List ℕ)) (faults faults' faults'' : ℕ) (house house' : HouseTold) (asked asked' : Option (List Door))
+    (named named' : Option (List (List ℕ))) (p : HasPlayed k config.limits.max_message o o') where
   abbrev first : Seen
   first = seen held faults house asked named
 
@@ -63,7 +64,8 @@ module _ (k : Asked) (config : Config) (attempts : ℕ → List Attempt) (e : Ed
   abbrev last : Seen
   last = seen held'' faults'' house' asked' named'
 
-  served : RunsAs config attempts first mid end.Served → (e ≢ edge.OutOfMemory → IsTold k config attempts e line o o') → (ending : Ending) → LinesAs e line held' faults' held'' faults'' ending
+  served : RunsAs config attempts first mid end.Served → (e ≢ edge.OutOfMemory → IsTold k config attempts e line o o') → (ending : Ending)
+      → LinesAs e line held' faults' held'' faults'' ending
       → RunsBoth k config attempts first last o o' ending
   served r t end.Served l =
       let q = t l.0 in (
@@ -83,7 +85,7 @@ module _ (k : Asked) (config : Config) (attempts : ℕ → List Attempt) (e : Ed
         l.2 ∙ r.1,
         r.2,
       )
-  served r t end.SinkFault l = (rose_from faults faults' faults'' r.1 l, r.2)
+  served r t end.SinkFault l = ((rose_from faults faults' faults'' r.1 l, r.2), p)
   served r t end.OutOfMemory l = (l ∙ r.1, r.2)
   served r t end.HouseFault l = absurd l
   served r t end.BadWords l = absurd l
@@ -91,10 +93,11 @@ module _ (k : Asked) (config : Config) (attempts : ℕ → List Attempt) (e : Ed
   served r t end.Refused l = absurd l
 
   -- behind the workers, by what `conclude` answered
-  pub told_runs : (before ending : Ending) → RunsAs config attempts first mid before → (before ≡ end.Served → e ≢ edge.OutOfMemory → IsTold k config attempts e line o o') → (before ≢ end.HouseFault)
+  pub told_runs : (before ending : Ending) → RunsAs config attempts first mid before
+      → (before ≡ end.Served → e ≢ edge.OutOfMemory → IsTold k config attempts e line o o') → (before ≢ end.HouseFault)
       → TellsAs before e line held' faults' held'' faults'' ending → RunsBoth k config attempts first last o o' ending
   told_runs end.Served ending r t h l = served r (t refl) ending l
-  told_runs end.SinkFault ending r t h l = subst (λ (x : Ending). RunsBoth k config attempts first last o o' x) (sym l.0) (rose_faults r.0, r.1)
+  told_runs end.SinkFault ending r t h l = subst (λ (x : Ending). RunsBoth k config attempts first last o o' x) (sym l.0) ((rose_faults r.0, r.1), p)
     where
       rose_faults : Rose faults faults' → Rose faults faults''
       rose_faults x = subst (λ (n : ℕ). Rose faults n) (sym l.2) x
@@ -105,8 +108,11 @@ module _ (k : Asked) (config : Config) (attempts : ℕ → List Attempt) (e : Ed
   told_runs end.Refused ending r t h l = absurd r
 
 -- nobody could be served
-pub unopened_runs : (k : Asked) (config : Config) (attempts : ℕ → List Attempt) (held : Option (List ℕ)) (faults : ℕ) (house house' : HouseTold) (asked asked' : Option (List Door)) (named named' : Option (List (List ℕ))) (fail : OpenFail) (o : Origin)
-    → RunsAs config attempts (seen held faults house asked named) (seen held faults house' asked' named') (unopened_as fail) → RunsBoth k config attempts (seen held faults house asked named) (seen held faults house' asked' named') o o (unopened_as fail)
+pub unopened_runs : (k : Asked) (config : Config) (attempts : ℕ
+    → List Attempt) (held : Option (List ℕ)) (faults : ℕ) (house house' : HouseTold) (asked asked' : Option (List Door))
+    (named named' : Option (List (List ℕ))) (fail : OpenFail) (o : Origin)
+    → RunsAs config attempts (seen held faults house asked named) (seen held faults house' asked' named') (unopened_as fail)
+    → RunsBoth k config attempts (seen held faults house asked named) (seen held faults house' asked' named') o o (unopened_as fail)
 unopened_runs k config attempts held faults house house' asked asked' named named' opened.HouseFault o r = (r, refl)
 unopened_runs k config attempts held faults house house' asked asked' named named' opened.OutOfMemory o r = r
 
@@ -122,7 +128,8 @@ RefusesOnly end.HouseFault = ⊥
 RefusesOnly end.BadWords = ⊥
 RefusesOnly end.SourceFault = ⊥
 
-pub refuses_only : (cause : ConfigFail) (held held' : Option (List ℕ)) (faults faults' : ℕ) (ending : Ending) → RefusesAs cause held faults held' faults' ending → RefusesOnly ending
+pub refuses_only : (cause : ConfigFail) (held held' : Option (List ℕ)) (faults faults' : ℕ) (ending : Ending)
+    → RefusesAs cause held faults held' faults' ending → RefusesOnly ending
 refuses_only cause held held' faults faults' end.Refused r = tt
 refuses_only cause held held' faults faults' end.OutOfMemory r = tt
 refuses_only cause held held' faults faults' end.Served r = absurd r
@@ -132,7 +139,8 @@ refuses_only cause held held' faults faults' end.BadWords r = absurd r
 refuses_only cause held held' faults faults' end.SourceFault r = absurd r
 
 -- a configuration that was accepted
-pub accepted_ends : (k : Asked) (asked : Option Asked) (old new : Outer) (o o' : Origin) (ending : Ending) → asked ≡ Some k → new.source_faults ≡ old.source_faults → (bytes : List ℕ) → TakesText old.left new.left bytes → (config : Config) → Accepts bytes config
+pub accepted_ends : (k : Asked) (asked : Option Asked) (old new : Outer) (o o' : Origin) (ending : Ending) → asked ≡ Some k
+    → new.source_faults ≡ old.source_faults → (bytes : List ℕ) → TakesText old.left new.left bytes → (config : Config) → Accepts bytes config
     → (attempts : ℕ → List Attempt) → RunsBoth k config attempts old.out new.out o o' ending → BothEndAs asked old new o o' ending
 accepted_ends k asked old new o o' end.Served is sound bytes taken config accepts attempts runs =
     record { stream = k; asked_is = is; sound = sound; bytes = bytes; taken = taken; config = config; accepts = accepts; attempts = attempts; runs = runs }
@@ -146,7 +154,8 @@ accepted_ends k asked old new o o' end.SourceFault is sound bytes taken config a
 accepted_ends k asked old new o o' end.Refused is sound bytes taken config accepts attempts runs = absurd runs
 
 -- one that is refused
-pub refused_ends : (asked : Option Asked) (k : Asked) → asked ≡ Some k → (old new : Outer) (o : Origin) (ending : Ending) → EndsAs true old new ending → RefusesOnly ending → BothEndAs asked old new o o ending
+pub refused_ends : (asked : Option Asked) (k : Asked) → asked ≡ Some k → (old new : Outer) (o : Origin) (ending : Ending) → EndsAs true old new ending
+    → RefusesOnly ending → BothEndAs asked old new o o ending
 refused_ends asked k is old new o end.Refused f r = (subst (λ (b : Bool). EndsAs b old new end.Refused) (sym (ap is_some is)) f, refl)
 refused_ends asked k is old new o end.OutOfMemory f r = subst (λ (b : Bool). EndsAs b old new end.OutOfMemory) (sym (ap is_some is)) f
 refused_ends asked k is old new o end.Served f r = absurd r

@@ -1,5 +1,6 @@
 -- A turn of an edge, over what its link tells
-use Rattle.std.proofs.Common.{◌≡◌, inl, inr, ℕ, ◌<◌, Bool, true, false, List, [], ◌∷◌, ◌++◌, length, Option, Some, None, Result, Ok, Err, refl, sym, ap, ◌∙◌, subst}
+use Rattle.std.proofs.Common.{◌≡◌, inl, inr, ℕ, ◌<◌, Bool, true, false, List, [], ◌∷◌, ◌++◌, length, Option, Some, None, Result, Ok, Err, refl, sym, ap, ◌∙◌}
+use Rattle.std.proofs.Common.{subst}
 use Rattle.std.proofs.lemmas.Bool.{false≢true}
 use Rattle.relay_outside.specs.Heard.{Came, HearStep}
 use Rattle.relay_outside.specs.Said.{SayStep}
@@ -50,7 +51,8 @@ tail_is e f xs ys is = cc
 bears : (who : ℕ) (cs : List Call) (xs : List Entry) (e : Entry) (rest : List Entry) → xs ++ e ∷ rest ≡ entries who cs → e ≡ entry_of who e.call
 bears who [] [] e rest is = absurd (cc)
 bears who [] (x ∷ xs) e rest is = absurd (cc)
-bears who (c ∷ cs) [] e rest is = let h = head_is e (entry_of who c) rest (entries who cs) is in h ∙ ap (λ (d : Call). entry_of who d) (sym (ap (λ (x : Entry). x.call) h))
+bears who (c ∷ cs) [] e rest is = let h = head_is e (entry_of who c) rest (entries who cs) is in h
+    ∙ ap (λ (d : Call). entry_of who d) (sym (ap (λ (x : Entry). x.call) h))
 bears who (c ∷ cs) (x ∷ xs) e rest is = bears who cs xs e rest (tail_is x (entry_of who c) (xs ++ e ∷ rest) (entries who cs) is)
 
 -- none is kept where none waits
@@ -72,7 +74,8 @@ begin_is (call.JoinAs name) e = absurd (false≢true e)
 -- ---- by the ends of its client
 
 -- the edge has ended by it, or for want of memory as that has
-client_caused : (e : ClientEnd) (who max : ℕ) (calls : List Own) (fed : ℕ) (all : List ℕ) (n n' : LinkCounts) → (end_as (Some e) ≡ edge.Client → IsOwnEnd (Some e)) → Why e max fed all n n'
+client_caused : (e : ClientEnd) (who max : ℕ) (calls : List Own) (fed : ℕ) (all : List ℕ) (n n' : LinkCounts)
+    → (end_as (Some e) ≡ edge.Client → IsOwnEnd (Some e)) → Why e max fed all n n'
     → EdgeCause (end_as (Some e)) (Some e) who calls max fed all n n'
 client_caused fin.PeerClosed who max calls fed all n n' own h = h
 client_caused fin.LinkFault who max calls fed all n n' own h = h
@@ -105,7 +108,8 @@ own_waits e c k s is = none_kept c.kept _ ((subst (λ (x : EdgeEnd). StandsBy (S
 module _ {P Q L : Type 0} (asks : P → SeatState Q → ℕ → Entry → Made → P → SeatState Q → Type 0)
     (hears : L → ℕ → Came → L → Type 0) (told : L → Option LinkTold) (counts : L → LinkCounts)
     (hears_mean : (l : L) (room : ℕ) (answer : Came) (m : L) → 0 < room → hears l room answer m → HearStep room (told l) (told m) (counts l) (counts m) answer)
-    (says : L → List ℕ → Said → L → Type 0) (says_mean : (l : L) (piece : List ℕ) (answer : Said) (m : L) → 0 < length piece → says l piece answer m → SayStep piece (told l) (told m) (counts l) (counts m) answer)
+    (says : L → List ℕ → Said → L → Type 0) (says_mean : (l : L) (piece : List ℕ) (answer : Said) (m : L) → 0 < length piece → says l piece answer m
+    → SayStep piece (told l) (told m) (counts l) (counts m) answer)
     (k : Asked) (max who place : ℕ) (start : Origin) where
   abbrev at_link : L → Origin
   at_link l = origin (told l) (counts l)
@@ -121,7 +125,8 @@ module _ {P Q L : Type 0} (asks : P → SeatState Q → ℕ → Entry → Made �
     pub link : m ≡ l
     pub lasts : lasting_of t.parts t.client ≡ lasting_of s.parts s.client
 
-  drives_on : (s t : EdgeState Q) (l m : L) → IsIdle s t l m → t.ended ≡ None → Drives k max who place start (at_link l) s → Drives k max who place start (at_link m) t
+  drives_on : (s t : EdgeState Q) (l m : L) → IsIdle s t l m → t.ended ≡ None → Drives k max who place start (at_link l) s
+      → Drives k max who place start (at_link m) t
   drives_on s t l m i e d = record {
     lives = e;
     lasts = i.lasts ∙ d.lasts;
@@ -132,7 +137,8 @@ module _ {P Q L : Type 0} (asks : P → SeatState Q → ℕ → Entry → Made �
   }
 
   -- it has ended by an answer that is no matter of its client
-  ends_on : (e : EdgeEnd) (s t : EdgeState Q) (l m : L) → IsIdle s t l m → t.ended ≡ Some e → EdgeCause e t.client.ended who t.parts.calls max (length t.client.parts.y) (t.client.parts.y ++ t.client.input) start.counts (counts m)
+  ends_on : (e : EdgeEnd) (s t : EdgeState Q) (l m : L) → IsIdle s t l m → t.ended ≡ Some e
+      → EdgeCause e t.client.ended who t.parts.calls max (length t.client.parts.y) (t.client.parts.y ++ t.client.input) start.counts (counts m)
       → WaitsBy e t.parts.kept → Drives k max who place start (at_link l) s → HasDriven k max who place start (at_link m) e t
   ends_on e s t l m i n cause waits d = record {
     ended = n;
@@ -146,7 +152,8 @@ module _ {P Q L : Type 0} (asks : P → SeatState Q → ℕ → Entry → Made �
   }
 
   -- a Begin was answered
-  begun : (r : Reply) (a : EdgeTurn) (s t : EdgeState Q) (l m : L) → IsIdle s t l m → t.ended ≡ ended_by a → a ≡ after_begin r → t.parts.kept ≡ None → t.parts.calls ≡ s.parts.calls ++ (entry_of who call.Begin, r) ∷ []
+  begun : (r : Reply) (a : EdgeTurn) (s t : EdgeState Q) (l m : L) → IsIdle s t l m → t.ended ≡ ended_by a → a ≡ after_begin r → t.parts.kept ≡ None
+      → t.parts.calls ≡ s.parts.calls ++ (entry_of who call.Begin, r) ∷ []
       → Drives k max who place start (at_link l) s → Now a m t
   begun (reply.InUse by) a s t l m i e is kept calls d =
       subst (λ (x : EdgeTurn). Now x m t) (sym is)
@@ -165,22 +172,27 @@ module _ {P Q L : Type 0} (asks : P → SeatState Q → ℕ → Entry → Made �
   begun (reply.Skip from to) a s t l m i e is kept calls d = subst (λ (x : EdgeTurn). Now x m t) (sym is) (drives_on s t l m i (e ∙ ap ended_by is) d)
   begun (reply.NotYet end) a s t l m i e is kept calls d = subst (λ (x : EdgeTurn). Now x m t) (sym is) (drives_on s t l m i (e ∙ ap ended_by is) d)
   begun (reply.Left player) a s t l m i e is kept calls d = subst (λ (x : EdgeTurn). Now x m t) (sym is) (drives_on s t l m i (e ∙ ap ended_by is) d)
-  begun (reply.Counts began pushed ended joined skips) a s t l m i e is kept calls d = subst (λ (x : EdgeTurn). Now x m t) (sym is) (drives_on s t l m i (e ∙ ap ended_by is) d)
+  begun (reply.Counts began pushed ended joined skips) a s t l m i e is kept calls d =
+      subst (λ (x : EdgeTurn). Now x m t) (sym is) (drives_on s t l m i (e ∙ ap ended_by is) d)
 
-  answered_by : (b : Bool) (f : Entry) (r : Reply) (a : EdgeTurn) (s t : EdgeState Q) (l m : L) → is_begin f.call ≡ b → f ≡ entry_of who f.call → IsIdle s t l m → t.ended ≡ ended_by a → a ≡ after b r → t.parts.kept ≡ None
+  answered_by : (b : Bool) (f : Entry) (r : Reply) (a : EdgeTurn) (s t : EdgeState Q) (l m : L) → is_begin f.call ≡ b → f ≡ entry_of who f.call
+      → IsIdle s t l m → t.ended ≡ ended_by a → a ≡ after b r → t.parts.kept ≡ None
       → t.parts.calls ≡ s.parts.calls ++ (f, r) ∷ [] → Drives k max who place start (at_link l) s → Now a m t
   answered_by true f r a s t l m b name i e is kept calls d =
       let entry : f ≡ entry_of who call.Begin = name ∙ ap (λ (c : Call). entry_of who c) (begin_is f.call b) in
       begun r a s t l m i e is kept (calls ∙ ap (λ (x : Entry). s.parts.calls ++ (x, r) ∷ []) entry) d
   answered_by false f r a s t l m b name i e is kept calls d = subst (λ (x : EdgeTurn). Now x m t) (sym is) (drives_on s t l m i (e ∙ ap ended_by is) d)
 
-  called : (came : Made) (f : Entry) (rest : List Entry) (a : EdgeTurn) (s t : EdgeState Q) (l m : L) → f ≡ entry_of who f.call → IsIdle s t l m → t.ended ≡ ended_by a → MadeAs s.parts f rest came a t.parts
+  called : (came : Made) (f : Entry) (rest : List Entry) (a : EdgeTurn) (s t : EdgeState Q) (l m : L) → f ≡ entry_of who f.call → IsIdle s t l m
+      → t.ended ≡ ended_by a → MadeAs s.parts f rest came a t.parts
       → Drives k max who place start (at_link l) s → Now a m t
   called (made_as.Answer r) f rest a s t l m name i e b d =
       answered_by (is_begin f.call) f r a s t l m refl name i e b.1 (ap (λ (c : Core). c.kept) b.0.parts) (ap (λ (c : Core). c.calls) b.0.parts) d
   called (made_as.Busy g) f rest a s t l m name i e b d = subst (λ (x : EdgeTurn). Now x m t) (sym b.1) (drives_on s t l m i (e ∙ ap ended_by b.1) d)
-  called (made_as.Worn g) f rest a s t l m name i e b d = subst (λ (x : EdgeTurn). Now x m t) (sym b.1) (ends_on edge.Worn s t l m i (e ∙ ap ended_by b.1) tt tt d)
-  called (made_as.OutOfMemory g) f rest a s t l m name i e b d = subst (λ (x : EdgeTurn). Now x m t) (sym b.1) (ends_on edge.OutOfMemory s t l m i (e ∙ ap ended_by b.1) tt tt d)
+  called (made_as.Worn g) f rest a s t l m name i e b d = subst (λ (x : EdgeTurn). Now x m t) (sym b.1)
+      (ends_on edge.Worn s t l m i (e ∙ ap ended_by b.1) tt tt d)
+  called (made_as.OutOfMemory g) f rest a s t l m name i e b d =
+      subst (λ (x : EdgeTurn). Now x m t) (sym b.1) (ends_on edge.OutOfMemory s t l m i (e ∙ ap ended_by b.1) tt tt d)
 
   -- ---- its client took a turn
 
@@ -190,9 +202,11 @@ module _ {P Q L : Type 0} (asks : P → SeatState Q → ℕ → Entry → Made �
     pub calm : IsCalm start.counts (counts m)
     pub gave : c.parts.gave ≡ []
 
-  ran : (moved : Bool) (u w : ClientState) (l m : L) → Passed (u.parts.y ++ u.input) u.parts.sent start.told (told l) → IsCalm start.counts (counts l) → u.parts.gave ≡ [] → Went max (life_of u) (life_of w) (Ok moved) (told l) (told m) (counts l) (counts m) → HasRun w m
+  ran : (moved : Bool) (u w : ClientState) (l m : L) → Passed (u.parts.y ++ u.input) u.parts.sent start.told (told l) → IsCalm start.counts (counts l)
+      → u.parts.gave ≡ [] → Went max (life_of u) (life_of w) (Ok moved) (told l) (told m) (counts l) (counts m) → HasRun w m
   ran moved u w l m p c v g = record {
-    passed = passed_as ((u.parts.y ++ u.input) ++ g.b) (w.parts.y ++ w.input) (u.parts.sent ++ g.s) w.parts.sent start.told (told m) (sym g.ways.all_is) (sym g.ways.sent_is)
+    passed = passed_as ((u.parts.y ++ u.input) ++ g.b) (w.parts.y ++ w.input) (u.parts.sent ++ g.s) w.parts.sent start.told (told m) (sym g.ways.all_is)
+        (sym g.ways.sent_is)
         (passed_then (u.parts.y ++ u.input) g.b u.parts.sent g.s start.told (told l) (told m) p g.passed);
     calm = calm_then start.counts (counts l) (counts m) c g.ways.calm;
     gave = g.ways.gave_is ∙ v;
@@ -202,19 +216,23 @@ module _ {P Q L : Type 0} (asks : P → SeatState Q → ℕ → Entry → Made �
   run_taken : (c j : ClientState) (m : L) → IsTaken c j → HasRun c m → HasRun j m
   run_taken c j m i h = record {
     passed = passed_as (c.parts.y ++ c.input) (j.parts.y ++ j.input) c.parts.sent j.parts.sent start.told (told m)
-        (ap (λ (x : List ℕ). c.parts.y ++ x) (sym i.input) ∙ ap (λ (q : ClientCore). q.y ++ j.input) (sym i.parts)) (ap (λ (q : ClientCore). q.sent) (sym i.parts)) h.passed;
+        (ap (λ (x : List ℕ). c.parts.y ++ x) (sym i.input) ∙ ap (λ (q : ClientCore). q.y ++ j.input) (sym i.parts))
+        (ap (λ (q : ClientCore). q.sent) (sym i.parts)) h.passed;
     calm = h.calm;
     gave = ap (λ (q : ClientCore). q.gave) i.parts ∙ h.gave;
   }
 
-  run_drives : (s : EdgeState Q) (m : L) → s.ended ≡ None → lasting_of s.parts s.client ≡ made_for k max who place → HasRun s.client m → Drives k max who place start (at_link m) s
+  run_drives : (s : EdgeState Q) (m : L) → s.ended ≡ None → lasting_of s.parts s.client ≡ made_for k max who place → HasRun s.client m
+      → Drives k max who place start (at_link m) s
   run_drives s m e lasts h = record { lives = e; lasts = lasts; passed = h.passed; calm = h.calm; gave = h.gave }
 
-  run_starves : (s : EdgeState Q) (m : L) → s.ended ≡ Some edge.OutOfMemory → lasting_of s.parts s.client ≡ made_for k max who place → HasRun s.client m → HasDriven k max who place start (at_link m) edge.OutOfMemory s
+  run_starves : (s : EdgeState Q) (m : L) → s.ended ≡ Some edge.OutOfMemory → lasting_of s.parts s.client ≡ made_for k max who place → HasRun s.client m
+      → HasDriven k max who place start (at_link m) edge.OutOfMemory s
   run_starves s m e lasts h = record { ended = e; lasts = lasts; rest = s.client.input; passed = h.passed; cause = tt; waits = tt; gave = h.gave }
 
   -- by what the turn was answered: it moved or didn't
-  taken_by : (g : Option Gift) (b a : EdgeTurn) (c : Core) (t : EdgeState Q) (m : L) → (Drives k max who place start (at_link m) t → Now b m t) → ended_by b ≡ None → t.ended ≡ ended_by a → lasting_of t.parts t.client ≡ made_for k max who place → TakesBy g c b a t.parts → HasRun t.client m
+  taken_by : (g : Option Gift) (b a : EdgeTurn) (c : Core) (t : EdgeState Q) (m : L) → (Drives k max who place start (at_link m) t → Now b m t)
+      → ended_by b ≡ None → t.ended ≡ ended_by a → lasting_of t.parts t.client ≡ made_for k max who place → TakesBy g c b a t.parts → HasRun t.client m
       → Now a m t
   taken_by None b a c t m on lives e lasts f h =
       subst (λ (x : EdgeTurn). Now x m t) (sym f.1) (on (run_drives t m (e ∙ ap ended_by f.1 ∙ lives) lasts h))
@@ -224,8 +242,10 @@ module _ {P Q L : Type 0} (asks : P → SeatState Q → ℕ → Entry → Made �
       subst (λ (x : EdgeTurn). Now x m t) (sym f.1) (run_starves t m (e ∙ ap ended_by f.1) lasts h)
 
   -- the client has ended
-  gone : (f : ClientEnd) (u w : ClientState) (a : EdgeTurn) (t : EdgeState Q) (l m : L) → w.ended ≡ Some f → t.client ≡ w → a ≡ Ended (end_as w.ended) → t.ended ≡ ended_by a → StandsFor t → lasting_of t.parts t.client ≡ made_for k max who place
-      → Passed (u.parts.y ++ u.input) u.parts.sent start.told (told l) → IsCalm start.counts (counts l) → u.parts.gave ≡ [] → Went max (life_of u) (life_of w) (Err f) (told l) (told m) (counts l) (counts m) → Now a m t
+  gone : (f : ClientEnd) (u w : ClientState) (a : EdgeTurn) (t : EdgeState Q) (l m : L) → w.ended ≡ Some f → t.client ≡ w → a ≡ Ended (end_as w.ended)
+      → t.ended ≡ ended_by a → StandsFor t → lasting_of t.parts t.client ≡ made_for k max who place
+      → Passed (u.parts.y ++ u.input) u.parts.sent start.told (told l) → IsCalm start.counts (counts l) → u.parts.gave ≡ []
+      → Went max (life_of u) (life_of w) (Err f) (told l) (told m) (counts l) (counts m) → Now a m t
   gone f u w a t l m ended same is e stands lasts p c v g =
       let q = g.ways in
       let answer_is : a ≡ Ended (end_as (Some f)) = is ∙ ap (λ (o : Option ClientEnd). Ended (end_as o)) ended in
@@ -234,7 +254,8 @@ module _ {P Q L : Type 0} (asks : P → SeatState Q → ℕ → Entry → Made �
       let s : StandsBy (Some (end_as (Some f))) t.parts t.client = subst (λ (o : Option EdgeEnd). StandsBy o t.parts t.client) edge_end stands in
       let why = why_since f q.why in
       let cause : EdgeCause (end_as (Some f)) (Some f) who t.parts.calls max (length w.parts.y) (w.parts.y ++ q.rest) start.counts (counts m) =
-      client_caused f who max t.parts.calls (length w.parts.y) (w.parts.y ++ q.rest) start.counts (counts m) (λ x. subst IsOwnEnd how (own_end (end_as (Some f)) t.parts t.client s x)) why in
+      client_caused f who max t.parts.calls (length w.parts.y) (w.parts.y ++ q.rest) start.counts (counts m)
+      (λ x. subst IsOwnEnd how (own_end (end_as (Some f)) t.parts t.client s x)) why in
       let passed : Passed (w.parts.y ++ q.rest) w.parts.sent start.told (told m) =
       passed_as ((u.parts.y ++ u.input) ++ g.b) (w.parts.y ++ q.rest) (u.parts.sent ++ g.s) w.parts.sent start.told (told m) (sym q.all_is) (sym q.sent_is)
       (passed_then (u.parts.y ++ u.input) g.b u.parts.sent g.s start.told (told l) (told m) p g.passed) in
@@ -243,21 +264,26 @@ module _ {P Q L : Type 0} (asks : P → SeatState Q → ℕ → Entry → Made �
         lasts = lasts;
         rest = q.rest;
         passed = subst (λ (x : ClientState). Passed (x.parts.y ++ q.rest) x.parts.sent start.told (told m)) (sym same) passed;
-        cause = subst (λ (o : Option ClientEnd). EdgeCause (end_as (Some f)) o who t.parts.calls max (length t.client.parts.y) (t.client.parts.y ++ q.rest) start.counts (counts m)) (sym how)
-            (subst (λ (x : ClientState). EdgeCause (end_as (Some f)) (Some f) who t.parts.calls max (length x.parts.y) (x.parts.y ++ q.rest) start.counts (counts m)) (sym same) cause);
+        cause = subst (λ (o : Option ClientEnd). EdgeCause (end_as (Some f)) o who t.parts.calls max (length t.client.parts.y)
+            (t.client.parts.y ++ q.rest) start.counts (counts m)) (sym how)
+            (subst (λ (x : ClientState). EdgeCause (end_as (Some f)) (Some f) who t.parts.calls max (length x.parts.y) (x.parts.y ++ q.rest) start.counts
+            (counts m)) (sym same) cause);
         gave = ap (λ (x : ClientState). x.parts.gave) same ∙ (q.gave_is ∙ v);
         waits = client_waits f t.parts.kept (λ x. own_waits (end_as (Some f)) t.parts t.client s x);
       } in
       subst (λ (x : EdgeTurn). Now x m t) (sym answer_is) driven
     where
-      why_since : (f : ClientEnd) → Why f max (length w.parts.y) ((u.parts.y ++ u.input) ++ g.b) (counts l) (counts m) → Why f max (length w.parts.y) (w.parts.y ++ g.ways.rest) start.counts (counts m)
+      why_since : (f : ClientEnd) → Why f max (length w.parts.y) ((u.parts.y ++ u.input) ++ g.b) (counts l) (counts m)
+          → Why f max (length w.parts.y) (w.parts.y ++ g.ways.rest) start.counts (counts m)
       why_since f h =
           why_calm f max (length w.parts.y) (w.parts.y ++ g.ways.rest) start.counts (counts l) (counts m) c
           (subst (λ (x : List ℕ). Why f max (length w.parts.y) x (counts l) (counts m)) (sym g.ways.all_is) h)
 
   -- by what the client's turn came to
-  pulled_by : (answer : ClientTurn) (o : Result Bool ClientEnd) (u w : ClientState) (a : EdgeTurn) (s t : EdgeState Q) (l m : L) → answer ≡ turn_of o → w.ended ≡ end_of o → ToldAs answer s.parts w a t.parts t.client → t.ended ≡ ended_by a → StandsFor t
-      → lasting_of t.parts t.client ≡ made_for k max who place → Passed (u.parts.y ++ u.input) u.parts.sent start.told (told l) → IsCalm start.counts (counts l) → u.parts.gave ≡ [] → Went max (life_of u) (life_of w) o (told l) (told m) (counts l) (counts m) → Now a m t
+  pulled_by : (answer : ClientTurn) (o : Result Bool ClientEnd) (u w : ClientState) (a : EdgeTurn) (s t : EdgeState Q) (l m : L) → answer ≡ turn_of o
+      → w.ended ≡ end_of o → ToldAs answer s.parts w a t.parts t.client → t.ended ≡ ended_by a → StandsFor t
+      → lasting_of t.parts t.client ≡ made_for k max who place → Passed (u.parts.y ++ u.input) u.parts.sent start.told (told l)
+      → IsCalm start.counts (counts l) → u.parts.gave ≡ [] → Went max (life_of u) (life_of w) o (told l) (told m) (counts l) (counts m) → Now a m t
   pulled_by answer (Ok true) u w a s t l m is ended f e stands lasts p c v g =
       let q : ToldAs client_turn.Moved s.parts w a t.parts t.client = subst (λ (x : ClientTurn). ToldAs x s.parts w a t.parts t.client) is f in
       taken_by w.parts.gift Moved a s.parts t m (λ x. x) refl e lasts q.1 (run_taken w t.client m q.0 (ran true u w l m p c v g))
@@ -270,18 +296,22 @@ module _ {P Q L : Type 0} (asks : P → SeatState Q → ℕ → Entry → Made �
 
   -- ---- one of the two
 
-  turn_by : (es : List Entry) (x y : P) (a : EdgeTurn) (s t : EdgeState Q) (l m : L) → waiting s.parts ≡ es → TurnBy asks (ClientTurns hears says) es (life_at s x) l a (life_at t y) m → s.client.ended ≡ None → s.client.parts.reader.max ≡ max
-      → ((f : Entry) (rest : List Entry) → waiting s.parts ≡ f ∷ rest → f ≡ entry_of who f.call) → t.ended ≡ ended_by a → StandsFor t → lasting_of t.parts t.client ≡ lasting_of s.parts s.client → Drives k max who place start (at_link l) s → Now a m t
+  turn_by : (es : List Entry) (x y : P) (a : EdgeTurn) (s t : EdgeState Q) (l m : L) → waiting s.parts ≡ es
+      → TurnBy asks (ClientTurns hears says) es (life_at s x) l a (life_at t y) m → s.client.ended ≡ None → s.client.parts.reader.max ≡ max
+      → ((f : Entry) (rest : List Entry) → waiting s.parts ≡ f ∷ rest → f ≡ entry_of who f.call) → t.ended ≡ ended_by a → StandsFor t
+      → lasting_of t.parts t.client ≡ lasting_of s.parts s.client → Drives k max who place start (at_link l) s → Now a m t
   turn_by [] x y a s t l m w f lives mx bear e stands lasts d =
       let p = f.0 in
       let u = p.turned in
-      pulled_by p.answer u.comes s.client p.between a s t l m u.answered u.ended p.told e stands (lasts ∙ d.lasts) d.passed d.calm d.gave (turn_went hears told counts hears_mean max says says_mean p.answer s.client p.between l m lives mx u)
+      pulled_by p.answer u.comes s.client p.between a s t l m u.answered u.ended p.told e stands (lasts ∙ d.lasts) d.passed d.calm d.gave
+      (turn_went hears told counts hears_mean max says says_mean p.answer s.client p.between l m lives mx u)
   turn_by (g ∷ rest) x y a s t l m w f lives mx bear e stands lasts d =
       let c = f.0 in
       called c.came g rest a s t l m (bear g rest w) (record { client = c.client; link = f.1; lasts = lasts }) e c.became d
 
   -- A TURN of an edge that lives
-  pub turned : (x y : P) (a : EdgeTurn) (s t : EdgeState Q) (l m : L) → EndedBy asks (ClientTurns hears says) s.ended (life_at s x) l a (life_at t y) m → t.ended ≡ ended_by a → StandsFor s → StandsFor t → lasting_of t.parts t.client ≡ lasting_of s.parts s.client
+  pub turned : (x y : P) (a : EdgeTurn) (s t : EdgeState Q) (l m : L) → EndedBy asks (ClientTurns hears says) s.ended (life_at s x) l a (life_at t y) m
+      → t.ended ≡ ended_by a → StandsFor s → StandsFor t → lasting_of t.parts t.client ≡ lasting_of s.parts s.client
       → Drives k max who place start (at_link l) s → Now a m t
   turned x y a s t l m f e before stands lasts d =
       let turn = subst (λ (o : Option EdgeEnd). EndedBy asks (ClientTurns hears says) o (life_at s x) l a (life_at t y) m) d.lives f in
@@ -289,5 +319,6 @@ module _ {P Q L : Type 0} (asks : P → SeatState Q → ℕ → Entry → Made �
       let name : s.parts.who ≡ who = ap (λ (q : Lasting). q.who) d.lasts in
       let mx : s.client.parts.reader.max ≡ max = ap (λ (q : Lasting). q.max) d.lasts in
       turn_by (waiting s.parts) x y a s t l m refl turn now.lives mx
-      (λ g rest w. subst (λ (n : ℕ). g ≡ entry_of n g.call) name (bears s.parts.who _ (made s.parts.calls) g rest (ap (λ (es : List Entry). made s.parts.calls ++ es) (sym w) ∙ now.calls.calls)))
+      (λ g rest w. subst (λ (n : ℕ). g ≡ entry_of n g.call) name
+      (bears s.parts.who _ (made s.parts.calls) g rest (ap (λ (es : List Entry). made s.parts.calls ++ es) (sym w) ∙ now.calls.calls)))
       e stands lasts d

@@ -1,5 +1,6 @@
 -- What a turn of a client comes to, over what its link tells
-use Rattle.std.proofs.Common.{◌≡◌, inl, inr, ◌<◌, ◌≤◌, ℕ, Bool, true, false, List, [], ◌∷◌, ◌++◌, length, take, Option, None, Result, Ok, Err, refl, sym, ap, ◌∙◌, subst, arith, append_assoc, append-nil}
+use Rattle.std.proofs.Common.{◌≡◌, inl, inr, ◌<◌, ◌≤◌, ℕ, Bool, true, false, List, [], ◌∷◌, ◌++◌, length, take, Option, None, Result, Ok, Err, refl, sym, ap}
+use Rattle.std.proofs.Common.{◌∙◌, subst, arith, append_assoc, append-nil}
 use Rattle.std.proofs.lemmas.List.{length-take, take-take}
 use Rattle.relay_outside.specs.Counts.{Rose}
 use Rattle.relay_outside.specs.Heard.{Came, CameBytes, CameEnd, CameFailed, CameNotYet, HearStep}
@@ -13,7 +14,8 @@ use Rattle.client_owed.specs.Standing.{Past}
 use Rattle.client_owed.specs.declared.types.Gave.{Gave}
 use Rattle.rtmp_client.specs.ClientState.{ClientState, TurnMade, life_of}
 use Rattle.rtmp_client.specs.Feeding.{Decides, Fixed, IsSent}
-use Rattle.rtmp_client.specs.Turns.{CameAs, DoneBy, EmptyBy, EndedBy, Fed, FedAs, FedBy, Quietly, Loudly, Stopping, Gone, InputBy, IsEnded, Life, SendBy, SentAs, is_done, is_hungry, is_nil, life}
+use Rattle.rtmp_client.specs.Turns.{CameAs, DoneBy, EmptyBy, EndedBy, Fed, FedAs, FedBy, Quietly, Loudly, Stopping, Gone, InputBy, IsEnded, Life, SendBy}
+use Rattle.rtmp_client.specs.Turns.{SentAs, is_done, is_hungry, is_nil, life}
 use Rattle.rtmp_client.specs.declared.core_fields.Core.{Core}
 use Rattle.rtmp_client.specs.declared.end.ClientEnd.{ClientEnd}
 use Rattle.rtmp_client.specs.declared.end.ClientEnd.TheVariants as end
@@ -47,7 +49,8 @@ why_calm (end.Refused code) max fed all n m o c h = (h.0, calm_then n m o c h.1)
 why_calm end.Done max fed all n m o c h = tt
 why_calm end.OutOfMemory max fed all n m o c h = tt
 
-decided_why : (e : ClientEnd) (ms : List (ℕ × Message)) (max fed : ℕ) (all : List ℕ) (x y : LinkCounts) → Decides max ms all fed e → IsCalm x y → Why e max fed all x y
+decided_why : (e : ClientEnd) (ms : List (ℕ × Message)) (max fed : ℕ) (all : List ℕ) (x y : LinkCounts) → Decides max ms all fed e → IsCalm x y
+    → Why e max fed all x y
 decided_why end.PeerClosed ms max fed all x y d c = absurd d
 decided_why end.LinkFault ms max fed all x y d c = absurd d
 decided_why (end.BadVersion at) ms max fed all x y d c = ((ms, d), c)
@@ -81,7 +84,8 @@ Ways (Err e) max sent gave w all n n' = HasEndedOn e max sent gave w.parts all n
 split_all : (y fed left input z : List ℕ) → z ≡ y ++ fed → fed ++ left ≡ input → z ++ left ≡ y ++ input
 split_all y fed left input z e s = ap (λ (l : List ℕ). l ++ left) e ∙ append_assoc y fed left ∙ ap (λ (l : List ℕ). y ++ l) s
 
-fed_ways : (by : FedBy) (max : ℕ) (c : Core) (input : List ℕ) (moved : Bool) (a : Result Bool ClientEnd) (w : Life) (n n' : LinkCounts) → c.reader.max ≡ max → IsCalm n n' → FedAs by (life c input) moved a w
+fed_ways : (by : FedBy) (max : ℕ) (c : Core) (input : List ℕ) (moved : Bool) (a : Result Bool ClientEnd) (w : Life) (n n' : LinkCounts)
+    → c.reader.max ≡ max → IsCalm n n' → FedAs by (life c input) moved a w
     → Ways a max c.sent c.gave w (c.y ++ input) n n'
 fed_ways Quietly max c input moved a w n n' mx calm f =
     subst (λ (x : Result Bool ClientEnd). Ways x max c.sent c.gave w (c.y ++ input) n n') (sym f.3)
@@ -122,7 +126,8 @@ record Taken (max : ℕ) (v w : Life) (a : Result Bool ClientEnd) (t t' : Option
   pub ways : Ways a max v.parts.sent v.parts.gave w ((v.parts.y ++ v.input) ++ b) n n'
 
 -- it came to an end
-gone_ways : (max : ℕ) (v w : Life) (a : Result Bool ClientEnd) (e : ClientEnd) (t t' : Option LinkTold) (n n' : LinkCounts) → IsEnded e v a w → (b : List ℕ) → Passed b [] t t'
+gone_ways : (max : ℕ) (v w : Life) (a : Result Bool ClientEnd) (e : ClientEnd) (t t' : Option LinkTold) (n n' : LinkCounts) → IsEnded e v a w
+    → (b : List ℕ) → Passed b [] t t'
     → Why e max (length w.parts.y) ((v.parts.y ++ v.input) ++ b) n n' → Taken max v w a t t' n n'
 gone_ways max v w a e t t' n n' i b p h = record {
   b = b;
@@ -138,7 +143,8 @@ gone_ways max v w a e t t' n n' i b p h = record {
 }
 
 -- nothing more was done
-stay_ways : (max : ℕ) (v w : Life) (moved : Bool) (a : Result Bool ClientEnd) (t t' : Option LinkTold) (n n' : LinkCounts) → a ≡ Ok moved → w ≡ v → Passed [] [] t t' → IsCalm n n' → Taken max v w a t t' n n'
+stay_ways : (max : ℕ) (v w : Life) (moved : Bool) (a : Result Bool ClientEnd) (t t' : Option LinkTold) (n n' : LinkCounts) → a ≡ Ok moved → w ≡ v
+    → Passed [] [] t t' → IsCalm n n' → Taken max v w a t t' n n'
 stay_ways max v w moved a t t' n n' e f p c = record {
   b = [];
   passed = p;
@@ -152,11 +158,13 @@ stay_ways max v w moved a t t' n n' e f p c = record {
 }
 
 -- the buffer was fed
-here_ways : (max : ℕ) (v w : Life) (moved : Bool) (a : Result Bool ClientEnd) (t t' : Option LinkTold) (n n' : LinkCounts) → v.parts.reader.max ≡ max → Fed v moved a w → t' ≡ t → IsCalm n n' → Taken max v w a t t' n n'
+here_ways : (max : ℕ) (v w : Life) (moved : Bool) (a : Result Bool ClientEnd) (t t' : Option LinkTold) (n n' : LinkCounts) → v.parts.reader.max ≡ max
+    → Fed v moved a w → t' ≡ t → IsCalm n n' → Taken max v w a t t' n n'
 here_ways max v w moved a t t' n n' mx f e c = record {
   b = [];
   passed = passed_same t t' e;
-  ways = subst (λ (l : List ℕ). Ways a max v.parts.sent v.parts.gave w l n n') (sym (append-nil (v.parts.y ++ v.input))) (fed_ways f.0 max v.parts v.input moved a w n n' mx c f.1);
+  ways = subst (λ (l : List ℕ). Ways a max v.parts.sent v.parts.gave w l n n') (sym (append-nil (v.parts.y ++ v.input)))
+      (fed_ways f.0 max v.parts v.input moved a w n n' mx c f.1);
 }
 
 -- ---- since the turn began
@@ -178,13 +186,16 @@ pub record Went (max : ℕ) (u w : Life) (a : Result Bool ClientEnd) (t t' : Opt
   pub passed : Passed b s t t'
   pub ways : Ways a max (u.parts.sent ++ s) u.parts.gave w ((u.parts.y ++ u.input) ++ b) n n'
 
-ways_from : (a : Result Bool ClientEnd) (max : ℕ) (u v w : Life) (s b : List ℕ) (n m o : LinkCounts) → Since u v s → IsCalm n m → Ways a max v.parts.sent v.parts.gave w ((v.parts.y ++ v.input) ++ b) m o
+ways_from : (a : Result Bool ClientEnd) (max : ℕ) (u v w : Life) (s b : List ℕ) (n m o : LinkCounts) → Since u v s → IsCalm n m
+    → Ways a max v.parts.sent v.parts.gave w ((v.parts.y ++ v.input) ++ b) m o
     → Ways a max (u.parts.sent ++ s) u.parts.gave w ((u.parts.y ++ u.input) ++ b) n o
 ways_from (Ok moved) max u v w s b n m o i c h =
-    let all : (v.parts.y ++ v.input) ++ b ≡ (u.parts.y ++ u.input) ++ b = ap (λ (x : List ℕ). (x ++ v.input) ++ b) i.y ∙ ap (λ (x : List ℕ). (u.parts.y ++ x) ++ b) i.input in
+    let all : (v.parts.y ++ v.input) ++ b ≡ (u.parts.y ++ u.input) ++ b = ap (λ (x : List ℕ). (x ++ v.input) ++ b) i.y
+    ∙ ap (λ (x : List ℕ). (u.parts.y ++ x) ++ b) i.input in
     record { all_is = h.all_is ∙ all; sent_is = h.sent_is ∙ i.sent; gave_is = h.gave_is ∙ i.gave; calm = calm_then n m o c h.calm }
 ways_from (Err e) max u v w s b n m o i c h =
-    let all : (v.parts.y ++ v.input) ++ b ≡ (u.parts.y ++ u.input) ++ b = ap (λ (x : List ℕ). (x ++ v.input) ++ b) i.y ∙ ap (λ (x : List ℕ). (u.parts.y ++ x) ++ b) i.input in
+    let all : (v.parts.y ++ v.input) ++ b ≡ (u.parts.y ++ u.input) ++ b = ap (λ (x : List ℕ). (x ++ v.input) ++ b) i.y
+    ∙ ap (λ (x : List ℕ). (u.parts.y ++ x) ++ b) i.input in
     record {
       rest = h.rest;
       all_is = h.all_is ∙ all;
@@ -193,7 +204,8 @@ ways_from (Err e) max u v w s b n m o i c h =
       why = why_calm e max (length w.parts.y) ((u.parts.y ++ u.input) ++ b) n m o c (subst (λ (x : List ℕ). Why e max (length w.parts.y) x m o) all h.why);
     }
 
-went_from : (a : Result Bool ClientEnd) (max : ℕ) (u v w : Life) (s : List ℕ) (t t' t'' : Option LinkTold) (n m o : LinkCounts) → Since u v s → Passed [] s t t' → IsCalm n m → Taken max v w a t' t'' m o → Went max u w a t t'' n o
+went_from : (a : Result Bool ClientEnd) (max : ℕ) (u v w : Life) (s : List ℕ) (t t' t'' : Option LinkTold) (n m o : LinkCounts) → Since u v s
+    → Passed [] s t t' → IsCalm n m → Taken max v w a t' t'' m o → Went max u w a t t'' n o
 went_from a max u v w s t t' t'' n m o i p c k = record {
   s = s;
   b = k.b;
@@ -209,30 +221,41 @@ piece_some : (l : List ℕ) → is_nil l ≡ false → 0 < length (take 16384 l)
 piece_some l n = omega (arith, length-take 16384 l, some_length l n)
 
 since_sent : (u : Life) (c : Core) (n : ℕ) → IsSent u.parts n c → Since u (life c u.input) (take n u.parts.outgoing.pending)
-since_sent u c n s = record { y = ap (λ (x : Past). x.y) s.past; input = refl; sent = ap (λ (x : Past). x.sent) s.past; gave = ap (λ (x : Past). x.gave) s.past }
+since_sent u c n s = record {
+  y = ap (λ (x : Past). x.y) s.past;
+  input = refl;
+  sent = ap (λ (x : Past). x.sent) s.past;
+  gave =
+      ap (λ (x : Past). x.gave) s.past;
+}
 
 taken_twice : (n most : ℕ) (l : List ℕ) → n ≤ length (take most l) → take n (take most l) ≡ take n l
 taken_twice n most l le = take-take n most l (omega (arith, le, length-take most l))
 
 module _ {L : Type 0} (hears : L → ℕ → Came → L → Type 0) (told : L → Option LinkTold) (counts : L → LinkCounts)
-    (hears_mean : (l : L) (room : ℕ) (answer : Came) (m : L) → 0 < room → hears l room answer m → HearStep room (told l) (told m) (counts l) (counts m) answer) (max : ℕ) where
-  came_ways : (came : Came) (v w : Life) (moved : Bool) (a : Result Bool ClientEnd) (l m : L) → v.parts.reader.max ≡ max → is_nil v.input ≡ true → hears l 4096 came m → CameAs came v moved a w
+    (hears_mean : (l : L) (room : ℕ) (answer : Came) (m : L) → 0 < room → hears l room answer m
+    → HearStep room (told l) (told m) (counts l) (counts m) answer) (max : ℕ) where
+  came_ways : (came : Came) (v w : Life) (moved : Bool) (a : Result Bool ClientEnd) (l m : L) → v.parts.reader.max ≡ max → is_nil v.input ≡ true
+      → hears l 4096 came m → CameAs came v moved a w
       → Taken max v w a (told l) (told m) (counts l) (counts m)
   came_ways (CameBytes b) v w moved a l m mx n h (inl f) =
       let s = hears_mean l 4096 (CameBytes b) m (omega arith) h in
       let calm : IsCalm (counts l) (counts m) = record { faults = s.counts.0; ends = s.counts.2 } in
-      let all : v.parts.y ++ b ≡ (v.parts.y ++ v.input) ++ b = ap (λ (x : List ℕ). x ++ b) (sym (ap (λ (x : List ℕ). v.parts.y ++ x) (nil_is v.input n) ∙ append-nil v.parts.y)) in
+      let all : v.parts.y ++ b ≡ (v.parts.y ++ v.input) ++ b =
+      ap (λ (x : List ℕ). x ++ b) (sym (ap (λ (x : List ℕ). v.parts.y ++ x) (nil_is v.input n) ∙ append-nil v.parts.y)) in
       record {
         b = b;
         passed = passed_given b (told l) (told m) s.told.0 s.told.1;
-        ways = subst (λ (x : List ℕ). Ways a max v.parts.sent v.parts.gave w x (counts l) (counts m)) all (fed_ways f.0 max v.parts b true a w (counts l) (counts m) mx calm f.1);
+        ways = subst (λ (x : List ℕ). Ways a max v.parts.sent v.parts.gave w x (counts l) (counts m)) all
+            (fed_ways f.0 max v.parts b true a w (counts l) (counts m) mx calm f.1);
       }
   came_ways (CameBytes b) v w moved a l m mx n h (inr e) =
       let s = hears_mean l 4096 (CameBytes b) m (omega arith) h in
       gone_ways max v w a end.OutOfMemory (told l) (told m) (counts l) (counts m) e b (passed_given b (told l) (told m) s.told.0 s.told.1) tt
   came_ways CameNotYet v w moved a l m mx n h f =
       let s = hears_mean l 4096 CameNotYet m (omega arith) h in
-      stay_ways max v w moved a (told l) (told m) (counts l) (counts m) f.0 f.1 (passed_same (told l) (told m) s.told) (record { faults = s.counts.0; ends = s.counts.2 })
+      stay_ways max v w moved a (told l) (told m) (counts l) (counts m) f.0 f.1 (passed_same (told l) (told m) s.told)
+      (record { faults = s.counts.0; ends = s.counts.2 })
   came_ways CameEnd v w moved a l m mx n h e =
       let s = hears_mean l 4096 CameEnd m (omega arith) h in
       gone_ways max v w a end.PeerClosed (told l) (told m) (counts l) (counts m) e [] (passed_same (told l) (told m) s.told) (s.counts.2, s.counts.0)
@@ -243,54 +266,70 @@ module _ {L : Type 0} (hears : L → ℕ → Came → L → Type 0) (told : L �
   calm_at : (l m : L) → m ≡ l → IsCalm (counts l) (counts m)
   calm_at l m e = subst (λ (x : L). IsCalm (counts l) (counts x)) (sym e) (calm_here (counts l))
 
-  empty_ways : (b : Bool) (v w : Life) (moved : Bool) (a : Result Bool ClientEnd) (l m : L) → v.parts.reader.max ≡ max → is_nil v.input ≡ b → EmptyBy hears b v l moved a w m → Taken max v w a (told l) (told m) (counts l) (counts m)
+  empty_ways : (b : Bool) (v w : Life) (moved : Bool) (a : Result Bool ClientEnd) (l m : L) → v.parts.reader.max ≡ max → is_nil v.input ≡ b
+      → EmptyBy hears b v l moved a w m → Taken max v w a (told l) (told m) (counts l) (counts m)
   empty_ways true v w moved a l m mx n f = came_ways f.0 v w moved a l m mx n f.1.0 f.1.1
   empty_ways false v w moved a l m mx n f = here_ways max v w moved a (told l) (told m) (counts l) (counts m) mx f.0 (ap told f.1) (calm_at l m f.1)
 
-  input_ways : (b : Bool) (v w : Life) (moved : Bool) (a : Result Bool ClientEnd) (l m : L) → v.parts.reader.max ≡ max → InputBy hears b v l moved a w m → Taken max v w a (told l) (told m) (counts l) (counts m)
+  input_ways : (b : Bool) (v w : Life) (moved : Bool) (a : Result Bool ClientEnd) (l m : L) → v.parts.reader.max ≡ max → InputBy hears b v l moved a w m
+      → Taken max v w a (told l) (told m) (counts l) (counts m)
   input_ways true v w moved a l m mx f = empty_ways (is_nil v.input) v w moved a l m mx refl f
-  input_ways false v w moved a l m mx f = stay_ways max v w moved a (told l) (told m) (counts l) (counts m) f.0 f.1 (passed_same (told l) (told m) (ap told f.2)) (calm_at l m f.2)
+  input_ways false v w moved a l m mx f = stay_ways max v w moved a (told l) (told m) (counts l) (counts m) f.0 f.1
+      (passed_same (told l) (told m) (ap told f.2)) (calm_at l m f.2)
 
-  done_ways : (b : Bool) (v w : Life) (moved : Bool) (a : Result Bool ClientEnd) (l m : L) → v.parts.reader.max ≡ max → DoneBy hears b v l moved a w m → Taken max v w a (told l) (told m) (counts l) (counts m)
-  done_ways true v w moved a l m mx f = gone_ways max v w a end.Done (told l) (told m) (counts l) (counts m) f.0 [] (passed_same (told l) (told m) (ap told f.1)) tt
+  done_ways : (b : Bool) (v w : Life) (moved : Bool) (a : Result Bool ClientEnd) (l m : L) → v.parts.reader.max ≡ max → DoneBy hears b v l moved a w m
+      → Taken max v w a (told l) (told m) (counts l) (counts m)
+  done_ways true v w moved a l m mx f = gone_ways max v w a end.Done (told l) (told m) (counts l) (counts m) f.0 []
+      (passed_same (told l) (told m) (ap told f.1)) tt
   done_ways false v w moved a l m mx f = input_ways (is_hungry v.parts) v w moved a l m mx f
 
-  module _ (says : L → List ℕ → Said → L → Type 0) (says_mean : (l : L) (piece : List ℕ) (answer : Said) (m : L) → 0 < length piece → says l piece answer m → SayStep piece (told l) (told m) (counts l) (counts m) answer) where
-    said_went : (q : Said) (u w : Life) (a : Result Bool ClientEnd) (l k m : L) → u.parts.reader.max ≡ max → is_nil u.parts.outgoing.pending ≡ false → says l (take 16384 u.parts.outgoing.pending) q k → SentAs hears says q u k a w m
+  module _ (says : L → List ℕ → Said → L → Type 0) (says_mean : (l : L) (piece : List ℕ) (answer : Said) (m : L) → 0 < length piece
+      → says l piece answer m → SayStep piece (told l) (told m) (counts l) (counts m) answer) where
+    said_went : (q : Said) (u w : Life) (a : Result Bool ClientEnd) (l k m : L) → u.parts.reader.max ≡ max → is_nil u.parts.outgoing.pending ≡ false
+        → says l (take 16384 u.parts.outgoing.pending) q k → SentAs hears says q u k a w m
         → Went max u w a (told l) (told m) (counts l) (counts m)
     said_went (said.Took n) u w a l k m mx e h f =
         let p = u.parts.outgoing.pending in
         let t = says_mean l (take 16384 p) (said.Took n) k (piece_some p e) h in
         let c = f.0 in
         let mx' : c.reader.max ≡ max = ap (λ (x : ReaderKnown). x.max) f.1.0.fixed.1 ∙ mx in
-        let took : Passed [] (take n p) (told l) (told k) = passed_as [] [] (take n (take 16384 p)) (take n p) (told l) (told k) refl (taken_twice n 16384 p t.count.1) (passed_taken (take n (take 16384 p)) (told l) (told k) t.told) in
-        went_from a max u (life c u.input) w (take n p) (told l) (told k) (told m) (counts l) (counts k) (counts m) (since_sent u c n f.1.0) took (record { faults = t.counts.0; ends = t.counts.2 })
+        let took : Passed [] (take n p) (told l) (told k) = passed_as [] [] (take n (take 16384 p)) (take n p) (told l) (told k) refl
+        (taken_twice n 16384 p t.count.1) (passed_taken (take n (take 16384 p)) (told l) (told k) t.told) in
+        went_from a max u (life c u.input) w (take n p) (told l) (told k) (told m) (counts l) (counts k) (counts m) (since_sent u c n f.1.0) took
+        (record { faults = t.counts.0; ends = t.counts.2 })
         (done_ways (is_done c) (life c u.input) w true a k m mx' f.1.1)
     said_went said.NotYet u w a l k m mx e h f =
         let t = says_mean l (take 16384 u.parts.outgoing.pending) said.NotYet k (piece_some u.parts.outgoing.pending e) h in
-        went_from a max u u w [] (told l) (told k) (told m) (counts l) (counts k) (counts m) (since_here u) (passed_same (told l) (told k) t.told) (record { faults = t.counts.0; ends = t.counts.2 })
+        went_from a max u u w [] (told l) (told k) (told m) (counts l) (counts k) (counts m) (since_here u) (passed_same (told l) (told k) t.told)
+        (record { faults = t.counts.0; ends = t.counts.2 })
         (done_ways (is_done u.parts) u w false a k m mx f)
     said_went said.Failed u w a l k m mx e h f =
         let t = says_mean l (take 16384 u.parts.outgoing.pending) said.Failed k (piece_some u.parts.outgoing.pending e) h in
         let told' : told m ≡ told l = ap told f.1 ∙ t.told in
         let rose : Rose (counts l).faults (counts m).faults = subst (λ (x : L). Rose (counts l).faults (counts x).faults) (sym f.1) t.counts.0 in
         let ends : (counts m).ends ≡ (counts l).ends = ap (λ (x : L). (counts x).ends) f.1 ∙ t.counts.2 in
-        went_from a max u u w [] (told l) (told l) (told m) (counts l) (counts l) (counts m) (since_here u) (passed_same (told l) (told l) refl) (calm_here (counts l))
+        went_from a max u u w [] (told l) (told l) (told m) (counts l) (counts l) (counts m) (since_here u) (passed_same (told l) (told l) refl)
+        (calm_here (counts l))
         (gone_ways max u w a end.LinkFault (told l) (told m) (counts l) (counts m) f.0 [] (passed_same (told l) (told m) told') (rose, ends))
     said_went said.OutOfMemory u w a l k m mx e h f =
         let t = says_mean l (take 16384 u.parts.outgoing.pending) said.OutOfMemory k (piece_some u.parts.outgoing.pending e) h in
         let told' : told m ≡ told l = ap told f.1 ∙ t.told in
-        went_from a max u u w [] (told l) (told l) (told m) (counts l) (counts l) (counts m) (since_here u) (passed_same (told l) (told l) refl) (calm_here (counts l))
+        went_from a max u u w [] (told l) (told l) (told m) (counts l) (counts l) (counts m) (since_here u) (passed_same (told l) (told l) refl)
+        (calm_here (counts l))
         (gone_ways max u w a end.OutOfMemory (told l) (told m) (counts l) (counts m) f.0 [] (passed_same (told l) (told m) told') tt)
 
-    send_went : (b : Bool) (u w : Life) (a : Result Bool ClientEnd) (l m : L) → u.parts.reader.max ≡ max → is_nil u.parts.outgoing.pending ≡ b → SendBy hears says b u l a w m → Went max u w a (told l) (told m) (counts l) (counts m)
+    send_went : (b : Bool) (u w : Life) (a : Result Bool ClientEnd) (l m : L) → u.parts.reader.max ≡ max → is_nil u.parts.outgoing.pending ≡ b
+        → SendBy hears says b u l a w m → Went max u w a (told l) (told m) (counts l) (counts m)
     send_went true u w a l m mx e f =
-        went_from a max u u w [] (told l) (told l) (told m) (counts l) (counts l) (counts m) (since_here u) (passed_same (told l) (told l) refl) (calm_here (counts l))
+        went_from a max u u w [] (told l) (told l) (told m) (counts l) (counts l) (counts m) (since_here u) (passed_same (told l) (told l) refl)
+        (calm_here (counts l))
         (done_ways (is_done u.parts) u w false a l m mx f)
     send_went false u w a l m mx e f = said_went f.0 u w a l f.1.0 m mx e f.1.1.0 f.1.1.1
 
     -- A TURN of a client that lives
-    pub turn_went : (answer : ClientTurn) (u w : ClientState) (l m : L) → u.ended ≡ None → u.parts.reader.max ≡ max → (t : TurnMade (EndedBy hears says) u l answer w m) → Went max (life_of u) (life_of w) t.comes (told l) (told m) (counts l) (counts m)
+    pub turn_went : (answer : ClientTurn) (u w : ClientState) (l m : L) → u.ended ≡ None → u.parts.reader.max ≡ max
+        → (t : TurnMade (EndedBy hears says) u l answer w m) → Went max (life_of u) (life_of w) t.comes (told l) (told m) (counts l) (counts m)
     turn_went answer u w l m lives mx t =
-        let made : EndedBy hears says None (life_of u) l t.comes (life_of w) m = subst (λ (x : Option ClientEnd). EndedBy hears says x (life_of u) l t.comes (life_of w) m) lives t.made in
+        let made : EndedBy hears says None (life_of u) l t.comes (life_of w) m =
+        subst (λ (x : Option ClientEnd). EndedBy hears says x (life_of u) l t.comes (life_of w) m) lives t.made in
         send_went (is_nil u.parts.outgoing.pending) (life_of u) (life_of w) t.comes l m mx refl made

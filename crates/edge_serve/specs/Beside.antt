@@ -15,7 +15,7 @@ use Rattle.relay_worker.specs.Running.{EachAt, HasRun}
 use Rattle.stream_registry.specs.Names.{PortRules}
 use Rattle.stream_registry.specs.Pasts.{Attempt}
 use Rattle.stream_registry.specs.SharedState.{Streams}
-use Rattle.stream_registry.specs.declared.desk.Site.{Site}
+use Rattle.stream_registry.specs.declared.place_table.Site.{Site}
 use Rattle.turn_gate.specs.Known.{PassKnown}
 
 module _ {D K L : Type 0} (config : Config) (links : L → Option LinkTold) (counts : L → LinkCounts) (doors : D → DoorTold)

@@ -5,24 +5,37 @@ use Rattle.client_command.specs.Traffic.{IsCalm, Passed}
 use Rattle.client_command.specs.Words.{AreShort}
 use Rattle.client_owed.specs.declared.types.Asked.{Asked}
 use Rattle.origin_pull.specs.EdgeState.{EdgeState, Lasting, lasting_of}
+use Rattle.origin_pull.specs.declared.due.Due.TheVariants.{Nothing}
 use Rattle.origin_pull.specs.declared.end.EdgeEnd.{EdgeEnd}
 use Rattle.origin_pull.specs.declared.end.EdgeEnd.TheVariants as edge
 use Rattle.origin_pull.specs.declared.turn.EdgeTurn.{EdgeTurn}
 use Rattle.origin_pull.specs.declared.turn.EdgeTurn.TheVariants.{Moved, Idle, Ended}
 use Rattle.relay_session.specs.SeatVisits.{Visit, calls_of}
 use Rattle.relay_session.specs.declared.seat_answers.Active.{Active}
+use Rattle.relay_session.specs.declared.seat_answers.Active.TheVariants as active
 use Rattle.relay_worker.specs.Books.{LeavesBy}
+use Rattle.rtmp_client.specs.ClientState.{ClientState}
 use Rattle.rtmp_client.specs.declared.end.ClientEnd.{ClientEnd}
 use Rattle.session_owed.specs.Talk.{Own}
 use Rattle.stream_model.specs.declared.calls.Entry.{Entry}
 use Rattle.stream_registry.specs.Names.{PortRules, places}
 use Rattle.stream_registry.specs.Told.{Histories}
 use Rattle.edge_serve.specs.Line.{edge_line}
-use Rattle.edge_serve.specs.Pulls.{EdgeCause, HasPulled, Origin, Parts, edge_name, edge_place}
+use Rattle.edge_serve.specs.Pulls.{EdgeCause, HasPlayed, HasPulled, Origin, Parts, edge_name, edge_place}
 
 -- what it was made for
 abbrev pub made_for : Asked → ℕ → ℕ → ℕ → Lasting
 made_for k max who place = record { who = who; place = place; asked = k; max = max }
+
+-- a new edge of the name, at its place, with this client
+pub record IsMade {Q : Type 0} (c : ClientState) (s : EdgeState Q) : Type 0 where
+  pub who : s.parts.who ≡ edge_name
+  pub place : s.parts.place ≡ edge_place
+  pub calls : s.parts.calls ≡ []
+  pub kept : s.parts.kept ≡ None
+  pub due : s.parts.due ≡ Nothing
+  pub client : s.client ≡ c
+  pub seat : s.seat ≡ record { spot = None; active = active.Nothing; visits = [] }
 
 -- IT LIVES, since its link was so: what the link gave its client received, and what the link took that has sent
 pub record Drives {Q : Type 0} (k : Asked) (max who place : ℕ) (start now : Origin) (s : EdgeState Q) : Type 0 where
@@ -89,9 +102,10 @@ pub record CanPull (app name : List ℕ) (max : ℕ) (rules : PortRules) : Type 
   pub most : max ≤ 4194304
   pub there : edge_place < places rules
 
--- it has pulled, and its line says so, unless there was no memory
+-- it has pulled, and its line says so, unless there was no memory. Then too what was played over the link was the stream
 pub record IsPulled (k : Asked) (max : ℕ) (rules rules' : PortRules) (histories : Histories) (e : EdgeEnd) (line : List ℕ) (o o' : Origin) : Type 0 where
   pub fixed : rules' ≡ rules
+  pub played : HasPlayed k max o o'
   pub client : Option ClientEnd
   pub line_is : e ≢ edge.OutOfMemory → line ≡ edge_line e client
   pub pulled : e ≢ edge.OutOfMemory → HasPulled k max edge_name edge_place rules.limits histories e client o o'

@@ -19,7 +19,7 @@ use Rattle.stream_registry.specs.Gates.{tells}
 use Rattle.stream_registry.specs.Pasts.{Attempt}
 use Rattle.stream_registry.specs.Refusals.{IsFull}
 use Rattle.edge_serve.specs.Line.{edge_line}
-use Rattle.edge_serve.specs.Pulls.{HasPulled, Origin, edge_name, edge_place}
+use Rattle.edge_serve.specs.Pulls.{HasPlayed, HasPulled, Origin, edge_name, edge_place}
 
 -- WHAT IS SEEN WHERE ALL WERE SERVED, by what each place was asked to the end: what `serve` reports, and behind it the line of the edge, how
 -- that has pulled, and why it has ended
@@ -39,11 +39,12 @@ pub record ReportsBoth (k : Asked) (config : Config) (attempts : ℕ → List At
   pub spared : ended ≢ edge.OutOfMemory
   pub full : ended ≡ edge.Worn → IsFull (shapes edge_place) (attempts edge_place)
 
--- HOW A CONFIGURATION THAT IS ACCEPTED IS SERVED beside an edge. Where nobody could be served the link wasn't used
+-- HOW A CONFIGURATION THAT IS ACCEPTED IS SERVED beside an edge. Where the report couldn't be written the stream was played over the link all the
+-- same, and where nobody could be served the link wasn't used
 abbrev pub RunsBoth : Asked → Config → (ℕ → List Attempt) → Seen → Seen → Origin → Origin → Ending → Type 0
 RunsBoth k config attempts old new o o' end.Served =
     ReportsBoth k config attempts old new o o' × (new.sink_faults ≡ old.sink_faults) × (new.house.faults ≡ old.house.faults)
-RunsBoth k config attempts old new o o' end.SinkFault = RunsAs config attempts old new end.SinkFault
+RunsBoth k config attempts old new o o' end.SinkFault = RunsAs config attempts old new end.SinkFault × HasPlayed k config.limits.max_message o o'
 RunsBoth k config attempts old new o o' end.HouseFault = RunsAs config attempts old new end.HouseFault × (o' ≡ o)
 RunsBoth k config attempts old new o o' end.OutOfMemory = RunsAs config attempts old new end.OutOfMemory
 RunsBoth k config attempts old new o o' end.BadWords = ⊥

@@ -108,11 +108,9 @@ LeftBy edge.Closed who calls left = ⊥
 
 -- ---- the whole
 
--- AN EDGE HAS PULLED THIS STREAM with messages of at most so many bytes, and has ended so: the link took a beginning of what a client owes for the
--- bytes that it was fed. The edge's calls stand in the history of its place, in their order and each once, answered by the rules: those
--- for what the client was told by these bytes, and then the one by which it left
-pub record HasPulled (k : Asked) (max who place : ℕ) (limits : ℕ → Shape) (histories : Histories) (e : EdgeEnd) (c : Option ClientEnd)
-    (old new : Origin) : Type 0 where
+-- THIS STREAM WAS PLAYED OVER THE LINK, with messages of at most so many bytes: the link took a beginning of what a client owes that plays
+-- it, for the first of the bytes that the link gave
+pub record HasPlayed (k : Asked) (max : ℕ) (old new : Origin) : Type 0 where
   -- what its client was fed of what the link gave, and the messages that this reads as
   pub y : List ℕ
   pub rest : List ℕ
@@ -123,6 +121,13 @@ pub record HasPulled (k : Asked) (max who place : ℕ) (limits : ℕ → Shape) 
   pub passed : Passed (y ++ rest) took old.told new.told
   pub more : List ℕ
   pub owes : took ++ more ≡ out k y ms []
+
+-- AN EDGE HAS PULLED THIS STREAM, and has ended so: it was played over the link. The edge's calls stand in the history of its place, in
+-- their order and each once, answered by the rules: those for what its client was told by the bytes that it was fed, and then the one by
+-- which it left
+pub record HasPulled (k : Asked) (max who place : ℕ) (limits : ℕ → Shape) (histories : Histories) (e : EdgeEnd) (c : Option ClientEnd)
+    (old new : Origin) : Type 0 where
+  pub link : HasPlayed k max old new
   -- the calls
   pub visits : List Visit
   pub stand : AllStand limits histories visits
@@ -130,6 +135,6 @@ pub record HasPulled (k : Asked) (max who place : ℕ) (limits : ℕ → Shape) 
   pub calls : List Own
   pub left : List Own
   pub calls_are : calls_of visits ≡ calls ++ left
-  pub for_it : AreFor e calls (entries who (edge_calls false (pulled k ms)))
+  pub for_it : AreFor e calls (entries who (edge_calls false (pulled k link.ms)))
   pub left_by : LeftBy e who calls left
-  pub cause : EdgeCause e c who calls max (length y) (y ++ rest) old.counts new.counts
+  pub cause : EdgeCause e c who calls max (length link.y) (link.y ++ link.rest) old.counts new.counts

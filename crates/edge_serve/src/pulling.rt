@@ -1,10 +1,11 @@
 //! The thread of an edge.
-ghost use Rattle.std.specs.Prelude.{◌≡◌, ◌≤◌, IfOk, []};
+ghost use Rattle.std.specs.Prelude.{◌≡◌, ◌≢◌, ◌⊎◌, ◌≤◌, IfOk, None, []};
 ghost use Rattle.client_command.specs.Words.{AreShort};
-ghost use Rattle.origin_pull.specs.EdgeState.{IsNew};
+ghost use Rattle.origin_pull.specs.EdgeState.{IsNew, StandsFor};
 ghost use Rattle.stream_registry.specs.Gates.{told_at};
 ghost use Rattle.stream_registry.specs.SharedState.{shared_rules};
-ghost use Rattle.edge_serve.specs.Driving.{CanPull, IsPulled, end_then};
+ghost use Rattle.edge_serve.specs.Driving.{CanPull, IsMade, IsPulled, end_then};
+ghost use Rattle.edge_serve.specs.Line.{edge_line};
 ghost use Rattle.edge_serve.specs.Pulls.{origin};
 ghost use Rattle.edge_serve.specs.Words.{pull_of};
 
@@ -16,10 +17,10 @@ use chunk_reader::one_reading;
 use client_owed::Wish;
 use origin_pull::{Edge, EdgeEnd};
 use relay_outside::{Link, Rest};
-use rtmp_client::Client;
+use rtmp_client::{Client, ClientEnd};
 use std::alloc::Global;
 use std::sync::Wait;
-use stream_registry::{Desk, Shared};
+use stream_registry::{PlaceTable, Shared, StreamPort};
 
 /// The name of the edge.
 const NAME: u64 = (1 << 61) + (1 << 60);
@@ -38,7 +39,7 @@ pub(crate) struct Stream<'a> {
 /// What is left of an edge: its port and its link, why it has ended, and its line in the report.
 #[derive(Drop)]
 pub(crate) struct Pulled<L: Link> {
-    pub port: Shared<Desk>,
+    pub port: Shared<PlaceTable>,
     pub link: L,
     pub end: EdgeEnd,
     pub line: Vec<u8>,
@@ -66,6 +67,16 @@ fn new_client(alloc: Global, stream: Stream<'_>) -> Result<Client, OutOfMemory>
     Client::new(alloc, Wish::Pull, app, name, stream.longest)
 }
 
+// The edge of such a client.
+fn new_edge<P: StreamPort>(client: Client) -> Edge<P>
+    requires { IsNew client }
+    ensures made { IsMade client result }
+    ensures lives { result.ended ≡ None }
+    ensures stands { StandsFor result }
+{
+    Edge::new(NAME, PLACE, client)
+}
+
 // Why it has ended, where it has left a place whose history is full or isn't.
 fn end_then(end: EdgeEnd, worn: bool) -> EdgeEnd
     ensures { result ≡ end_then end worn }
@@ -77,19 +88,30 @@ fn end_then(end: EdgeEnd, worn: bool) -> EdgeEnd
     }
 }
 
+// Its line, and why it has ended then: for want of memory, where there was none for the line.
+fn line_of(alloc: Global, end: EdgeEnd, client: &Option<ClientEnd>) -> (EdgeEnd, Vec<u8>)
+    ensures end { (result.0 ≡ end) ⊎ (result.0 ≡ EdgeEnd.OutOfMemory) }
+    ensures line { result.0 ≢ EdgeEnd.OutOfMemory → result.1.items ≡ edge_line result.0 client.now }
+{
+    match edge_line(alloc, end, client) {
+        Ok(line) => (end, line),
+        Err(_) => (EdgeEnd::OutOfMemory, Vec::new(alloc)),
+    }
+}
+
 /// Pulls the stream until that is over, and leaves. An edge for which there was no memory, and one whose line had none, have ended for
 /// want of it.
 pub(crate) fn pull<W: Wait, L: Link, R: Rest>(
     rt: &W,
     alloc: Global,
-    mut port: Shared<Desk>,
+    mut port: Shared<PlaceTable>,
     stream: Stream<'_>,
     mut link: L,
     mut rest: R,
 ) -> Pulled<L>
     requires { CanPull stream.app.now stream.name.now stream.longest (shared_rules port) }
-    ensures { IsPulled (pull_of stream.entry.app.now stream.entry.name.now) stream.entry.longest (shared_rules port) (shared_rules result.port) (told_at result.port.roots)
-        result.end result.line.items (origin (L.told link) (L.counts link)) (origin (L.told result.link) (L.counts result.link)) }
+    ensures { IsPulled (pull_of stream.entry.app.now stream.entry.name.now) stream.entry.longest (shared_rules port) (shared_rules result.port)
+        (told_at result.port.roots) result.end result.line.items (origin (L.told link) (L.counts link)) (origin (L.told result.link) (L.counts result.link)) }
 {
     one_reading();
     let Ok(client) = new_client(alloc, stream) else {
@@ -100,7 +122,7 @@ pub(crate) fn pull<W: Wait, L: Link, R: Rest>(
             line: Vec::new(alloc),
         };
     };
-    let mut edge = Edge::new(NAME, PLACE, client);
+    let mut edge = new_edge(client);
     let (app, name) = (stream.app, stream.name);
     let end = drive(
         rt, alloc, &mut edge, &mut port, &mut link, &mut rest, app, name,
@@ -108,18 +130,11 @@ pub(crate) fn pull<W: Wait, L: Link, R: Rest>(
     let worn = leave(rt, &mut edge, &mut port, &mut rest);
     let end = end_then(end, worn);
     tell_over(&link, end, edge.client_end(), app, name);
-    match edge_line(alloc, end, edge.client_end()) {
-        Ok(line) => Pulled {
-            port,
-            link,
-            end,
-            line,
-        },
-        Err(_) => Pulled {
-            port,
-            link,
-            end: EdgeEnd::OutOfMemory,
-            line: Vec::new(alloc),
-        },
+    let (end, line) = line_of(alloc, end, edge.client_end());
+    Pulled {
+        port,
+        link,
+        end,
+        line,
     }
 }

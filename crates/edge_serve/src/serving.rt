@@ -17,17 +17,18 @@ use crate::words::edge_target;
 use client_command::Target;
 use key_guard::Guards;
 use origin_pull::EdgeEnd;
+use put_text::{PutFail, put_all};
 use relay_base::Status;
 use relay_config::{Config, read_config};
 use relay_outside::{Door, House, Link, Rest, Sink, Source};
 use relay_serve::{
-    Ending, PutFail, ReadFail, Ready, ServeHttp, ServeWorker, code_of, conclude, make_ready,
-    put_all, read_text, ready_workers, refuse, run_workers, unopened,
+    Ending, ReadFail, Ready, ServeHttp, ServeWorker, code_of, conclude, make_ready, read_text,
+    ready_workers, refuse, run_workers, unopened,
 };
 use std::alloc::Global;
 use std::sync::Wait;
 use std::thread::{Threads, join};
-use stream_registry::{Desk, Shared};
+use stream_registry::{PlaceTable, Shared};
 
 /// What `edge` leaves: its status, and the link to the origin.
 #[derive(Drop)]
@@ -41,7 +42,7 @@ fn run_server<T: Threads + Wait + Sync, D: Door + Send, R: Rest + Send, K: Sink 
     rt: &T,
     config: &Config,
     guards: &Guards,
-    port: &Shared<Desk>,
+    port: &Shared<PlaceTable>,
     workers: Vec<ServeWorker<D, R, K>>,
     http: Option<ServeHttp<D, R>>,
 ) -> (Vec<ServeWorker<D, R, K>>, Option<ServeHttp<D, R>>)
@@ -66,10 +67,10 @@ fn run_both<
     alloc: Global,
     config: &Config,
     guards: &Guards,
-    port: &Shared<Desk>,
+    port: &Shared<PlaceTable>,
     workers: Vec<ServeWorker<D, R, K>>,
     http: Option<ServeHttp<D, R>>,
-    own: Shared<Desk>,
+    own: Shared<PlaceTable>,
     stream: Stream<'_>,
     link: L,
     rest: Q,

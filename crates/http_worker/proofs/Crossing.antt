@@ -26,7 +26,8 @@ use Rattle.http_worker.specs.contracts.telling.Request as Request
 use Rattle.http_worker.specs.contracts.worker.HttpWorker as Worker
 use Rattle.slab.specs.contracts.Slab as Slab
 
-whole : (T : Declared) (D : Type 0) (c : Coded D) (view : (row T).Denot → D) (holds : (row T).Denot → Type 0) → FieldsHave IsSend T.parts → IsSend (View (row T) D c view holds)
+whole : (T : Declared) (D : Type 0) (c : Coded D) (view : (row T).Denot → D) (holds : (row T).Denot → Type 0) → FieldsHave IsSend T.parts
+    → IsSend (View (row T) D c view holds)
 whole T D c view holds s = view_send (row T) D c view holds (declared_send T s)
 
 outbox_send : IsSend Outbox.the_row
@@ -35,7 +36,37 @@ outbox_send = search (whole, sendable, crosses) depth 40 fits 20000
 core_send : IsSend the_row
 core_send =
     let o = outbox_send in
-    declared_send the_type (search (sendable, crosses) depth 40 fits 20000, (search (sendable, crosses) depth 40 fits 20000, (search (sendable, crosses) depth 40 fits 20000, (search (sendable, crosses) depth 40 fits 20000, (search (sendable, crosses) depth 40 fits 20000, (search (sendable, crosses) depth 40 fits 20000, (search (sendable, crosses) depth 40 fits 20000, (search (sendable, crosses) depth 40 fits 20000, (search (sendable, crosses) depth 40 fits 20000, (search (sendable, crosses) depth 40 fits 20000, (search (sendable, crosses) depth 40 fits 20000, tt)))))))))))
+    declared_send the_type (
+      search (sendable, crosses) depth 40 fits 20000,
+      (
+        search (sendable, crosses) depth 40 fits 20000,
+        (
+          search (sendable, crosses) depth 40 fits 20000,
+          (
+            search (sendable, crosses) depth 40 fits 20000,
+            (
+              search (sendable, crosses) depth 40 fits 20000,
+              (
+                search (sendable, crosses) depth 40 fits 20000,
+                (
+                  search (sendable, crosses) depth 40 fits 20000,
+                  (
+                    search (sendable, crosses) depth 40 fits 20000,
+                    (
+                      search (sendable, crosses) depth 40 fits 20000,
+                      (
+                        search (sendable, crosses) depth 40 fits 20000,
+                        (search (sendable, crosses) depth 40 fits 20000, tt),
+                      ),
+                    ),
+                  ),
+                ),
+              ),
+            ),
+          ),
+        ),
+      ),
+    )
 
 end_send : IsSend End.the_row
 end_send = search (sendable, crosses) depth 40 fits 20000
@@ -83,18 +114,26 @@ module _ (P Q : RattleType) (port : Ghosts P.Denot Q.Denot) where
   seated_send L l q =
       let s = player_field q in
       let r = request_field in
-      declared_send (Seated.the_type P L Q port) (search (sendable, crosses) depth 40 fits 20000, (search (sendable, crosses) depth 40 fits 20000, (search (sendable, crosses) depth 40 fits 20000, (search (sendable, crosses) depth 40 fits 20000, tt))))
+      declared_send (Seated.the_type P L Q port) (
+        search (sendable, crosses) depth 40 fits 20000,
+        (
+          search (sendable, crosses) depth 40 fits 20000,
+          (search (sendable, crosses) depth 40 fits 20000, (search (sendable, crosses) depth 40 fits 20000, tt)),
+        ),
+      )
 
   bench_send : (D L : RattleType) → IsSend P → IsSend D → IsSend L → IsSend Q → IsSend (Bench.the_row P D Q L port)
   bench_send D L p d l q =
       let s = slab_send (Seated.the_row P L Q port) (seated_send L l q) in
       search (sendable, crosses) depth 40 fits 20000
 
-  pub worker_send : (D R L : RattleType) (door : DoorGhosts D.Denot L.Denot) (link : LinkGhosts L.Denot) → IsSend P → IsSend D → IsSend R → IsSend Q → IsSend L → IsSend (Worker.the_row P D R Q L port door link)
+  pub worker_send : (D R L : RattleType) (door : DoorGhosts D.Denot L.Denot) (link : LinkGhosts L.Denot) → IsSend P → IsSend D → IsSend R → IsSend Q
+      → IsSend L → IsSend (Worker.the_row P D R Q L port door link)
   worker_send D R L door link p d r q l =
       let b = bench_send D L p d l q in
       let t = terms_send in
       search (whole, sendable, crosses) depth 40 fits 20000
 
-  pub worker_field : (D R L : RattleType) (door : DoorGhosts D.Denot L.Denot) (link : LinkGhosts L.Denot) → IsSend P → IsSend D → IsSend R → IsSend Q → IsSend L → IsSend (as_row (Worker.the_field P D R Q L port door link))
+  pub worker_field : (D R L : RattleType) (door : DoorGhosts D.Denot L.Denot) (link : LinkGhosts L.Denot) → IsSend P → IsSend D → IsSend R → IsSend Q
+      → IsSend L → IsSend (as_row (Worker.the_field P D R Q L port door link))
   worker_field D R L door link p d r q l = worker_send D R L door link p d r q l

@@ -1,5 +1,5 @@
 -- What a worker of HTTP players keeps
-use Rattle.std.specs.Prelude.{◌≡◌, ◌<◌, ◌≤◌, ◌+◌, ◌^◌, ℕ, length, is_some, Some, None}
+use Rattle.std.specs.Prelude.{◌≡◌, ◌<◌, ◌≤◌, ◌+◌, ◌^◌, ℕ, is_some, Some, None}
 use Rattle.slab.specs.Slab.{get, slab_len}
 use Rattle.relay_outside.specs.Doors.{DoorTold}
 use Rattle.relay_session.specs.SeatState.{HasFit}

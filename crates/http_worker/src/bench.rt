@@ -1,5 +1,5 @@
 //! What a worker has in hand: its port, its door, and its players with their links.
-ghost use Rattle.std.specs.Prelude.{◌≡◌, ◌≢◌, length, true, None, is_some};
+ghost use Rattle.std.specs.Prelude.{◌≡◌, ◌≢◌, true, None, is_some};
 ghost use Rattle.stream_registry.specs.Names.{places};
 ghost use Rattle.relay_session.specs.Places.{IsOffered};
 ghost use Rattle.relay_session.specs.SeatState.{HasFit};

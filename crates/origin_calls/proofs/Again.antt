@@ -1,5 +1,6 @@
 -- A unit that is sent on as a message, and made a unit of that without lengths of NAL units
-use Rattle.std.proofs.Common.{◌≡◌, ◌==◌, ◌⊎◌, inl, inr, ℕ, Bool, true, false, ◌&&◌, if◌then◌else◌, List, [], ◌∷◌, drop, length, Option, Some, None, refl, sym, ap, ◌∙◌, subst}
+use Rattle.std.proofs.Common.{◌≡◌, ◌==◌, ◌⊎◌, inl, inr, ℕ, Bool, true, false, ◌&&◌, if◌then◌else◌, List, [], ◌∷◌, drop, length, Option, Some, None, refl, sym}
+use Rattle.std.proofs.Common.{ap, ◌∙◌, subst}
 use Rattle.std.specs.Prelude.{codes, nat_lt, option_map}
 use Rattle.std.proofs.lemmas.Bool.{cases_Bool}
 use Rattle.av_unit.specs.Classes.{begins_with_text, class_of, finer, finer_class, from_of, kind_of, low, message_type, placed, table_class, unit_from}
@@ -45,7 +46,8 @@ classed : (message size time : ℕ) (body : List ℕ) (u : Media) → unit_from 
 unfolding unit_from class_of
 classed message size time body u e = let p = of_class (table_class message body) size time body u e in record { row = p.0; by_table = p.1; is = p.2 }
 
-is_unit : (message size time : ℕ) (body : List ℕ) (c : Class) → table_class message body ≡ Some c → unit_from message time body size ≡ Some (unit_by size time body c)
+is_unit : (message size time : ℕ) (body : List ℕ) (c : Class) → table_class message body ≡ Some c
+    → unit_from message time body size ≡ Some (unit_by size time body c)
 unfolding unit_from class_of
 is_unit message size time body c e = ap (λ (o : Option Class). option_map (media_at time body) (option_map (finer_class size body) o)) e
 

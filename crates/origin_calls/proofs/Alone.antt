@@ -1,5 +1,6 @@
 -- Where nobody else publishes, each call of an edge publishes its item
-use Rattle.std.proofs.Common.{◌≡◌, ◌==◌, inl, inr, ℕ, Bool, true, false, if◌then◌else◌, List, [], ◌∷◌, ◌++◌, length, Option, Some, None, refl, sym, ap, ◌∙◌, subst, append-nil, append_assoc}
+use Rattle.std.proofs.Common.{◌≡◌, ◌==◌, inl, inr, ℕ, Bool, true, false, if◌then◌else◌, List, [], ◌∷◌, ◌++◌, length, Option, Some, None, refl, sym, ap, ◌∙◌}
+use Rattle.std.proofs.Common.{subst, append-nil, append_assoc}
 use Rattle.std.proofs.lemmas.Bool.{cases_Bool, eq-eqb, eqb-true, false≢true, true≢false}
 use Rattle.std.proofs.lemmas.Grind.{fold-append}
 use Rattle.av_unit.specs.Media.{Media}
@@ -164,7 +165,8 @@ adds_own limits who w past cs call.Count r e f s n = absurd n
 adds_own limits who w past cs (call.BeginAs name) r e f s n = absurd n
 adds_own limits who w past cs (call.JoinAs name) r e f s n = absurd n
 
-stands_own : (who w : ℕ) (past : History) (cs : List Call) (c : Call) (r : Reply) → StandsBy who (items_of past) (last_began past) cs → IsNext (live_from false cs) c → AddsOwn who w past c r
+stands_own : (who w : ℕ) (past : History) (cs : List Call) (c : Call) (r : Reply) → StandsBy who (items_of past) (last_began past) cs
+    → IsNext (live_from false cs) c → AddsOwn who w past c r
     → StandsBy who (items_after c r (items_of past)) (began_by w r (last_began past)) (cs ++ c ∷ [])
 stands_own who w past cs c r s n a =
     let now : is_live (items_after c r (items_of past)) ≡ live_call c (is_live (items_of past)) =
@@ -208,7 +210,8 @@ stands_other who w past cs c r s e =
 abbrev own_call : Bool → Call → List Call
 own_call b c = if b then c ∷ [] else []
 
-step_by : (limits : StreamLimits) (who : ℕ) (past : History) (e : Entry) (r : Reply) (cs rest : List Call) (b : Bool) → (e.who == who) ≡ b → r ≡ reply limits past e → (publishes r ≡ true → e.who ≡ who)
+step_by : (limits : StreamLimits) (who : ℕ) (past : History) (e : Entry) (r : Reply) (cs rest : List Call) (b : Bool) → (e.who == who) ≡ b
+    → r ≡ reply limits past e → (publishes r ≡ true → e.who ≡ who)
     → StandsBy who (items_of past) (last_began past) cs → AreBroadcasts false ((cs ++ own_call b e.call) ++ rest)
     → StandsBy who (items_after e.call r (items_of past)) (began_by e.who r (last_began past)) (cs ++ own_call b e.call)
 step_by limits who past e r cs rest true is f alone s h =
@@ -218,7 +221,8 @@ step_by limits who past e r cs rest false is f alone s h =
     subst (λ (l : List Call). StandsBy who (items_after e.call r (items_of past)) (began_by e.who r (last_began past)) l) (sym (append-nil cs))
     (stands_other who e.who past cs e.call r s (not_published e.who who r is alone))
 
-stands : (limits : StreamLimits) (who : ℕ) (past : History) (rest : List Call) → IsLawful limits past → IsAlone who past → AreBroadcasts false (calls_by who past ++ rest)
+stands : (limits : StreamLimits) (who : ℕ) (past : History) (rest : List Call) → IsLawful limits past → IsAlone who past
+    → AreBroadcasts false (calls_by who past ++ rest)
     → StandsBy who (items_of past) (last_began past) (calls_by who past)
 unfolding items_for
 stands limits who [] rest l a h = record { published = refl; live = refl; last_is = λ e. absurd (false≢true e) }
@@ -228,14 +232,16 @@ stands limits who (s ∷ past) rest l a h =
     step_by limits who past s.0 s.1 (calls_by who past) rest (s.0.who == who) refl l.0 a.0 before h
 
 -- each of its calls was granted
-granted_by : (limits : StreamLimits) (who : ℕ) (past : History) (rest : List Call) → IsLawful limits past → IsAlone who past → AreBroadcasts false (calls_by who past ++ rest) → AreGranted who past
+granted_by : (limits : StreamLimits) (who : ℕ) (past : History) (rest : List Call) → IsLawful limits past → IsAlone who past
+    → AreBroadcasts false (calls_by who past ++ rest) → AreGranted who past
 granted_by limits who [] rest l a h = tt
 granted_by limits who (s ∷ past) rest l a h =
     let mine : List Call = own_call (s.0.who == who) s.0.call in
     let all : AreBroadcasts false (calls_by who past ++ (mine ++ rest)) = subst (AreBroadcasts false) (append_assoc (calls_by who past) mine rest) h in
     let before = stands limits who past (mine ++ rest) l.1 a.1 all in (
       λ e. (
-          let here : AreBroadcasts false (calls_by who past ++ s.0.call ∷ rest) = subst (λ (b : Bool). AreBroadcasts false (calls_by who past ++ (own_call b s.0.call ++ rest))) (eq-eqb s.0.who who e) all in
+          let here : AreBroadcasts false (calls_by who past ++ s.0.call ∷ rest) =
+          subst (λ (b : Bool). AreBroadcasts false (calls_by who past ++ (own_call b s.0.call ++ rest))) (eq-eqb s.0.who who e) all in
           (adds_own limits who s.0.who past (calls_by who past) s.0.call s.1 e l.0 before (next_at false (calls_by who past) s.0.call rest here)).granted),
       granted_by limits who past (mine ++ rest) l.1 a.1 all,
     )

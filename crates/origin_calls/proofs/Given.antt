@@ -35,7 +35,8 @@ given_sent (NotYet end ∷ before) j x h = given_sent before j x h
 abbrev pub IsContent : List Item → ℕ → Item → List Taken → Type 0
 IsContent items n x before = slice_get items n ≡ Some x
 
-pub given_content : (items : List Item) (answers : List Taken) (j : ℕ) (x : Item) → Each (OnSent (IsContent items)) answers → In (j, x) (given answers) → slice_get items j ≡ Some x
+pub given_content : (items : List Item) (answers : List Taken) (j : ℕ) (x : Item) → Each (OnSent (IsContent items)) answers → In (j, x) (given answers)
+    → slice_get items j ≡ Some x
 given_content items [] j x k h = absurd h
 given_content items (Sent at m y ∷ before) j x k h = elim (in_last (j, x) (m, y) (given before) h) [
   | inl f ↦ given_content items before j x k.1 f
@@ -64,6 +65,7 @@ below_at n numbers j h c = subst (λ (m : ℕ). m < n) c.2 (h c.0 j c.1)
 pub given_rises : (answers : List Taken) → Each (OnSent IsAbove) answers → Rises 0 (given answers)
 given_rises [] h = tt
 given_rises (Sent at n x ∷ before) h =
-    rises_push 0 (given before) n x (given_rises before h.1) (omega arith) (below_each n (given before) (λ j y i. below_at n (numbers_of before) j h.0 (given_sent before j y i)))
+    rises_push 0 (given before) n x (given_rises before h.1) (omega arith)
+    (below_each n (given before) (λ j y i. below_at n (numbers_of before) j h.0 (given_sent before j y i)))
 given_rises (Skip at to ∷ before) h = given_rises before h.1
 given_rises (NotYet end ∷ before) h = given_rises before h.1

@@ -1,5 +1,6 @@
 -- The calls of an edge stand in the order of the items of its origin, and for one item it makes one Push at most
-use Rattle.std.proofs.Common.{◌≡◌, ◌<◌, ◌≤◌, inl, inr, ℕ, zero, suc, ◌+◌, Bool, true, false, List, [], ◌∷◌, ◌++◌, Option, Some, None, refl, sym, ap, ◌∙◌, subst, arith}
+use Rattle.std.proofs.Common.{◌≡◌, ◌<◌, ◌≤◌, inl, inr, ℕ, zero, suc, ◌+◌, Bool, true, false, List, [], ◌∷◌, ◌++◌, Option, Some, None, refl, sym, ap, ◌∙◌, subst}
+use Rattle.std.proofs.Common.{arith}
 use Rattle.std.proofs.lemmas.Bool.{false≢true, cases_lt}
 use Rattle.std.specs.List.{slice_get}
 use Rattle.av_unit.specs.Media.{Media}
@@ -119,7 +120,8 @@ before_at M m n j o c d k e f l = elim (cases_lt m n) [
 ]
 
 -- a Push of no lower number doesn't stand before one
-pub not_before : (M : List (ℕ × Call)) (m n j o : ℕ) (u v : Media) → AreOrdered M → slice_get M m ≡ Some (j, call.Push u) → slice_get M n ≡ Some (o, call.Push v) → o ≤ j → n ≤ m
+pub not_before : (M : List (ℕ × Call)) (m n j o : ℕ) (u v : Media) → AreOrdered M → slice_get M m ≡ Some (j, call.Push u)
+    → slice_get M n ≡ Some (o, call.Push v) → o ≤ j → n ≤ m
 not_before M m n j o u v k e f l = elim (cases_lt m n) [
   | inl lt ↦ let less : j < o = (ordered_at M m n (j, call.Push u) (o, call.Push v) k lt e f).1 refl refl in absurd (omega (arith, less, l))
   | inr le ↦ le
@@ -181,26 +183,30 @@ pub record PushedFor (ps : List (ℕ × Item)) (o : ℕ) (v : Media) : Type 0 wh
 pub pushed_for : (live : Bool) (ps : List (ℕ × Item)) (o : ℕ) (v : Media) → In (o, call.Push v) (numbered_calls live ps) → PushedFor ps o v
 unfolding numbered_calls
 pushed_for live [] o v h = absurd h
-pushed_for live (p ∷ ps) o v h = elim (in_either (o, call.Push v) (numbered p.0 (calls_for live (told_by p.1))) (numbered_calls (live_by live (told_by p.1)) ps) h) [
-  | inl f ↦
-      let u = push_for live p.1 p.0 o v f in
-      record { unit = u.unit; among = inl (ap (item_at p.0) u.is ∙ ap (λ (n : ℕ). item_at n (item.Unit u.unit)) u.number); same = u.same }
-  | inr f ↦ let r = pushed_for (live_by live (told_by p.1)) ps o v f in record { unit = r.unit; among = inr r.among; same = r.same }
-]
+pushed_for live (p ∷ ps) o v h = elim (in_either (o, call.Push v) (numbered p.0 (calls_for live (told_by p.1)))
+    (numbered_calls (live_by live (told_by p.1)) ps) h) [
+      | inl f ↦
+          let u = push_for live p.1 p.0 o v f in
+          record { unit = u.unit; among = inl (ap (item_at p.0) u.is ∙ ap (λ (n : ℕ). item_at n (item.Unit u.unit)) u.number); same = u.same }
+      | inr f ↦ let r = pushed_for (live_by live (told_by p.1)) ps o v f in record { unit = r.unit; among = inr r.among; same = r.same }
+    ]
 
 pushed_here : (live : Bool) (w : Option Media) (n : ℕ) (v : Media) → w ≡ Some v → In (n, call.Push v) (numbered n (pushes live w))
 pushed_here live None n v e = absurd (cc)
 pushed_here true (Some u) n v e = let same : u ≡ v = cc in inl (ap (λ (x : Media). (n, call.Push x)) same)
 pushed_here false (Some u) n v e = let same : u ≡ v = cc in inr (inl (ap (λ (x : Media). (n, call.Push x)) same))
 
-pub unit_pushed : (live : Bool) (ps : List (ℕ × Item)) (j : ℕ) (u v : Media) → In (j, item.Unit u) ps → unit_in (tag_of u) ≡ Some v → In (j, call.Push v) (numbered_calls live ps)
+pub unit_pushed : (live : Bool) (ps : List (ℕ × Item)) (j : ℕ) (u v : Media) → In (j, item.Unit u) ps → unit_in (tag_of u) ≡ Some v
+    → In (j, call.Push v) (numbered_calls live ps)
 unfolding numbered_calls
 unit_pushed live [] j u v h e = absurd h
 unit_pushed live (p ∷ ps) j u v (inl f) e =
     subst (λ (q : ℕ × Item). In (j, call.Push v) (numbered q.0 (calls_for live (told_by q.1)) ++ numbered_calls (live_by live (told_by q.1)) ps)) (sym f)
-    (in_left (j, call.Push v) (numbered j (calls_for live (told_by (item.Unit u)))) (numbered_calls (live_by live (told_by (item.Unit u))) ps) (pushed_here live (unit_in (tag_of u)) j v e))
+    (in_left (j, call.Push v) (numbered j (calls_for live (told_by (item.Unit u)))) (numbered_calls (live_by live (told_by (item.Unit u))) ps)
+    (pushed_here live (unit_in (tag_of u)) j v e))
 unit_pushed live (p ∷ ps) j u v (inr h) e =
-    in_right (j, call.Push v) (numbered p.0 (calls_for live (told_by p.1))) (numbered_calls (live_by live (told_by p.1)) ps) (unit_pushed (live_by live (told_by p.1)) ps j u v h e)
+    in_right (j, call.Push v) (numbered p.0 (calls_for live (told_by p.1))) (numbered_calls (live_by live (told_by p.1)) ps)
+    (unit_pushed (live_by live (told_by p.1)) ps j u v h e)
 
 -- ---- without their numbers they are the calls of an edge that was told this
 

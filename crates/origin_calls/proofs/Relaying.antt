@@ -1,5 +1,6 @@
 -- Lawful after lawful is lawful: what an edge publishes of a lawful stream, and what its players are sent of that
-use Rattle.std.proofs.Common.{◌≡◌, ◌<◌, ◌≤◌, ◌⊎◌, inl, inr, ℕ, zero, suc, Bool, true, false, List, [], ◌∷◌, ◌++◌, Option, Some, None, refl, sym, ap, ◌∙◌, subst, arith, append_assoc}
+use Rattle.std.proofs.Common.{◌≡◌, ◌<◌, ◌≤◌, ◌⊎◌, inl, inr, ℕ, zero, suc, Bool, true, false, List, [], ◌∷◌, ◌++◌, Option, Some, None, refl, sym, ap, ◌∙◌, subst}
+use Rattle.std.proofs.Common.{arith, append_assoc}
 use Rattle.std.specs.List.{Contains, slice_get}
 use Rattle.std.proofs.lemmas.Bool.{cases_lt, false≢true}
 use Rattle.std.proofs.lemmas.Option.{slice_get_within}
@@ -118,7 +119,8 @@ was_inter k j e w = subst (λ (x : Kind). WasFrame x j) e w
 
 -- ---- an edge and its origin
 
-module _ (who : ℕ) (gs : List Gift) (limits far : StreamLimits) (past origin : History) (player : ℕ) (s : Serves who gs limits past) (h : Hears gs far origin player) where
+module _ (who : ℕ) (gs : List Gift) (limits far : StreamLimits) (past origin : History) (player : ℕ) (s : Serves who gs limits past)
+    (h : Hears gs far origin player) where
   abbrev P : List Item
   P = items_of past
 
@@ -139,7 +141,8 @@ module _ (who : ℕ) (gs : List Gift) (limits far : StreamLimits) (past origin :
   begins =
       let later : List Call = edge_calls (live_after false gs) h.later in (
         s.more ++ later,
-        sym (append_assoc (calls_by who past) s.more later) ∙ ap (λ (l : List Call). l ++ later) s.own ∙ sym (calls_joined false gs h.later) ∙ ap (edge_calls false) h.told
+        sym (append_assoc (calls_by who past) s.more later) ∙ ap (λ (l : List Call). l ++ later) s.own ∙ sym (calls_joined false gs h.later)
+            ∙ ap (edge_calls false) h.told
             ∙ sym (plain_calls false G),
       )
 
@@ -167,12 +170,14 @@ module _ (who : ℕ) (gs : List Gift) (limits far : StreamLimits) (past origin :
       )
 
   -- a unit that was called for and is published within these is there
-  unit_within : (m o n : ℕ) (u v : Media) → m < n → slice_get P n ≡ Some (item.Unit v) → slice_get M m ≡ Some (o, call.Push u) → slice_get P m ≡ Some (item.Unit u)
+  unit_within : (m o n : ℕ) (u v : Media) → m < n → slice_get P n ≡ Some (item.Unit v) → slice_get M m ≡ Some (o, call.Push u)
+      → slice_get P m ≡ Some (item.Unit u)
   unit_within m o n u v l e f =
       let long = slice_get_within (calls_by who past) n (call.Push v) (push_at n v e) in
       ap (λ (x : List Item). slice_get x m) (are_items who gs limits past s)
       ∙ call_at_unit (calls_by who past) m u
-      (first_from (calls_by who past) begins.0 m (call.Push u) (omega (arith, l, long)) (ap (λ (x : List Call). slice_get x m) begins.1 ∙ at_plain M m o (call.Push u) f))
+      (first_from (calls_by who past) begins.0 m (call.Push u) (omega (arith, l, long)) (ap (λ (x : List Call). slice_get x m) begins.1
+      ∙ at_plain M m o (call.Push u) f))
 
   -- a frame that the origin's player was sent was called for
   record Called (j : ℕ) : Type 0 where
@@ -211,12 +216,14 @@ module _ (who : ℕ) (gs : List Gift) (limits far : StreamLimits) (past origin :
     near_chain = inter_chain limits past s.lawful place n got (kind_there Inter (slice_get P n) v here kind)
 
     -- the last key frame here doesn't come from behind the last one there
-    key_before : (q : Media) → slice_get P near_chain.key ≡ Some (item.Unit q) → q.kind ≡ Key → (o : ℕ) × (slice_get M near_chain.key ≡ Some (o, call.Push q)) × (o ≤ far_chain.key)
+    key_before : (q : Media) → slice_get P near_chain.key ≡ Some (item.Unit q) → q.kind ≡ Key
+        → (o : ℕ) × (slice_get M near_chain.key ≡ Some (o, call.Push q)) × (o ≤ far_chain.key)
     key_before q e f =
         let c = comes near_chain.key q e in
         let a = again c.1.unit q (h.stream.made c.0 c.1.unit c.1.there) c.1.same (inl f) in
         let is_key : at_kind Key (slice_get U c.0) ≡ true = kind_there Key (slice_get U c.0) c.1.unit c.1.there (was_key q.kind c.1.unit.kind f a.kind) in
-        let before : c.0 < from_there.0 = (ordered_at M near_chain.key n (c.0, call.Push q) (from_there.0, call.Push v) ordered near_chain.is_last.before c.1.made from_there.1.made).1 refl refl in (
+        let before : c.0 < from_there.0 = (ordered_at M near_chain.key n (c.0, call.Push q) (from_there.0, call.Push v) ordered near_chain.is_last.before
+        c.1.made from_there.1.made).1 refl refl in (
           c.0,
           c.1.made,
           elim (cases_lt far_chain.key c.0) [

@@ -31,7 +31,8 @@ pub fn numbers_law()
 /// origin in its order, each once. An inter frame that a player here is sent has its chain: each frame from the last key frame before it
 /// there was sent to this player too, before it.
 pub fn relayed_law()
-    ensures items { (who : ℕ) (gs : List Gift) (limits : StreamLimits) (past : History) → Serves who gs limits past → items_of past ≡ items_for (calls_by who past) }
+    ensures items { (who : ℕ) (gs : List Gift) (limits : StreamLimits) (past : History) → Serves who gs limits past
+        → items_of past ≡ items_for (calls_by who past) }
     ensures granted { (who : ℕ) (gs : List Gift) (limits : StreamLimits) (past : History) → Serves who gs limits past → AreGranted who past }
     ensures units { (who : ℕ) (gs : List Gift) (limits far : StreamLimits) (past origin : History) (player : ℕ) → Serves who gs limits past
         → Hears gs far origin player → (n : ℕ) (v : Media) → slice_get (items_of past) n ≡ Some (AUnit v) → (from : ℕ) × ComesFrom origin player n v from }

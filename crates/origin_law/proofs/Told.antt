@@ -25,7 +25,8 @@ unfolding gifts_of all_told
 items_told [] = refl
 items_told (p ∷ ps) = ap (λ (g : Gift). g ∷ gifts_of (items_in ps)) (item_told p.1) ∙ ap (λ (gs : List Gift). told_by p.1 ∷ gs) (items_told ps)
 
-pub hears : (k : Asked) (ns : List (ℕ × Message)) (C : List Own) (far : StreamLimits) (origin : History) (player : ℕ) → IsTold k ns C → IsOrigin far origin → PlaysAt origin player C
+pub hears : (k : Asked) (ns : List (ℕ × Message)) (C : List Own) (far : StreamLimits) (origin : History) (player : ℕ) → IsTold k ns C
+    → IsOrigin far origin → PlaysAt origin player C
     → Hears (pulled k ns) far origin player
 hears k ns C far origin player t l p = record {
   stream = l;

@@ -37,7 +37,9 @@ granted_all : (live : Bool) (C : List Own) → AllGranted C → granted_by (acti
 granted_all live [] g = refl
 granted_all live (c ∷ C) g = ap (λ (a : Active). granted_by a C) (granted_step c.0.call c.1 live g.0) ∙ granted_all (live_call c.0.call live) C g.1
 
-pub granted_live : (who : ℕ) (gs : List Gift) (C : List Own) → made C ≡ entries who (edge_calls false gs) → AllGranted C → granted_by active.Nothing C ≡ active_if (live_after false gs)
+pub granted_live : (who : ℕ) (gs : List Gift) (C : List Own) → made C ≡ entries who (edge_calls false gs) → AllGranted C
+    → granted_by active.Nothing C ≡ active_if (live_after false gs)
 granted_live who gs C e g =
-    granted_all false C g ∙ ap (λ (es : List Entry). active_if (live_from false (calls_in es))) e ∙ ap (λ (cs : List Call). active_if (live_from false cs)) (in_entries who (edge_calls false gs))
+    granted_all false C g ∙ ap (λ (es : List Entry). active_if (live_from false (calls_in es))) e
+    ∙ ap (λ (cs : List Call). active_if (live_from false cs)) (in_entries who (edge_calls false gs))
     ∙ ap active_if (live_calls false gs)

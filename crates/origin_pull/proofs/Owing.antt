@@ -36,7 +36,8 @@ unfolding live_after
 live_more live [] g = refl
 live_more live (x ∷ gs) g = live_more (live_by live x) gs g
 
-entries_more : (who : ℕ) (gs : List Gift) (g : Gift) → entries who (edge_calls false (gs ++ g ∷ [])) ≡ entries who (edge_calls false gs) ++ entries who (calls_for (live_after false gs) g)
+entries_more : (who : ℕ) (gs : List Gift) (g : Gift) → entries who (edge_calls false (gs ++ g ∷ []))
+    ≡ entries who (edge_calls false gs) ++ entries who (calls_for (live_after false gs) g)
 entries_more who gs g = ap (entries who) (calls_more false gs g) ∙ entries_join who (edge_calls false gs) (calls_for (live_after false gs) g)
 
 -- ---- nothing waits
@@ -69,7 +70,8 @@ all_made c gs f o = sym (append-nil (made c.calls)) ∙ ap (λ (l : List Entry).
 pub owes_begun : (c : Core) (ws : List Entry) (gs : List Gift) → Owes c ws gs → Begun c gs
 owes_begun c ws gs o = (ws, o.calls)
 
-pub owes_answered : (c d : Core) (e : Entry) (rest : List Entry) (r : Reply) (gs : List Gift) → IsAnswered c e rest r d → Owes c (e ∷ rest) gs → Owes d (waiting d) gs
+pub owes_answered : (c d : Core) (e : Entry) (rest : List Entry) (r : Reply) (gs : List Gift) → IsAnswered c e rest r d → Owes c (e ∷ rest) gs
+    → Owes d (waiting d) gs
 owes_answered c d e rest r gs i o =
     let calls : d.calls ≡ c.calls ++ (e, r) ∷ [] = ap (λ (x : Core). x.calls) i.parts in
     let more : made d.calls ≡ made c.calls ++ e ∷ [] = ap made calls ∙ made_add c.calls (e, r) in
@@ -102,5 +104,8 @@ owes_due c d g gs f i o = record {
 
 -- where there was no memory for a unit, what was called begins what was to be
 pub begun_more : (c : Core) (g : Gift) (gs : List Gift) → IsFree c → Owes c (waiting c) gs → Begun c (gs ++ g ∷ [])
-begun_more c g gs f o =
-    (entries c.who (calls_for (live_after false gs) g), ap (λ (l : List Entry). l ++ entries c.who (calls_for (live_after false gs) g)) (all_made c gs f o) ∙ sym (entries_more c.who gs g))
+begun_more c g gs f o = (
+  entries c.who (calls_for (live_after false gs) g),
+  ap (λ (l : List Entry). l ++ entries c.who (calls_for (live_after false gs) g))
+      (all_made c gs f o) ∙ sym (entries_more c.who gs g),
+)

@@ -18,7 +18,8 @@ use Rattle.origin_pull.proofs.Tags.{calls_short}
 
 -- two readings of the same bytes are one
 abbrev pub OneReading : Type 0
-OneReading = (max : ℕ) (b : List ℕ) (ms ns : List (ℕ × Message)) (s t : State) (q r : List ℕ) → Reads max b ms s q → Reads max b ns t r → SameReading ms ns s t q r
+OneReading = (max : ℕ) (b : List ℕ) (ms ns : List (ℕ × Message)) (s t : State) (q r : List ℕ) → Reads max b ms s q → Reads max b ns t r
+    → SameReading ms ns s t q r
 
 held_one : OneReading → (k : ReaderKnown) (m n : ℕ) → IsHeld k m → IsHeld k n → m ≡ n
 held_one law k m n h i =
@@ -36,14 +37,18 @@ within_less : (max m n : ℕ) → m ≤ n → IsWithin max n → IsWithin max m
 within_less max m n le w = omega (arith, le, w)
 
 -- the tag that was taken makes room for its unit
-taken_room : OneReading → (c : Core) (input : List ℕ) (n m : ℕ) (g : Gift) (u : ℕ) → IsHolding c input n → c.gift ≡ Some g → u ≤ gift_bytes (Some g) → IsHolding (without_gift c) input m → m + u ≤ n
+taken_room : OneReading → (c : Core) (input : List ℕ) (n m : ℕ) (g : Gift) (u : ℕ) → IsHolding c input n → c.gift ≡ Some g → u ≤ gift_bytes (Some g)
+    → IsHolding (without_gift c) input m → m + u ≤ n
 taken_room law c input n m g u h e le i =
     omega (arith, h.sum, i.sum, ap gift_bytes e, le, parts_one law c.reader h.parts i.parts h.read i.read)
 
-pub room_given : OneReading → (k j : ClientState) (n : ℕ) (g : Gift) (u : ℕ) → IsHolding k.parts k.input n → IsWithin k.parts.reader.max n → k.parts.gift ≡ Some g → u ≤ gift_bytes (Some g) → IsTaken k j → HasRoom u j
+pub room_given : OneReading → (k j : ClientState) (n : ℕ) (g : Gift) (u : ℕ) → IsHolding k.parts k.input n → IsWithin k.parts.reader.max n
+    → k.parts.gift ≡ Some g → u ≤ gift_bytes (Some g) → IsTaken k j → HasRoom u j
 room_given law k j n g u h w e le t = inr (λ m i. (
-    let here : IsHolding (without_gift k.parts) k.input m = subst (λ (l : List ℕ). IsHolding (without_gift k.parts) l m) t.input (subst (λ (c : Core). IsHolding c j.input m) t.parts i) in
-    subst (λ (c : Core). IsWithin c.reader.max (m + u)) (sym t.parts) (within_less k.parts.reader.max (m + u) n (taken_room law k.parts k.input n m g u h e le here) w)))
+    let here : IsHolding (without_gift k.parts) k.input m = subst (λ (l : List ℕ). IsHolding (without_gift k.parts) l m) t.input
+    (subst (λ (c : Core). IsHolding c j.input m) t.parts i) in
+    subst (λ (c : Core). IsWithin c.reader.max (m + u)) (sym t.parts)
+    (within_less k.parts.reader.max (m + u) n (taken_room law k.parts k.input n m g u h e le here) w)))
 
 pub room_less : (m n : ℕ) (k : ClientState) → m ≤ n → HasRoom n k → HasRoom m k
 room_less m n k le (inl e) = inl (omega (arith, le, e))
@@ -59,7 +64,8 @@ held_most k n u (inr f) h w = f n h
 due_short : (c d : EdgeCore) (g : Gift) → IsFree c → IsDue c g d → waiting_bytes d ≤ gift_bytes (Some g)
 due_short c d g f i = omega (arith, ap bytes_in (due_waits c d g f i), calls_short c.who c.live g)
 
-pub room_due : OneReading → (c d : EdgeCore) (k j : ClientState) (n : ℕ) (g : Gift) → IsFree c → IsDue c g d → IsHolding k.parts k.input n → IsWithin k.parts.reader.max n → k.parts.gift ≡ Some g → IsTaken k j → HasRoom (waiting_bytes d) j
+pub room_due : OneReading → (c d : EdgeCore) (k j : ClientState) (n : ℕ) (g : Gift) → IsFree c → IsDue c g d → IsHolding k.parts k.input n
+    → IsWithin k.parts.reader.max n → k.parts.gift ≡ Some g → IsTaken k j → HasRoom (waiting_bytes d) j
 room_due law c d k j n g f i h w e t = room_given law k j n g (waiting_bytes d) h w e (due_short c d g f i) t
 
 pub room_free : (c d : EdgeCore) (j : ClientState) → IsFree c → d ≡ c → HasRoom (waiting_bytes d) j

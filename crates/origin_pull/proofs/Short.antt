@@ -1,5 +1,6 @@
 -- A tag that a client is told of is no longer than its longest message
-use Rattle.std.proofs.Common.{◌≡◌, ◌≤◌, ℕ, Bool, true, false, if◌then◌else◌, ◌==◌, ◌&&◌, List, [], ◌∷◌, ◌++◌, length, drop, Option, Some, None, Result, Ok, Err, sym, ap, ◌∙◌, subst, arith}
+use Rattle.std.proofs.Common.{◌≡◌, ◌≤◌, ℕ, Bool, true, false, if◌then◌else◌, ◌==◌, ◌&&◌, List, [], ◌∷◌, ◌++◌, length, drop, Option, Some, None, Result, Ok, Err}
+use Rattle.std.proofs.Common.{sym, ap, ◌∙◌, subst, arith}
 use Rattle.std.specs.Prelude.{codes}
 use Rattle.rtmp_command.specs.declared.command.CommandFail.{CommandFail}
 use Rattle.chunk_wire.specs.declared.message.Message.{Message}
@@ -80,7 +81,8 @@ pulled_short : (max : ℕ) (k : Asked) (p : Phase) (ms : List (ℕ × Message)) 
 unfolding pulled_from
 pulled_short max k p [] s = tt
 pulled_short max k p (m ∷ ms) s =
-    all_join max (gift_for k.wish p m.1) (pulled_from k (does k p m.1).phase ms) (for_short max k.wish p m.1 s.0) (pulled_short max k (does k p m.1).phase ms s.1)
+    all_join max (gift_for k.wish p m.1) (pulled_from k (does k p m.1).phase ms) (for_short max k.wish p m.1 s.0)
+    (pulled_short max k (does k p m.1).phase ms s.1)
 
 -- ---- what a client was told
 
@@ -102,5 +104,6 @@ gift_short law k s g e =
     let t = is_told k s in
     let c = k.parts in
     let max = c.reader.max in
-    let all : AllShort max (pulled c.asked t.ms) = pulled_short max c.asked Connecting t.ms (law max (drop hand_bytes c.y) t.ms t.read.s t.read.r t.read.reads) in
+    let all : AllShort max (pulled c.asked t.ms) = pulled_short max c.asked Connecting t.ms
+    (law max (drop hand_bytes c.y) t.ms t.read.s t.read.r t.read.reads) in
     all_last max c.taken g (subst (AllShort max) (sym (ap (λ (o : Option Gift). c.taken ++ listed o) (sym e) ∙ t.told)) all)

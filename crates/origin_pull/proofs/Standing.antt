@@ -14,7 +14,8 @@ use Rattle.relay_session.specs.declared.seat_answers.Leaving.{Leaving}
 use Rattle.relay_session.specs.declared.seat_answers.Leaving.TheVariants as leaving
 use Rattle.origin_calls.specs.Calls.{edge_calls, entries, live_after}
 use Rattle.origin_pull.specs.EdgeState.{EndsSo, IsLiving, IsNew, LivesOn, Stands, StandsBy, end_or_closed, ended_by}
-use Rattle.origin_pull.specs.Keeping.{AreEdgeCalls, Begun, HasEnded, HasRoom, IsQuiet, IsSound, OverBy, bytes_in, calls_due, listed, made, waiting, waiting_bytes}
+use Rattle.origin_pull.specs.Keeping.{AreEdgeCalls, Begun, HasEnded, HasRoom, IsQuiet, IsSound, OverBy, bytes_in, calls_due, listed, made, waiting}
+use Rattle.origin_pull.specs.Keeping.{waiting_bytes}
 use Rattle.origin_pull.specs.declared.core_fields.Core.{Core}
 use Rattle.origin_pull.specs.declared.due.Due.TheVariants.{Nothing}
 use Rattle.origin_pull.specs.declared.end.EdgeEnd.{EdgeEnd}
@@ -136,7 +137,8 @@ over_left end.OutOfMemory c p k l o = o
 over_left end.NoSlot c p k l o = o
 over_left end.Closed c p k l o = o
 
-closed_by : (o : Option EdgeEnd) (c : Core) (p : Option Entry) (k : ClientState) → Left c.kept p → IsLiving o c k → HasEnded (end_or_closed o) (record c { kept = p }) k
+closed_by : (o : Option EdgeEnd) (c : Core) (p : Option Entry) (k : ClientState) → Left c.kept p → IsLiving o c k
+    → HasEnded (end_or_closed o) (record c { kept = p }) k
 closed_by None c p k l s = record {
   client = s.client;
   over = (waiting c, s.owes.calls);

@@ -15,7 +15,8 @@ use Rattle.relay_session.proofs.SeatStanding.{still_fits}
 use Rattle.origin_pull.specs.Keeping.{AreHere, IsAt, IsHere, granted_by}
 use Rattle.origin_pull.specs.declared.core_fields.Core.{Core}
 
-pub others_at : {Q : Type 0} (fits later : ℕ → Q → Type 0) (count count' : ℕ) (c : Core) (s : SeatState Q) → count' ≡ count → ((q : ℕ) (p : Q) → fits q p → later q p) → IsAt fits count c s → IsAt later count' c s
+pub others_at : {Q : Type 0} (fits later : ℕ → Q → Type 0) (count count' : ℕ) (c : Core) (s : SeatState Q) → count' ≡ count
+    → ((q : ℕ) (p : Q) → fits q p → later q p) → IsAt fits count c s → IsAt later count' c s
 others_at fits later count count' c s e more a = record {
   fit = still_fits fits later s.spot more a.fit;
   there = omega (arith, a.there, e);
@@ -26,7 +27,8 @@ others_at fits later count count' c s e more a = record {
 }
 
 -- it belongs there as long as its place and its calls are the same
-pub same_at : {Q : Type 0} (fits : ℕ → Q → Type 0) (count : ℕ) (c d : Core) (s : SeatState Q) → d.place ≡ c.place → d.calls ≡ c.calls → IsAt fits count c s → IsAt fits count d s
+pub same_at : {Q : Type 0} (fits : ℕ → Q → Type 0) (count : ℕ) (c d : Core) (s : SeatState Q) → d.place ≡ c.place → d.calls ≡ c.calls
+    → IsAt fits count c s → IsAt fits count d s
 same_at fits count c d s p e a = record {
   fit = a.fit;
   there = omega (arith, a.there, p);
@@ -60,7 +62,8 @@ granted_more : (a : Active) (C : List Own) (o : Own) → granted_by a (C ++ o �
 granted_more a [] o = refl
 granted_more a (c ∷ C) o = granted_more (active_after c.1 a) C o
 
-granted_then : (r : Made) (e : Entry) (C D : List Own) (a b : Active) → Calls e r C D → a ≡ granted_by active.Nothing C → b ≡ active_then r a → b ≡ granted_by active.Nothing D
+granted_then : (r : Made) (e : Entry) (C D : List Own) (a b : Active) → Calls e r C D → a ≡ granted_by active.Nothing C → b ≡ active_then r a
+    → b ≡ granted_by active.Nothing D
 granted_then (made.Answer r) e C D a b k g f = f ∙ ap (active_after r) g ∙ sym (granted_more active.Nothing C (e, r)) ∙ ap (granted_by active.Nothing) (sym k)
 granted_then (made.Busy x) e C D a b k g f = f ∙ g ∙ ap (granted_by active.Nothing) (sym k)
 granted_then (made.Worn x) e C D a b k g f = f ∙ g ∙ ap (granted_by active.Nothing) (sym k)
@@ -87,7 +90,8 @@ module _ {Q : Type 0} where
   here_none None place a e n = n
   here_none (Some p) place a e n = absurd (cc)
 
-  here_by : (b : Bool) (spot : Option (ℕ × Q)) (place : ℕ) (a : Active) → place_of spot ≡ (if b then None else Some place) → (b ≡ true → a ≡ active.Nothing) → IsHere place spot a
+  here_by : (b : Bool) (spot : Option (ℕ × Q)) (place : ℕ) (a : Active) → place_of spot ≡ (if b then None else Some place)
+      → (b ≡ true → a ≡ active.Nothing) → IsHere place spot a
   here_by true spot place a e n = here_none spot place a e (n refl)
   here_by false spot place a e n = here_some spot place a e
 
@@ -103,8 +107,10 @@ module _ {Q : Type 0} where
   granted_here (Some p) place a h = ap (λ (b : Bool). if b then a else active.Nothing) (eq-eqb p.0 place h)
 
   -- a call was made, or came back
-  pub made_at : (fits later : ℕ → Q → Type 0) (count count' : ℕ) (c d : Core) (s t : SeatState Q) (e : Entry) (r : Made) → HasFit later t.spot → count' ≡ count → place_of t.spot ≡ stays c.place r
-      → t.active ≡ active_then r (active_at s.spot s.active c.place) → Makes c.place e r s.visits t.visits → Calls e r (calls_of s.visits) (calls_of t.visits) → d.place ≡ c.place → Calls e r c.calls d.calls
+  pub made_at : (fits later : ℕ → Q → Type 0) (count count' : ℕ) (c d : Core) (s t : SeatState Q) (e : Entry) (r : Made) → HasFit later t.spot
+      → count' ≡ count → place_of t.spot ≡ stays c.place r
+      → t.active ≡ active_then r (active_at s.spot s.active c.place) → Makes c.place e r s.visits t.visits
+      → Calls e r (calls_of s.visits) (calls_of t.visits) → d.place ≡ c.place → Calls e r c.calls d.calls
       → IsAt fits count c s → IsAt later count' d t
   made_at fits later count count' c d s t e r fit fixed spot act makes calls p k a =
       let was : active_at s.spot s.active c.place ≡ s.active = granted_here s.spot c.place s.active a.here in

@@ -1,5 +1,6 @@
 -- What a turn of an edge leaves
-use Rattle.std.proofs.Common.{◌≡◌, ◌⊎◌, inl, inr, ℕ, ◌+◌, true, false, is_some, List, [], ◌∷◌, ◌++◌, Option, Some, None, refl, sym, ap, ◌∙◌, subst, arith, append-nil}
+use Rattle.std.proofs.Common.{◌≡◌, ◌⊎◌, inl, inr, ℕ, ◌+◌, true, false, is_some, List, [], ◌∷◌, ◌++◌, Option, Some, None, refl, sym, ap, ◌∙◌, subst, arith}
+use Rattle.std.proofs.Common.{append-nil}
 use Rattle.relay_outside.specs.Counts.{Rose}
 use Rattle.relay_outside.specs.Told.{LinkCounts}
 use Rattle.client_owed.specs.Standing.{is_finished, listed}
@@ -52,7 +53,8 @@ stands_without (Some e) c s = record { more = s.more; over = over_without c s.mo
 
 stands_taken : (k j : ClientState) → IsTaken k j → client.StandsFor k → client.StandsFor j
 stands_taken k j t s =
-    subst (λ (o : Option ClientEnd). StandsBy o j.parts) (sym t.ended) (subst (λ (c : ClientCore). StandsBy k.ended c) (sym t.parts) (stands_without k.ended k.parts s))
+    subst (λ (o : Option ClientEnd). StandsBy o j.parts) (sym t.ended)
+    (subst (λ (c : ClientCore). StandsBy k.ended c) (sym t.parts) (stands_without k.ended k.parts s))
 
 abbrev SameClient : ClientState → ClientState → Type 0
 SameClient k j = client.lasting_of j.parts ≡ client.lasting_of k.parts
@@ -76,7 +78,8 @@ quiet_taken k b j q same s t = record {
 -- what it has taken then
 taken_then : (k b j : ClientState) (o : Option Gift) → SameClient k b → b.parts.gift ≡ o → IsTaken b j → j.parts.taken ≡ k.parts.taken ++ listed o
 taken_then k b j o same g t =
-    ap (λ (c : ClientCore). c.taken) t.parts ∙ ap (λ (l : List Gift). l ++ listed b.parts.gift) (ap (λ (x : client.Lasting). x.taken) same) ∙ ap (λ (x : Option Gift). k.parts.taken ++ listed x) g
+    ap (λ (c : ClientCore). c.taken) t.parts ∙ ap (λ (l : List Gift). l ++ listed b.parts.gift) (ap (λ (x : client.Lasting). x.taken) same)
+    ∙ ap (λ (x : Option Gift). k.parts.taken ++ listed x) g
 
 -- ---- what the edge keeps then
 
@@ -84,11 +87,13 @@ taken_then k b j o same g t =
 abbrev Leaves : EdgeTurn → EdgeTurn → Core → ClientState → Type 0
 Leaves b a d j = (IsSound d j × (a ≡ b)) ⊎ (HasEnded edge.OutOfMemory d j × (a ≡ Ended edge.OutOfMemory))
 
-taken_leaves : (o : Option Gift) (c d : Core) (k b j : ClientState) (x a : EdgeTurn) → IsSound c k → IsFree c → SameClient k b → client.StandsFor b → b.ended ≡ None
+taken_leaves : (o : Option Gift) (c d : Core) (k b j : ClientState) (x a : EdgeTurn) → IsSound c k → IsFree c → SameClient k b → client.StandsFor b
+    → b.ended ≡ None
     → b.parts.gift ≡ o → IsTaken b j → TakesBy o c x a d → HasRoom (waiting_bytes d) j → Leaves x a d j
 taken_leaves None c d k b j x a s f same st al g t u room =
     let taken : j.parts.taken ≡ k.parts.taken = taken_then k b j None same g t ∙ append-nil k.parts.taken in
-    let owes : Owes d (waiting d) j.parts.taken = subst (λ (l : List Gift). Owes d (waiting d) l) (sym taken) (subst (λ (y : Core). Owes y (waiting y) k.parts.taken) (sym u.0) s.owes) in
+    let owes : Owes d (waiting d) j.parts.taken = subst (λ (l : List Gift). Owes d (waiting d) l) (sym taken)
+    (subst (λ (y : Core). Owes y (waiting y) k.parts.taken) (sym u.0) s.owes) in
     inl (record { client = quiet_taken k b j s.client same st t; lives = t.ended ∙ al; owes = owes; room = room }, u.1)
 taken_leaves (Some g) c d k b j x a s f same st al e t (inl u) room =
     let taken : j.parts.taken ≡ k.parts.taken ++ g ∷ [] = taken_then k b j (Some g) same e t in
@@ -96,7 +101,8 @@ taken_leaves (Some g) c d k b j x a s f same st al e t (inl u) room =
     inl (record { client = quiet_taken k b j s.client same st t; lives = t.ended ∙ al; owes = owes; room = room }, u.1)
 taken_leaves (Some g) c d k b j x a s f same st al e t (inr u) room =
     let taken : j.parts.taken ≡ k.parts.taken ++ g ∷ [] = taken_then k b j (Some g) same e t in
-    let begun : Begun d j.parts.taken = subst (λ (l : List Gift). Begun d l) (sym taken) (subst (λ (y : Core). Begun y (k.parts.taken ++ g ∷ [])) (sym u.0) (begun_more c g k.parts.taken f s.owes)) in
+    let begun : Begun d j.parts.taken = subst (λ (l : List Gift). Begun d l) (sym taken)
+    (subst (λ (y : Core). Begun y (k.parts.taken ++ g ∷ [])) (sym u.0) (begun_more c g k.parts.taken f s.owes)) in
     inr (record { client = quiet_taken k b j s.client same st t; over = begun; room = room }, u.1)
 
 lives_moved : (a : EdgeTurn) (d : Core) (j : ClientState) → Leaves Moved a d j → LivesOn d j a
@@ -119,7 +125,8 @@ not_done o c e g s =
     let t : EndsSo end.Done c = subst (λ (x : Option ClientEnd). StandsBy x c) e s in
     not_finished c.gave g t.all.0
 
-own_end : (o : Option ClientEnd) (c : Core) (k : ClientState) → k.ended ≡ o → (o ≡ Some end.Done → ⊥) → (o ≡ None → ⊥) → waiting c ≡ [] → made c.calls ≡ entries c.who (edge_calls false k.parts.taken) → OverBy (end_as o) c k
+own_end : (o : Option ClientEnd) (c : Core) (k : ClientState) → k.ended ≡ o → (o ≡ Some end.Done → ⊥) → (o ≡ None → ⊥) → waiting c ≡ []
+    → made c.calls ≡ entries c.who (edge_calls false k.parts.taken) → OverBy (end_as o) c k
 own_end None c k e n s none all = absurd (s refl)
 own_end (Some end.PeerClosed) c k e n s none all = record { none = none; all = all; own = subst IsOwnEnd (sym e) tt }
 own_end (Some end.LinkFault) c k e n s none all = record { none = none; all = all; own = subst IsOwnEnd (sym e) tt }
@@ -135,23 +142,27 @@ is_an_end : (o : Option ClientEnd) (e : ClientEnd) → o ≡ Some e → o ≡ No
 is_an_end None e x y = absurd (cc)
 is_an_end (Some f) e x y = absurd (cc)
 
-ended_leaves : (c : Core) (k b : ClientState) → IsSound c k → IsFree c → SameClient k b → client.StandsFor b → LeavesAs turn.Ended k b → HasEnded (end_as b.ended) c b
+ended_leaves : (c : Core) (k b : ClientState) → IsSound c k → IsFree c → SameClient k b → client.StandsFor b → LeavesAs turn.Ended k b
+    → HasEnded (end_as b.ended) c b
 ended_leaves c k b s f same st l =
     let gift : b.parts.gift ≡ None = l.1 ∙ s.client.gift in
     let quiet = quiet_if k b s.client same st gift in
     let taken : b.parts.taken ≡ k.parts.taken = ap (λ (x : client.Lasting). x.taken) same in
-    let all : made c.calls ≡ entries c.who (edge_calls false b.parts.taken) = all_made c k.parts.taken f s.owes ∙ ap (λ (t : List Gift). entries c.who (edge_calls false t)) (sym taken) in
+    let all : made c.calls ≡ entries c.who (edge_calls false b.parts.taken) = all_made c k.parts.taken f s.owes
+    ∙ ap (λ (t : List Gift). entries c.who (edge_calls false t)) (sym taken) in
     record {
       client = quiet;
       over = own_end b.ended c b refl (λ e. not_done b.ended b.parts e quiet.gave st) (is_an_end b.ended l.0.0 l.0.1) (free_waits c f) all;
       room = inl (ap bytes_in (free_waits c f));
     }
 
-pub told_lives : (t : ClientTurn) (c d : Core) (k b j : ClientState) (a : EdgeTurn) → IsSound c k → IsFree c → SameClient k b → client.StandsFor b → LeavesAs t k b → ToldAs t c b a d j → HasRoom (waiting_bytes d) j → LivesOn d j a
+pub told_lives : (t : ClientTurn) (c d : Core) (k b j : ClientState) (a : EdgeTurn) → IsSound c k → IsFree c → SameClient k b → client.StandsFor b
+    → LeavesAs t k b → ToldAs t c b a d j → HasRoom (waiting_bytes d) j → LivesOn d j a
 told_lives turn.Moved c d k b j a s f same st l u room = lives_moved a d j (taken_leaves b.parts.gift c d k b j Moved a s f same st l refl u.0 u.1 room)
 told_lives turn.Idle c d k b j a s f same st l u room = lives_idle a d j (taken_leaves b.parts.gift c d k b j Idle a s f same st l.0 refl u.0 u.1 room)
 told_lives turn.Ended c d k b j a s f same st l u room =
-    let h : HasEnded (end_as b.ended) d j = subst (λ (y : Core). HasEnded (end_as b.ended) y j) (sym u.0) (subst (λ (y : ClientState). HasEnded (end_as b.ended) c y) (sym u.1) (ended_leaves c k b s f same st l)) in
+    let h : HasEnded (end_as b.ended) d j = subst (λ (y : Core). HasEnded (end_as b.ended) y j) (sym u.0)
+    (subst (λ (y : ClientState). HasEnded (end_as b.ended) c y) (sym u.1) (ended_leaves c k b s f same st l)) in
     subst (LivesOn d j) (sym u.2) h
 
 -- ---- what it did
@@ -160,19 +171,28 @@ moved_taken : (k b j : ClientState) → IsTaken b j → client_did.HasMoved (lif
 moved_taken k b j t h = subst (λ (c : ClientCore). client_did.HasMoved (life_of k) (life c j.input)) (sym t.parts) h
 
 still_taken : (k b j : ClientState) → IsTaken b j → client_did.IsStill (life_of k) (life_of b) → client_did.IsStill (life_of k) (life_of j)
-still_taken k b j t h = record { y = ap (λ (c : ClientCore). c.y) t.parts ∙ h.y; input = t.input ∙ h.input; sent = ap (λ (c : ClientCore). c.sent) t.parts ∙ h.sent }
+still_taken k b j t h = record {
+  y = ap (λ (c : ClientCore). c.y) t.parts ∙ h.y;
+  input = t.input ∙ h.input;
+  sent = ap (λ (c : ClientCore). c.sent) t.parts
+      ∙ h.sent;
+}
 
-did_moved : (o : Option Gift) (c d : Core) (k b j : ClientState) (a : EdgeTurn) → client_did.HasMoved (life_of k) (life_of j) → TakesBy o c Moved a d → Did a c k d j
+did_moved : (o : Option Gift) (c d : Core) (k b j : ClientState) (a : EdgeTurn) → client_did.HasMoved (life_of k) (life_of j) → TakesBy o c Moved a d
+    → Did a c k d j
 did_moved None c d k b j a h u = subst (λ (x : EdgeTurn). Did x c k d j) (sym u.1) (inr h)
 did_moved (Some g) c d k b j a h (inl u) = subst (λ (x : EdgeTurn). Did x c k d j) (sym u.1) (inr h)
 did_moved (Some g) c d k b j a h (inr u) = subst (λ (x : EdgeTurn). Did x c k d j) (sym u.1) tt
 
-did_idle : (o : Option Gift) (c d : Core) (k b j : ClientState) (a : EdgeTurn) → client_did.IsStill (life_of k) (life_of j) → TakesBy o c Idle a d → Did a c k d j
+did_idle : (o : Option Gift) (c d : Core) (k b j : ClientState) (a : EdgeTurn) → client_did.IsStill (life_of k) (life_of j) → TakesBy o c Idle a d
+    → Did a c k d j
 did_idle None c d k b j a h u = subst (λ (x : EdgeTurn). Did x c k d j) (sym u.1) (record { calls = ap (λ (y : Core). y.calls) u.0; client = h })
-did_idle (Some g) c d k b j a h (inl u) = subst (λ (x : EdgeTurn). Did x c k d j) (sym u.1) (record { calls = ap (λ (y : Core). y.calls) u.0.parts; client = h })
+did_idle (Some g) c d k b j a h (inl u) = subst (λ (x : EdgeTurn). Did x c k d j) (sym u.1)
+    (record { calls = ap (λ (y : Core). y.calls) u.0.parts; client = h })
 did_idle (Some g) c d k b j a h (inr u) = subst (λ (x : EdgeTurn). Did x c k d j) (sym u.1) tt
 
-pub told_did : (t : ClientTurn) (c d : Core) (k b j : ClientState) (a : EdgeTurn) → client_did.Did t (life_of k) (life_of b) → ToldAs t c b a d j → Did a c k d j
+pub told_did : (t : ClientTurn) (c d : Core) (k b j : ClientState) (a : EdgeTurn) → client_did.Did t (life_of k) (life_of b) → ToldAs t c b a d j
+    → Did a c k d j
 told_did turn.Moved c d k b j a h u = did_moved b.parts.gift c d k b j a (moved_taken k b j u.0 h) u.1
 told_did turn.Idle c d k b j a h u = did_idle b.parts.gift c d k b j a (still_taken k b j u.0 h) u.1
 told_did turn.Ended c d k b j a h u = subst (λ (x : EdgeTurn). Did x c k d j) (sym u.2) tt
@@ -192,14 +212,16 @@ waits_for : (b : ClientState) (x y : LinkCounts) → b.parts.gift ≡ None → c
 waits_for b x y e (inl r) = r
 waits_for b x y e (inr s) = absurd (no_gift b.parts.gift e s)
 
-pub told_may : (t : ClientTurn) (c d : Core) (k b j : ClientState) (a : EdgeTurn) (x y : LinkCounts) → k.parts.gift ≡ None → LeavesAs t k b → client_did.MayBe t x y (life_of b) → ToldAs t c b a d j → MayWait a x y
+pub told_may : (t : ClientTurn) (c d : Core) (k b j : ClientState) (a : EdgeTurn) (x y : LinkCounts) → k.parts.gift ≡ None → LeavesAs t k b
+    → client_did.MayBe t x y (life_of b) → ToldAs t c b a d j → MayWait a x y
 told_may turn.Moved c d k b j a x y e l w u = may_by b.parts.gift c d Moved a x y tt u.1
 told_may turn.Idle c d k b j a x y e l w u = may_by b.parts.gift c d Idle a x y (waits_for b x y (l.1 ∙ e) w) u.1
 told_may turn.Ended c d k b j a x y e l w u = subst (λ (z : EdgeTurn). MayWait z x y) (sym u.2) tt
 
 -- ---- what it keeps as it was made
 
-pub same_lasting : (c d : Core) (k j : ClientState) → d.who ≡ c.who → d.place ≡ c.place → j.parts.asked ≡ k.parts.asked → j.parts.reader.max ≡ k.parts.reader.max → lasting_of d j ≡ lasting_of c k
+pub same_lasting : (c d : Core) (k j : ClientState) → d.who ≡ c.who → d.place ≡ c.place → j.parts.asked ≡ k.parts.asked
+    → j.parts.reader.max ≡ k.parts.reader.max → lasting_of d j ≡ lasting_of c k
 same_lasting c d k j w p q m =
     let R : ℕ → ℕ → Asked → ℕ → Lasting = λ who place asked max. record { who = who; place = place; asked = asked; max = max } in
     ap (λ (n : ℕ). R n d.place j.parts.asked j.parts.reader.max) w ∙ ap (λ (n : ℕ). R c.who n j.parts.asked j.parts.reader.max) p

@@ -7,7 +7,8 @@ use Rattle.client_owed.specs.Standing.{Keeps}
 use Rattle.client_owed.specs.declared.types.Gift.{Gift}
 use Rattle.rtmp_client.specs.ClientState.{ClientState, TurnMade}
 use Rattle.rtmp_client.specs.Feeding.{Heard}
-use Rattle.rtmp_client.specs.Turns.{CameAs, DoneBy, EmptyBy, EndedBy, FedAs, FedBy, Quietly, Loudly, Stopping, Gone, InputBy, IsEnded, Life, SendBy, SentAs, end_of, is_done, is_hungry, is_nil, life, turn_of}
+use Rattle.rtmp_client.specs.Turns.{CameAs, DoneBy, EmptyBy, EndedBy, FedAs, FedBy, Quietly, Loudly, Stopping, Gone, InputBy, IsEnded, Life, SendBy, SentAs}
+use Rattle.rtmp_client.specs.Turns.{end_of, is_done, is_hungry, is_nil, life, turn_of}
 use Rattle.rtmp_client.specs.declared.end.ClientEnd.{ClientEnd}
 use Rattle.rtmp_client.specs.declared.end.ClientEnd.TheVariants as end
 use Rattle.rtmp_client.specs.declared.end.ClientTurn.{ClientTurn}

@@ -18,6 +18,7 @@ mod held;
 mod pulling;
 mod steps;
 mod turn;
+mod words;
 
 pub use core_fields::Core;
 pub use due::Due;
@@ -25,3 +26,4 @@ pub use edge::Edge;
 pub use end::EdgeEnd;
 pub use granted::granted_law;
 pub use turn::EdgeTurn;
+pub use words::end_text;

@@ -16,6 +16,7 @@ invariant-loop g l = record {
   fixed : g.P.StreamPort.rules l.port ≡ g.P.StreamPort.rules l.fn.port;
   known : StandsAt g.P.StreamPort.rules g.P.StreamPort.root g.P.StreamPort.seen l.fn.port l.fn.edge.seat
       → StandsAt g.P.StreamPort.rules g.P.StreamPort.root g.P.StreamPort.seen l.port l.edge.seat;
-  goes : (k : Asked) (max who place : ℕ) (start : Origin) → Drives k max who place start (origin (g.L.Link.told l.fn.link) (g.L.Link.counts l.fn.link)) l.fn.edge
+  goes : (k : Asked) (max who place : ℕ) (start : Origin) → Drives k max who place start (origin (g.L.Link.told l.fn.link) (g.L.Link.counts l.fn.link))
+      l.fn.edge
       → Drives k max who place start (origin (g.L.Link.told l.link) (g.L.Link.counts l.link)) l.edge;
 }

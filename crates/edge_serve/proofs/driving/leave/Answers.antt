@@ -24,7 +24,8 @@ loop-preserved-in-Busy g c =
       fixed = e.fixed ∙ i.fixed;
       known = λ s. e.seat (i.known s);
       client = e.client ∙ i.client;
-      leaving = leaving_on c.args.edge.now.parts c.args.edge.now.seat.active c.args.edge.now.seat.visits c.loop.edge c.close.new.self leaving.Busy refl i.leaving e.leaves e.spot e.parts;
+      leaving = leaving_on c.args.edge.now.parts c.args.edge.now.seat.active c.args.edge.now.seat.visits c.loop.edge c.close.new.self leaving.Busy refl
+          i.leaving e.leaves e.spot e.parts;
     }
 
 pub loop-preserved : goal.loop-preserved
@@ -36,7 +37,8 @@ loop-preserved g c =
       fixed = e.fixed ∙ i.fixed;
       known = λ s. e.seat (i.known s);
       client = e.client ∙ i.client;
-      leaving = leaving_on c.args.edge.now.parts c.args.edge.now.seat.active c.args.edge.now.seat.visits c.loop.edge c.close.new.self leaving.OutOfMemory refl i.leaving e.leaves e.spot e.parts;
+      leaving = leaving_on c.args.edge.now.parts c.args.edge.now.seat.active c.args.edge.now.seat.visits c.loop.edge c.close.new.self leaving.OutOfMemory
+          refl i.leaving e.leaves e.spot e.parts;
     }
 
 pub returns-in-Done-clause-away : goal.returns-in-Done-clause-away
@@ -47,16 +49,20 @@ returns-in-Worn-clause-away g c = away_now c.loop.edge c.close.new.self leaving.
 
 pub returns-in-Done-clause-here : goal.returns-in-Done-clause-here
 returns-in-Done-clause-here g c =
-    here_now c.args.edge.now.parts c.args.edge.now.seat.active c.args.edge.now.seat.visits c.loop.edge c.close.new.self leaving.Done c.loop.invariant.leaving c.in-Done.ensures.leaves
+    here_now c.args.edge.now.parts c.args.edge.now.seat.active c.args.edge.now.seat.visits c.loop.edge c.close.new.self leaving.Done
+    c.loop.invariant.leaving c.in-Done.ensures.leaves
 
 pub returns-in-Worn-clause-here : goal.returns-in-Worn-clause-here
 returns-in-Worn-clause-here g c =
-    here_now c.args.edge.now.parts c.args.edge.now.seat.active c.args.edge.now.seat.visits c.loop.edge c.close.new.self leaving.Worn c.loop.invariant.leaving c.in-Worn.ensures.leaves
+    here_now c.args.edge.now.parts c.args.edge.now.seat.active c.args.edge.now.seat.visits c.loop.edge c.close.new.self leaving.Worn
+    c.loop.invariant.leaving c.in-Worn.ensures.leaves
 
 pub returns-in-Done-clause-left : goal.returns-in-Done-clause-left
 returns-in-Done-clause-left g c =
-    left_now c.args.edge.now.parts c.args.edge.now.seat.active c.args.edge.now.seat.visits c.loop.edge c.close.new.self leaving.Done refl c.loop.invariant.leaving c.in-Done.ensures.leaves
+    left_now c.args.edge.now.parts c.args.edge.now.seat.active c.args.edge.now.seat.visits c.loop.edge c.close.new.self leaving.Done refl
+    c.loop.invariant.leaving c.in-Done.ensures.leaves
 
 pub returns-in-Worn-clause-left : goal.returns-in-Worn-clause-left
 returns-in-Worn-clause-left g c =
-    left_now c.args.edge.now.parts c.args.edge.now.seat.active c.args.edge.now.seat.visits c.loop.edge c.close.new.self leaving.Worn refl c.loop.invariant.leaving c.in-Worn.ensures.leaves
+    left_now c.args.edge.now.parts c.args.edge.now.seat.active c.args.edge.now.seat.visits c.loop.edge c.close.new.self leaving.Worn refl
+    c.loop.invariant.leaving c.in-Worn.ensures.leaves

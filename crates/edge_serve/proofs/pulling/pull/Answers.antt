@@ -7,20 +7,23 @@ use Rattle.relay_session.specs.SeatVisits.{AllStand}
 use Rattle.edge_serve.specs.Line.{edge_line}
 use Rattle.edge_serve.specs.Pulls.{HasPulled, edge_name, edge_place, origin}
 use Rattle.edge_serve.specs.Words.{pull_of}
-use Rattle.edge_serve.proofs.Pulled.{has_pulled, new_at, new_drives, new_stands, stands_root}
+use Rattle.edge_serve.proofs.Ending.{same_end}
+use Rattle.edge_serve.proofs.Pulled.{has_pulled, new_at, new_drives, new_stands, nothing_played, stands_root}
 use Rattle.edge_serve.proofs.pulling.pull.Goals as goal
 
 -- there was no memory for a client
 pub returns-in_default : goal.returns-in_default
-returns-in_default g c = record { fixed = refl; client = None; line_is = λ n. absurd (n refl); pulled = λ n. absurd (n refl) }
+returns-in_default g c =
+    record { fixed = refl; played = nothing_played _ _ _; client = None; line_is = λ n. absurd (n refl); pulled = λ n. absurd (n refl) }
 
 pub drive-end-requires-clause-at : goal.drive-end-requires-clause-at
 drive-end-requires-clause-at g c =
-    let there : c.new-edge.result.parts.place < places (shared_rules c.args.port) = omega (arith, c.new-edge.ensures.fixed.1, c.requires.there) in
-    new_at _ _ c.new-edge.result c.new-edge.ensures.at c.new-edge.ensures.empty.0 there
+    let m = c.new_edge-edge.ensures.made in
+    let there : c.new_edge-edge.result.parts.place < places (shared_rules c.args.port) = omega (arith, m.place, c.requires.there) in
+    new_at _ _ c.new_edge-edge.result m.seat m.calls there
 
-pub returns-in-Ok-edge_line : goal.returns-in-Ok-edge_line
-returns-in-Ok-edge_line g c =
+pub returns : goal.returns
+returns g c =
     let L = g.L.Link in
     let k = pull_of c.args.stream.app.now c.args.stream.name.now in
     let max = c.args.stream.longest in
@@ -32,17 +35,23 @@ returns-in-Ok-edge_line g c =
     let port = c.leave-worn.new.port in
     let d = c.drive-end.ensures in
     let e = c.leave-worn.ensures in
+    let m = c.new_edge-edge.ensures.made in
     let fixed : shared_rules port ≡ rules = e.fixed ∙ d.fixed in
-    let first = new_stands shared_rules (λ x. told_at x.roots) (λ p. told p.seen) c.args.port c.new-edge.result c.new-edge.ensures.at in
+    let first = new_stands shared_rules (λ x. told_at x.roots) (λ p. told p.seen) c.args.port c.new_edge-edge.result m.seat in
     let stand = stands_root shared_rules (λ x. told_at x.roots) (λ p. told p.seen) port t.seat e.away (e.known (d.known first)) in
-    let drives = new_drives k max edge_name edge_place start c.new-edge.result c.in-Ok.client c.in-Ok.ensures.new c.in-Ok.ensures.empty c.in-Ok.ensures.asked c.in-Ok.ensures.max
-    c.new-edge.ensures.client c.new-edge.ensures.lives c.new-edge.ensures.fixed.0 c.new-edge.ensures.fixed.1 in
-    let pulled = has_pulled c.one_reading.ensures _ _ k max edge_name edge_place rules.limits (told_at port.roots) start now c.drive-end.result c.leave-worn.result s t
+    let drives = new_drives k max edge_name edge_place start c.new_edge-edge.result c.in-Ok.client c.in-Ok.ensures.new c.in-Ok.ensures.empty
+    c.in-Ok.ensures.asked c.in-Ok.ensures.max m.client c.new_edge-edge.ensures.lives m.who m.place in
+    let pulled = has_pulled c.one_reading.ensures _ _ k max edge_name edge_place rules.limits (told_at port.roots) start now c.drive-end.result
+    c.leave-worn.result s t
     (d.driven k max edge_name edge_place start drives) d.stands d.at e.client e.here e.left
     (subst (λ (r : PortRules). AllStand r.limits (told_at port.roots) t.seat.visits) fixed stand) in
+    let over = c.line_of-end.result.0 in
+    let line = c.line_of-end.ensures in
     record {
       fixed = fixed;
+      played = pulled.link;
       client = t.client.ended;
-      line_is = λ n. c.in-Ok-edge_line.ensures ∙ ap (edge_line c.end_then-end.result) c.client_end-2.ensures;
-      pulled = λ n. subst (λ (x : EdgeEnd). HasPulled k max edge_name edge_place rules.limits (told_at port.roots) x t.client.ended start now) (sym c.end_then-end.ensures) pulled;
+      line_is = λ n. line.line n ∙ ap (edge_line over) c.client_end-2.ensures;
+      pulled = λ n. subst (λ (x : EdgeEnd). HasPulled k max edge_name edge_place rules.limits (told_at port.roots) x t.client.ended start now)
+          (sym (same_end c.end_then-end.result over line.end n ∙ c.end_then-end.ensures)) pulled;
     }

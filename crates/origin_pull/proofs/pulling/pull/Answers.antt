@@ -38,7 +38,8 @@ returns-in-Ended-clause-sound g c =
     let b = c.turn.new.self in
     let f : IsFree a.core.now = record { kept = c.requires.nothing.0; due = c.requires.nothing.1 } in
     told_lives turn.Ended a.core.now a.core.now a.client.now b b (Ended c.end_of.result) c.requires.sound f t.lasts t.stands
-    (turn_leaves L.hears L.says a.client.now b turn.Ended a.link.now c.turn.new.link t.turn) (refl, refl, ap Ended (c.end_of.ensures ∙ ap end_as c.end.ensures)) (room_free a.core.now a.core.now b f refl)
+    (turn_leaves L.hears L.says a.client.now b turn.Ended a.link.now c.turn.new.link t.turn)
+    (refl, refl, ap Ended (c.end_of.ensures ∙ ap end_as c.end.ensures)) (room_free a.core.now a.core.now b f refl)
 
 pub returns-in-Moved-clause-pulls : goal.returns-in-Moved-clause-pulls
 returns-in-Moved-clause-pulls g c = record { answer = turn.Moved; between = c.turn.new.self; turned = c.in-Moved.ensures.turn; told = c.receive.ensures.takes }
@@ -73,7 +74,13 @@ returns-in-Moved-clause-may_wait g c =
     (turn_leaves L.hears L.says a.client.now b turn.Moved a.link.now c.turn.new.link t.turn) t.may_be r.ensures.takes
 
 pub returns-in-Idle-clause-pulls : goal.returns-in-Idle-clause-pulls
-returns-in-Idle-clause-pulls g c = record { answer = turn.Idle; between = c.turn.new.self; turned = c.in-Idle.ensures.turn; told = c.receive-in-Idle.ensures.takes }
+returns-in-Idle-clause-pulls g c = record {
+  answer = turn.Idle;
+  between = c.turn.new.self;
+  turned = c.in-Idle.ensures.turn;
+  told =
+      c.receive-in-Idle.ensures.takes;
+}
 
 pub returns-in-Idle-clause-lasts : goal.returns-in-Idle-clause-lasts
 returns-in-Idle-clause-lasts g c =
@@ -84,7 +91,8 @@ returns-in-Idle-clause-lasts g c =
     told_lasts turn.Idle a.core.now r.new.core a.client.now b r.new.client r.result t.lasts r.ensures.takes
 
 pub returns-in-Idle-clause-calls : goal.returns-in-Idle-clause-calls
-returns-in-Idle-clause-calls g c = let r = c.receive-in-Idle in told_calls turn.Idle c.args.core.now r.new.core c.turn.new.self r.new.client r.result r.ensures.takes
+returns-in-Idle-clause-calls g c = let r = c.receive-in-Idle in
+    told_calls turn.Idle c.args.core.now r.new.core c.turn.new.self r.new.client r.result r.ensures.takes
 
 pub returns-in-Idle-clause-did : goal.returns-in-Idle-clause-did
 returns-in-Idle-clause-did g c =
@@ -106,10 +114,17 @@ returns-in-Idle-clause-may_wait g c =
 
 pub returns-in-Ended-clause-pulls : goal.returns-in-Ended-clause-pulls
 returns-in-Ended-clause-pulls g c =
-    record { answer = turn.Ended; between = c.turn.new.self; turned = c.in-Ended.ensures.turn; told = (refl, refl, ap Ended (c.end_of.ensures ∙ ap end_as c.end.ensures)) }
+    record {
+      answer = turn.Ended;
+      between = c.turn.new.self;
+      turned = c.in-Ended.ensures.turn;
+      told =
+          (refl, refl, ap Ended (c.end_of.ensures ∙ ap end_as c.end.ensures));
+    }
 
 pub returns-in-Ended-clause-lasts : goal.returns-in-Ended-clause-lasts
 returns-in-Ended-clause-lasts g c =
     let a = c.args in
     let b = c.turn.new.self in
-    told_lasts turn.Ended a.core.now a.core.now a.client.now b b (Ended c.end_of.result) c.in-Ended.ensures.lasts (refl, refl, ap Ended (c.end_of.ensures ∙ ap end_as c.end.ensures))
+    told_lasts turn.Ended a.core.now a.core.now a.client.now b b (Ended c.end_of.result) c.in-Ended.ensures.lasts
+    (refl, refl, ap Ended (c.end_of.ensures ∙ ap end_as c.end.ensures))

@@ -18,4 +18,5 @@ returns-in-Ok-clause-room c =
     let e : k.parts.gift ≡ Some c.in-Some.gift = search rules in
     let f : IsFree c.args.core.now = record { kept = c.requires.nothing.0; due = c.requires.nothing.1 } in
     let t : IsTaken k c.take.new.self = record { parts = c.take.ensures.left; input = c.take.ensures.others.0; ended = c.take.ensures.others.1 } in
-    room_due c.one_reading.ensures c.args.core.now c.take_gift.new.core k c.take.new.self c.held.result c.in-Some.gift f c.in-Ok.ensures.due c.held.ensures.holds c.held.ensures.most e t
+    room_due c.one_reading.ensures c.args.core.now c.take_gift.new.core k c.take.new.self c.held.result c.in-Some.gift f c.in-Ok.ensures.due
+    c.held.ensures.holds c.held.ensures.most e t

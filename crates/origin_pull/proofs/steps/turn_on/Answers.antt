@@ -17,7 +17,9 @@ returns-in-Some-clause-sound g c =
     let b = c.args.body.now in
     let n = c.next_call in
     let m = c.make in
-    let r = called_leaves P.fits P.rules P.root P.seen P.count P.wants P.busies b.core n.new.core m.new.body.core b.client m.new.body.client c.args.port.now m.new.port b.seat m.new.body.seat n.result c.in-Some.entry m.result (search rules) n.ensures.order n.ensures.rest c.requires.sound m.ensures.called in
+    let r = called_leaves P.fits P.rules P.root P.seen P.count P.wants P.busies b.core n.new.core m.new.body.core b.client m.new.body.client
+    c.args.port.now m.new.port b.seat m.new.body.seat n.result c.in-Some.entry m.result (search rules) n.ensures.order n.ensures.rest c.requires.sound
+    m.ensures.called in
     r.sound
 
 pub returns-in-Some-clause-did : goal.returns-in-Some-clause-did
@@ -26,7 +28,9 @@ returns-in-Some-clause-did g c =
     let b = c.args.body.now in
     let n = c.next_call in
     let m = c.make in
-    let r = called_leaves P.fits P.rules P.root P.seen P.count P.wants P.busies b.core n.new.core m.new.body.core b.client m.new.body.client c.args.port.now m.new.port b.seat m.new.body.seat n.result c.in-Some.entry m.result (search rules) n.ensures.order n.ensures.rest c.requires.sound m.ensures.called in
+    let r = called_leaves P.fits P.rules P.root P.seen P.count P.wants P.busies b.core n.new.core m.new.body.core b.client m.new.body.client
+    c.args.port.now m.new.port b.seat m.new.body.seat n.result c.in-Some.entry m.result (search rules) n.ensures.order n.ensures.rest c.requires.sound
+    m.ensures.called in
     r.did
 
 pub returns-in-Some-clause-lasts : goal.returns-in-Some-clause-lasts
@@ -35,7 +39,9 @@ returns-in-Some-clause-lasts g c =
     let b = c.args.body.now in
     let n = c.next_call in
     let m = c.make in
-    let r = called_leaves P.fits P.rules P.root P.seen P.count P.wants P.busies b.core n.new.core m.new.body.core b.client m.new.body.client c.args.port.now m.new.port b.seat m.new.body.seat n.result c.in-Some.entry m.result (search rules) n.ensures.order n.ensures.rest c.requires.sound m.ensures.called in
+    let r = called_leaves P.fits P.rules P.root P.seen P.count P.wants P.busies b.core n.new.core m.new.body.core b.client m.new.body.client
+    c.args.port.now m.new.port b.seat m.new.body.seat n.result c.in-Some.entry m.result (search rules) n.ensures.order n.ensures.rest c.requires.sound
+    m.ensures.called in
     r.lasts
 
 pub returns-in-Some-clause-goes_on : goal.returns-in-Some-clause-goes_on
@@ -44,7 +50,9 @@ returns-in-Some-clause-goes_on g c =
     let b = c.args.body.now in
     let n = c.next_call in
     let m = c.make in
-    let r = called_leaves P.fits P.rules P.root P.seen P.count P.wants P.busies b.core n.new.core m.new.body.core b.client m.new.body.client c.args.port.now m.new.port b.seat m.new.body.seat n.result c.in-Some.entry m.result (search rules) n.ensures.order n.ensures.rest c.requires.sound m.ensures.called in
+    let r = called_leaves P.fits P.rules P.root P.seen P.count P.wants P.busies b.core n.new.core m.new.body.core b.client m.new.body.client
+    c.args.port.now m.new.port b.seat m.new.body.seat n.result c.in-Some.entry m.result (search rules) n.ensures.order n.ensures.rest c.requires.sound
+    m.ensures.called in
     r.on
 
 pub returns-in-Some-clause-may_be : goal.returns-in-Some-clause-may_be
@@ -54,7 +62,9 @@ returns-in-Some-clause-may_be g c =
     let n = c.next_call in
     let m = c.make in
     let L = g.L.Link in
-    let r = called_leaves P.fits P.rules P.root P.seen P.count P.wants P.busies b.core n.new.core m.new.body.core b.client m.new.body.client c.args.port.now m.new.port b.seat m.new.body.seat n.result c.in-Some.entry m.result (search rules) n.ensures.order n.ensures.rest c.requires.sound m.ensures.called in
+    let r = called_leaves P.fits P.rules P.root P.seen P.count P.wants P.busies b.core n.new.core m.new.body.core b.client m.new.body.client
+    c.args.port.now m.new.port b.seat m.new.body.seat n.result c.in-Some.entry m.result (search rules) n.ensures.order n.ensures.rest c.requires.sound
+    m.ensures.called in
     r.may (L.counts c.args.link.now) (L.counts c.args.link.now)
 
 pub returns-in-Some-clause-turn : goal.returns-in-Some-clause-turn
@@ -64,7 +74,9 @@ returns-in-Some-clause-turn g c =
     let n = c.next_call in
     let m = c.make in
     let L = g.L.Link in
-    called_turn P.fits P.rules P.root P.seen P.count P.wants P.busies (ClientTurns L.hears L.says) b.core n.new.core m.new.body.core b.client m.new.body.client c.args.port.now m.new.port b.seat m.new.body.seat c.args.link.now n.result c.in-Some.entry m.result (search rules) n.ensures.order n.ensures.rest m.ensures.called
+    called_turn P.fits P.rules P.root P.seen P.count P.wants P.busies (ClientTurns L.hears L.says) b.core n.new.core m.new.body.core b.client
+    m.new.body.client c.args.port.now m.new.port b.seat m.new.body.seat c.args.link.now n.result c.in-Some.entry m.result (search rules)
+    n.ensures.order n.ensures.rest m.ensures.called
 
 pub returns-in-None-clause-turn : goal.returns-in-None-clause-turn
 returns-in-None-clause-turn g c =
@@ -75,7 +87,8 @@ returns-in-None-clause-turn g c =
     let p = c.pull in
     let free = free_of b.core n.new.core n.result (search rules) n.ensures.order n.ensures.rest (n.ensures.none (search rules)) in
     let same : n.new.core ≡ b.core = same_free b.core n.new.core n.ensures.rest (n.ensures.none (search rules)) free in
-    turn_pulled (Asked P.fits P.rules P.root P.seen P.count P.wants P.busies) (ClientTurns L.hears L.says) b.core p.new.core b.client p.new.client c.args.port.now b.seat c.args.link.now p.new.link p.result (free_waits b.core free)
+    turn_pulled (Asked P.fits P.rules P.root P.seen P.count P.wants P.busies) (ClientTurns L.hears L.says) b.core p.new.core b.client p.new.client
+    c.args.port.now b.seat c.args.link.now p.new.link p.result (free_waits b.core free)
     (subst (λ (x : Core). Pulls (ClientTurns L.hears L.says) x b.client c.args.link.now p.result p.new.core p.new.client p.new.link) same p.ensures.pulls)
 
 pub returns-in-None-clause-did : goal.returns-in-None-clause-did
@@ -104,7 +117,8 @@ returns-in-None-clause-may_be g c =
     may_waits p.result (P.busies c.args.port.now) (P.busies c.args.port.now) (L.counts c.args.link.now) (L.counts p.new.link) p.ensures.may_wait
 
 pub returns-in-None-clause-goes_on : goal.returns-in-None-clause-goes_on
-returns-in-None-clause-goes_on g c = let P = g.P.StreamPort in on_here P.fits P.rules P.root P.seen P.count P.wants P.busies c.args.port.now c.args.body.now.seat
+returns-in-None-clause-goes_on g c = let P = g.P.StreamPort in
+    on_here P.fits P.rules P.root P.seen P.count P.wants P.busies c.args.port.now c.args.body.now.seat
 
 pub returns-in-None-clause-at : goal.returns-in-None-clause-at
 returns-in-None-clause-at g c =
@@ -112,7 +126,8 @@ returns-in-None-clause-at g c =
     let b = c.args.body.now in
     let n = c.next_call in
     let p = c.pull in
-    same_at (P.fits c.args.port.now) (places (P.rules c.args.port.now)) b.core p.new.core b.seat (ap (λ (x : Lasting). x.place) p.ensures.lasts ∙ ap (λ (x : Core). x.place) n.ensures.rest)
+    same_at (P.fits c.args.port.now) (places (P.rules c.args.port.now)) b.core p.new.core b.seat (ap (λ (x : Lasting). x.place) p.ensures.lasts
+    ∙ ap (λ (x : Core). x.place) n.ensures.rest)
     (p.ensures.calls ∙ ap (λ (x : Core). x.calls) n.ensures.rest) c.requires.at
 
 pub make-requires-clause-at : goal.make-requires-clause-at
@@ -120,7 +135,8 @@ make-requires-clause-at g c =
     let P = g.P.StreamPort in
     let b = c.args.body.now in
     let n = c.next_call in
-    same_at (P.fits c.args.port.now) (places (P.rules c.args.port.now)) b.core n.new.core b.seat (ap (λ (x : Core). x.place) n.ensures.rest) (ap (λ (x : Core). x.calls) n.ensures.rest) c.requires.at
+    same_at (P.fits c.args.port.now) (places (P.rules c.args.port.now)) b.core n.new.core b.seat (ap (λ (x : Core). x.place) n.ensures.rest)
+    (ap (λ (x : Core). x.calls) n.ensures.rest) c.requires.at
 
 pub pull-requires-clause-sound : goal.pull-requires-clause-sound
 pull-requires-clause-sound g c =

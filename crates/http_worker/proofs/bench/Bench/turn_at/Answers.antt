@@ -9,7 +9,8 @@ use Rattle.http_worker.proofs.bench.Bench.turn_at.Goals as goal
 
 pub returns-then-seated-clause-turns : goal.returns-then-seated-clause-turns
 returns-then-seated-clause-turns g c =
-    let takes = TakesTurn g.P.StreamPort.fits g.P.StreamPort.rules g.P.StreamPort.root g.P.StreamPort.seen g.P.StreamPort.count g.P.StreamPort.wants g.P.StreamPort.busies (g.G.Desk.grants c.args.desk.now) g.D.Link.Link.counts g.D.Link.Link.hears g.D.Link.Link.says in
+    let takes = TakesTurn g.P.StreamPort.fits g.P.StreamPort.rules g.P.StreamPort.root g.P.StreamPort.seen g.P.StreamPort.count g.P.StreamPort.wants
+    g.P.StreamPort.busies (g.G.Desk.grants c.args.desk.now) g.D.Link.Link.counts g.D.Link.Link.hears g.D.Link.Link.says in
     let b = c.args.self.now in
     let s = c.in-Some.seated.now in
     let at = sym c.in-Some.ensures in
@@ -19,13 +20,15 @@ returns-then-seated-clause-turns g c =
 pub turn-answer-requires-clause-living : goal.turn-answer-requires-clause-living
 turn-answer-requires-clause-living g c =
     let s = c.in-Some.seated.now in
-    living_at (get c.args.self.now.players c.args.key) s c.in-Some-get_mut.seated.now c.in-Some.ensures c.in-Some-get_mut.ensures.value (c.requires.sound.seated c.args.key s (sym c.in-Some.ensures)).over c.if-seated.false
+    living_at (get c.args.self.now.players c.args.key) s c.in-Some-get_mut.seated.now c.in-Some.ensures c.in-Some-get_mut.ensures.value
+    (c.requires.sound.seated c.args.key s (sym c.in-Some.ensures)).over c.if-seated.false
 
 pub turn-answer-requires-clause-at : goal.turn-answer-requires-clause-at
 turn-answer-requires-clause-at g c =
     let s = c.in-Some.seated.now in
     (c.requires.sound.seated c.args.key c.in-Some-get_mut.seated.now (sym c.in-Some-get_mut.ensures.value)).at
-    (living_at (get c.args.self.now.players c.args.key) s c.in-Some-get_mut.seated.now c.in-Some.ensures c.in-Some-get_mut.ensures.value (c.requires.sound.seated c.args.key s (sym c.in-Some.ensures)).over c.if-seated.false)
+    (living_at (get c.args.self.now.players c.args.key) s c.in-Some-get_mut.seated.now c.in-Some.ensures c.in-Some-get_mut.ensures.value
+    (c.requires.sound.seated c.args.key s (sym c.in-Some.ensures)).over c.if-seated.false)
 
 pub returns-clause-sound : goal.returns-clause-sound
 returns-clause-sound g c =
@@ -37,18 +40,21 @@ returns-clause-sound g c =
     sound_put g.P.StreamPort.fits g.P.StreamPort.rules g.D.Door.told c.args.terms.now b _ c.args.key s n w (sym c.in-Some-get_mut.ensures.value)
     (put_updates b.players c.args.key s n (sym c.in-Some-get_mut.ensures.value)) (put_len b.players c.args.key s n (sym c.in-Some-get_mut.ensures.value)) refl
     (goes_of g.P.StreamPort.fits g.P.StreamPort.rules g.P.StreamPort.root b.port c.turn-answer.new.port e.ahead)
-    (seated_turned g.P.StreamPort.fits g.P.StreamPort.rules c.turn-answer.new.port b.had s n (w.seated c.args.key s (sym c.in-Some-get_mut.ensures.value)).named (ap (λ (l : Lasting). l.who) e.turn.lasts) e.at e.over)
+    (seated_turned g.P.StreamPort.fits g.P.StreamPort.rules c.turn-answer.new.port b.had s n
+    (w.seated c.args.key s (sym c.in-Some-get_mut.ensures.value)).named (ap (λ (l : Lasting). l.who) e.turn.lasts) e.at e.over)
     (ap (λ (l : Lasting). l.who) e.turn.lasts) refl refl refl
 
 pub returns-clause-turns : goal.returns-clause-turns
 returns-clause-turns g c =
-    let takes = TakesTurn g.P.StreamPort.fits g.P.StreamPort.rules g.P.StreamPort.root g.P.StreamPort.seen g.P.StreamPort.count g.P.StreamPort.wants g.P.StreamPort.busies (g.G.Desk.grants c.args.desk.now) g.D.Link.Link.counts g.D.Link.Link.hears g.D.Link.Link.says in
+    let takes = TakesTurn g.P.StreamPort.fits g.P.StreamPort.rules g.P.StreamPort.root g.P.StreamPort.seen g.P.StreamPort.count g.P.StreamPort.wants
+    g.P.StreamPort.busies (g.G.Desk.grants c.args.desk.now) g.D.Link.Link.counts g.D.Link.Link.hears g.D.Link.Link.says in
     let b = c.args.self.now in
     let s = c.in-Some.seated.now in
     let u = c.in-Some-get_mut.seated.now in
     let n = c.turn-answer.new.self in
     turns_lives takes c.args.key u b _ (sym c.in-Some-get_mut.ensures.value)
-    (living_at (get b.players c.args.key) s u c.in-Some.ensures c.in-Some-get_mut.ensures.value (c.requires.sound.seated c.args.key s (sym c.in-Some.ensures)).over c.if-seated.false)
+    (living_at (get b.players c.args.key) s u c.in-Some.ensures c.in-Some-get_mut.ensures.value
+    (c.requires.sound.seated c.args.key s (sym c.in-Some.ensures)).over c.if-seated.false)
     (record {
       now = n;
       answer = c.turn-answer.result;

@@ -11,4 +11,5 @@ returns-clause-books g c desk works =
     let w = c.args.self in
     let sound = subst (λ v. IsSound g.P.StreamPort.fits rules g.D.Door.told v.terms v.bench) c.self.view_is c.self.invariant in
     subst (λ b. Settled desk w.terms (rules b.port).limits (root b.port) (g.D.Door.told b.door) b.refused b.worn) (sym (ap (λ v. v.bench) c.self.view_is))
-    (settles rules root g.P.StreamPort.seen g.D.Link.Link.told g.D.Link.Link.counts g.D.Door.told desk w.terms g.P.StreamPort.fits w.bench sound c.requires works)
+    (settles rules root g.P.StreamPort.seen g.D.Link.Link.told g.D.Link.Link.counts g.D.Door.told desk w.terms g.P.StreamPort.fits w.bench sound c.requires
+    works)

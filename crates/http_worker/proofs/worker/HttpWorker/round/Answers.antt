@@ -28,7 +28,8 @@ returns-clause-keeps g c =
     (record {
       terms = refl;
       port = ahead_trans fits rules root c.self.inside.bench.port c.admit.new.self.port c.close_all.new.self.port c.admit.ensures.ahead
-          (ahead_trans fits rules root c.admit.new.self.port c.turn_all.new.self.port c.close_all.new.self.port c.turn_all.ensures.ahead c.close_all.ensures.ahead);
+          (ahead_trans fits rules root c.admit.new.self.port c.turn_all.new.self.port c.close_all.new.self.port c.turn_all.ensures.ahead
+          c.close_all.ensures.ahead);
     })
 
 pub returns-clause-books : goal.returns-clause-books
@@ -41,5 +42,6 @@ returns-clause-books g c works =
     let r = returns-clause-rounds g c in
     let sound = subst (λ v. IsSound fits rules g.D.Door.told v.terms v.bench) c.self.view_is c.self.invariant in
     subst (λ t. Works rules root g.P.StreamPort.seen g.D.Link.Link.told g.D.Link.Link.counts g.D.Door.told desk t c.close_all.new.self) (sym r.terms)
-    (round_works rules root g.P.StreamPort.seen g.D.Link.Link.told g.D.Link.Link.counts g.D.Door.told desk w.terms fits g.P.StreamPort.count g.P.StreamPort.wants g.P.StreamPort.busies
+    (round_works rules root g.P.StreamPort.seen g.D.Link.Link.told g.D.Link.Link.counts g.D.Door.told desk w.terms fits g.P.StreamPort.count
+    g.P.StreamPort.wants g.P.StreamPort.busies
     g.D.Link.Link.hears c.link_law.ensures.heard g.D.Link.Link.says c.link_law.ensures.said fits w _ c.round.result refl sound r works)

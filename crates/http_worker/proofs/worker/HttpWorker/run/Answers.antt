@@ -1,4 +1,4 @@
-use Rattle.std.proofs.Common.{ap, length, subst, sym}
+use Rattle.std.proofs.Common.{ap, subst, sym}
 use Rattle.stream_registry.specs.Names.{places}
 use Rattle.relay_worker.proofs.Sounding.{offered_on}
 use Rattle.http_worker.specs.Books.{HasBooks}
@@ -7,18 +7,22 @@ use Rattle.http_worker.proofs.Sounding.{has_run, keeps_trans}
 use Rattle.http_worker.proofs.worker.HttpWorker.run.Goals as goal
 
 pub returns-then-round-eq0-clause-keeps : goal.returns-then-round-eq0-clause-keeps
-returns-then-round-eq0-clause-keeps g c = keeps_trans g.P.StreamPort.fits g.P.StreamPort.rules g.P.StreamPort.root c.args.self.now c.loop.self c.round-round.new.self c.loop.invariant.keeps c.round-round.ensures.keeps
+returns-then-round-eq0-clause-keeps g c = keeps_trans g.P.StreamPort.fits g.P.StreamPort.rules g.P.StreamPort.root c.args.self.now c.loop.self
+    c.round-round.new.self c.loop.invariant.keeps c.round-round.ensures.keeps
 
 pub returns-then-round-eq0-clause-run : goal.returns-then-round-eq0-clause-run
 returns-then-round-eq0-clause-run g c =
-    has_run g.D.Link.Link.told g.D.Link.Link.counts g.D.Door.told _ _ g.P.StreamPort.fits g.P.StreamPort.rules c.loop.self c.round-round.new.self c.round-round.result c.round-round.ensures.rounds c.law.ensures c.if-round.true c.if-round-eq0.true
+    has_run g.D.Link.Link.told g.D.Link.Link.counts g.D.Door.told _ _ g.P.StreamPort.fits g.P.StreamPort.rules c.loop.self c.round-round.new.self
+    c.round-round.result c.round-round.ensures.rounds c.law.ensures c.if-round.true c.if-round-eq0.true
 
 pub loop-preserved : goal.loop-preserved
 loop-preserved g c =
     let e = c.round-round.ensures.keeps in
     record {
-      offered = offered_on (g.G.Desk.grants c.args.desk.now) (places (g.P.StreamPort.rules c.loop.self.bench.port)) (places (g.P.StreamPort.rules c.round-round.new.self.bench.port)) (ap places e.port.fixed) c.loop.invariant.offered;
-      keeps = keeps_trans g.P.StreamPort.fits g.P.StreamPort.rules g.P.StreamPort.root c.args.self.now c.loop.self c.round-round.new.self c.loop.invariant.keeps e;
+      offered = offered_on (g.G.Desk.grants c.args.desk.now) (places (g.P.StreamPort.rules c.loop.self.bench.port))
+          (places (g.P.StreamPort.rules c.round-round.new.self.bench.port)) (ap places e.port.fixed) c.loop.invariant.offered;
+      keeps = keeps_trans g.P.StreamPort.fits g.P.StreamPort.rules g.P.StreamPort.root c.args.self.now c.loop.self c.round-round.new.self
+          c.loop.invariant.keeps e;
       books = λ b. c.round-round.ensures.books (c.loop.invariant.books b);
     }
 
@@ -26,11 +30,15 @@ pub loop-preserved-then-not-round : goal.loop-preserved-then-not-round
 loop-preserved-then-not-round g c =
     let e = c.round-round.ensures.keeps in
     record {
-      offered = offered_on (g.G.Desk.grants c.args.desk.now) (places (g.P.StreamPort.rules c.round-round.new.self.bench.port)) (places (g.P.StreamPort.rules c.pause.new.self.bench.port)) (ap (λ w. places (g.P.StreamPort.rules w.bench.port)) c.pause.ensures)
-          (offered_on (g.G.Desk.grants c.args.desk.now) (places (g.P.StreamPort.rules c.loop.self.bench.port)) (places (g.P.StreamPort.rules c.round-round.new.self.bench.port)) (ap places e.port.fixed) c.loop.invariant.offered);
+      offered = offered_on (g.G.Desk.grants c.args.desk.now) (places (g.P.StreamPort.rules c.round-round.new.self.bench.port))
+          (places (g.P.StreamPort.rules c.pause.new.self.bench.port)) (ap (λ w. places (g.P.StreamPort.rules w.bench.port)) c.pause.ensures)
+          (offered_on (g.G.Desk.grants c.args.desk.now) (places (g.P.StreamPort.rules c.loop.self.bench.port))
+          (places (g.P.StreamPort.rules c.round-round.new.self.bench.port)) (ap places e.port.fixed) c.loop.invariant.offered);
       keeps = subst (λ w. KeepsOn g.P.StreamPort.fits g.P.StreamPort.rules g.P.StreamPort.root c.args.self.now w) (sym c.pause.ensures)
-          (keeps_trans g.P.StreamPort.fits g.P.StreamPort.rules g.P.StreamPort.root c.args.self.now c.loop.self c.round-round.new.self c.loop.invariant.keeps e);
-      books = λ b. subst (λ w. HasBooks g.P.StreamPort.rules g.P.StreamPort.root g.P.StreamPort.seen g.D.Link.Link.told g.D.Link.Link.counts g.D.Door.told (g.G.Desk.grants c.args.desk.now) w) (sym c.pause.ensures)
+          (keeps_trans g.P.StreamPort.fits g.P.StreamPort.rules g.P.StreamPort.root c.args.self.now c.loop.self c.round-round.new.self
+          c.loop.invariant.keeps e);
+      books = λ b. subst (λ w. HasBooks g.P.StreamPort.rules g.P.StreamPort.root g.P.StreamPort.seen g.D.Link.Link.told g.D.Link.Link.counts g.D.Door.told
+          (g.G.Desk.grants c.args.desk.now) w) (sym c.pause.ensures)
           (c.round-round.ensures.books (c.loop.invariant.books b));
     }
 

@@ -8,6 +8,8 @@ abbrev pub invariant-loop : goal.invariant-loop
 invariant-loop g l = record {
   offered : IsOffered (g.G.Desk.grants l.desk) (places (g.P.StreamPort.rules l.self.bench.port));
   keeps : KeepsOn g.P.StreamPort.fits g.P.StreamPort.rules g.P.StreamPort.root l.fn.self l.self;
-  books : HasBooks g.P.StreamPort.rules g.P.StreamPort.root g.P.StreamPort.seen g.D.Link.Link.told g.D.Link.Link.counts g.D.Door.told (g.G.Desk.grants l.desk) l.fn.self
-      → HasBooks g.P.StreamPort.rules g.P.StreamPort.root g.P.StreamPort.seen g.D.Link.Link.told g.D.Link.Link.counts g.D.Door.told (g.G.Desk.grants l.desk) l.self;
+  books : HasBooks g.P.StreamPort.rules g.P.StreamPort.root g.P.StreamPort.seen g.D.Link.Link.told g.D.Link.Link.counts g.D.Door.told
+      (g.G.Desk.grants l.desk) l.fn.self
+      → HasBooks g.P.StreamPort.rules g.P.StreamPort.root g.P.StreamPort.seen g.D.Link.Link.told g.D.Link.Link.counts g.D.Door.told (g.G.Desk.grants l.desk)
+      l.self;
 }

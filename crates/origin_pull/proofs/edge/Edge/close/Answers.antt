@@ -12,7 +12,8 @@ invariant_of-self g c =
     let b = i.body in
     let l = c.leave in
     subst (λ (e : EdgeEnd). HasEnded e (record b.core { kept = l.new.kept }) b.client) (sym c.end_or_closed.ensures)
-    (closed i.ended b.core l.new.kept b.client (place_of b.seat.spot) l.result b.core.who 0 b.seat.active l.new.self.active b.seat.visits l.new.self.visits l.ensures.leaves c.self.invariant)
+    (closed i.ended b.core l.new.kept b.client (place_of b.seat.spot) l.result b.core.who 0 b.seat.active l.new.self.active b.seat.visits
+    l.new.self.visits l.ensures.leaves c.self.invariant)
 
 pub returns-clause-stands : goal.returns-clause-stands
 returns-clause-stands g c =
@@ -21,4 +22,5 @@ returns-clause-stands g c =
     let l = c.leave in
     living_stands (Some c.end_or_closed.result) (record b.core { kept = l.new.kept }) b.client
     (subst (λ (e : EdgeEnd). HasEnded e (record b.core { kept = l.new.kept }) b.client) (sym c.end_or_closed.ensures)
-    (closed i.ended b.core l.new.kept b.client (place_of b.seat.spot) l.result b.core.who 0 b.seat.active l.new.self.active b.seat.visits l.new.self.visits l.ensures.leaves c.self.invariant))
+    (closed i.ended b.core l.new.kept b.client (place_of b.seat.spot) l.result b.core.who 0 b.seat.active l.new.self.active b.seat.visits
+    l.new.self.visits l.ensures.leaves c.self.invariant))

@@ -11,4 +11,5 @@ returns-in-Some-clause-stands g c =
 pub returns-in-None-clause-stands : goal.returns-in-None-clause-stands
 returns-in-None-clause-stands g c =
     let k = c.turn_on-answer in
-    living_stands c.end_in-self-inside.result k.new.body.core k.new.body.client (living_then k.result c.end_in-self-inside.result k.new.body.core k.new.body.client c.end_in-self-inside.ensures k.ensures.sound)
+    living_stands c.end_in-self-inside.result k.new.body.core k.new.body.client
+    (living_then k.result c.end_in-self-inside.result k.new.body.core k.new.body.client c.end_in-self-inside.ensures k.ensures.sound)
