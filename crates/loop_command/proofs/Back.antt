@@ -1,5 +1,6 @@
 -- What a film becomes that comes back
-use Rattle.std.proofs.Common.{◌≡◌, ◌≢◌, inl, inr, ℕ, zero, suc, ◌+◌, ◌≤◌, Bool, true, false, nat_eq, if◌then◌else◌, List, [], ◌∷◌, ◌++◌, length, map, reverse, refl, sym, ap, ◌∙◌, subst, arith, append-nil, length-append}
+use Rattle.std.proofs.Common.{◌≡◌, ◌≢◌, inl, inr, ℕ, zero, suc, ◌+◌, ◌≤◌, Bool, true, false, nat_eq, if◌then◌else◌, List, [], ◌∷◌, ◌++◌, length, map, reverse}
+use Rattle.std.proofs.Common.{refl, sym, ap, ◌∙◌, subst, arith, append-nil, length-append}
 use Rattle.std.specs.Prelude.{flat_map}
 use Rattle.std.proofs.lemmas.List.{reverse-append, reverse-reverse}
 use Rattle.av_unit.specs.Media.{Media}
@@ -57,7 +58,13 @@ told_first (g ∷ gs) hs (i ∷ items) e =
     let first : g ≡ gift_of i = cc in
     let rest : gs ++ hs ≡ gifts_of items = cc in
     let t = told_first gs hs items rest in
-    record { told = i ∷ t.told; later = t.later; all = ap (λ (l : List Item). i ∷ l) t.all; gifts = ap (λ (l : List Gift). gift_of i ∷ l) t.gifts ∙ ap (λ (x : Gift). x ∷ gs) (sym first) }
+    record {
+      told = i ∷ t.told;
+      later = t.later;
+      all = ap (λ (l : List Item). i ∷ l) t.all;
+      gifts = ap (λ (l : List Gift). gift_of i ∷ l) t.gifts
+          ∙ ap (λ (x : Gift). x ∷ gs) (sym first);
+    }
 
 gifts_long : (items : List Item) → length (gifts_of items) ≡ length items
 unfolding gifts_of
@@ -177,7 +184,8 @@ pub none_in : (limits : Shape) (calls : List Step) → StandIn limits calls [] �
 none_in limits [] s = refl
 none_in limits (c ∷ calls) s = absurd s
 
-at_first : (place : ℕ) (step : Step) (vs : List Visit) → ((q : ℕ) → q ≢ 0 → calls_at q ((place, step) ∷ vs) ≡ []) → (place ≡ 0) × ((q : ℕ) → q ≢ 0 → calls_at q vs ≡ [])
+at_first : (place : ℕ) (step : Step) (vs : List Visit) → ((q : ℕ) → q ≢ 0 → calls_at q ((place, step) ∷ vs) ≡ [])
+    → (place ≡ 0) × ((q : ℕ) → q ≢ 0 → calls_at q vs ≡ [])
 at_first zero step vs h = (refl, λ q n. by_test q (nat_eq 0 q) (h q n))
   where
     by_test : (q : ℕ) (b : Bool) → (if b then step ∷ calls_at q vs else calls_at q vs) ≡ [] → calls_at q vs ≡ []
@@ -192,7 +200,8 @@ pub all_here : (vs : List Visit) → ((q : ℕ) → q ≢ 0 → calls_at q vs �
 all_here [] h = refl
 all_here (v ∷ vs) h = one v.0 v.1 (at_first v.0 v.1 vs h) (all_here vs (at_first v.0 v.1 vs h).1)
   where
-    one : (place : ℕ) (step : Step) → (place ≡ 0) × ((q : ℕ) → q ≢ 0 → calls_at q vs ≡ []) → calls_at 0 vs ≡ map (λ (w : Visit). w.1) vs → calls_at 0 ((place, step) ∷ vs) ≡ step ∷ map (λ (w : Visit). w.1) vs
+    one : (place : ℕ) (step : Step) → (place ≡ 0) × ((q : ℕ) → q ≢ 0 → calls_at q vs ≡ []) → calls_at 0 vs ≡ map (λ (w : Visit). w.1) vs
+        → calls_at 0 ((place, step) ∷ vs) ≡ step ∷ map (λ (w : Visit). w.1) vs
     one zero step f e = ap (λ (l : List Step). step ∷ l) e
     one (suc place) step f e = absurd (omega (arith, f.0))
 

@@ -22,7 +22,7 @@ use Rattle.client_command.proofs.Pushed.{new_open}
 use Rattle.client_command.proofs.Writing.{append_known_nil}
 use Rattle.loop_command.specs.Course.{IsFirst, IsFirstLine, new_link}
 use Rattle.loop_command.specs.Desk.{asked_by, limits, one_name, player, publisher}
-use Rattle.loop_command.specs.Lines.{AreFew, ArePassed, IsPassed, Serves}
+use Rattle.loop_command.specs.Lines.{AreFew, ArePassed, IsPassed, Serves, Works}
 use Rattle.loop_command.specs.Newly.{IsNewLine, IsNewPort, IsNewSession, fresh_line}
 use Rattle.loop_command.specs.Rounds.{AreWritable, CanPush, IsNewRun, IsRun, IsSound, IsTold, PushesOf}
 use Rattle.loop_command.specs.declared.line.Line.{Line}
@@ -41,6 +41,7 @@ new_passed_one m n e f = record {
   none = ap (λ (x : MemLinkState). x.sent) e;
   total_is = sym (ap (λ (x : MemLinkState). length x.handed) e);
   few = omega arith;
+  works = subst Works (sym e) (record { receives = refl; sends = refl; lasts = refl });
 }
 
 pub new_passed : (l : Line) → l.near ≡ new_link → l.far ≡ new_link → l.forth ≡ 0 → l.back ≡ 0 → ArePassed l
@@ -49,7 +50,8 @@ new_passed l e f n m = record {
   back = subst (λ (k : ℕ). IsPassed l.far l.near k) (sym m) (new_passed_one l.far l.near f e);
 }
 
-first_line : (w : Wish) (who : ℕ) (l : Line) → l.client.parts.asked ≡ asked_by w → IsNew l.client → l.near ≡ new_link → IsNewSession who l.session → l.far ≡ new_link → IsFirstLine w who l
+first_line : (w : Wish) (who : ℕ) (l : Line) → l.client.parts.asked ≡ asked_by w → IsNew l.client → l.near ≡ new_link → IsNewSession who l.session
+    → l.far ≡ new_link → IsFirstLine w who l
 first_line w who l asked client near s far = record {
   asked = asked;
   client = client;
@@ -67,7 +69,8 @@ first_line w who l asked client near s far = record {
   far = far;
 }
 
-pub line_begins : (w : Wish) (who : ℕ) (c : ClientState) (s : SessionState SeenState) (l : Line) → l ≡ fresh_line c s → c.parts.asked ≡ asked_by w → IsNew c → IsLive c → IsNewSession who s → IsNewLine w who l
+pub line_begins : (w : Wish) (who : ℕ) (c : ClientState) (s : SessionState SeenState) (l : Line) → l ≡ fresh_line c s → c.parts.asked ≡ asked_by w
+    → IsNew c → IsLive c → IsNewSession who s → IsNewLine w who l
 line_begins w who c s l e asked new live fresh =
     subst (IsNewLine w who) (sym e) (record {
       passed = new_passed (fresh_line c s) refl refl refl refl;
@@ -126,8 +129,11 @@ begins_run r held b =
       told = subst (λ (o : Bool). IsTold o r.begun r.pull.client.parts.taken held held) (sym b.over)
           (subst (λ (o : Bool). IsTold false o r.pull.client.parts.taken held held) (sym b.begun) (none_told r.pull.client.parts.taken held taken));
       few = omega (arith, b.told);
-      pushes = subst (λ (s : Stage). PushesOf s r.tags.items r.tags.items r.push.client r.push.near) (sym b.stage)
-          (b.push.runs, ap (λ (k : Keeps). k.finished) b.push.first.client.keeps, none_given r.push.client.parts.gave r.tags.items (ap (λ (p : Past). p.gave) b.push.first.client.past));
+      pushes = subst (λ (s : Stage). PushesOf s r.tags.items r.tags.items r.push.client r.push.near) (sym b.stage) (
+        b.push.runs,
+        ap (λ (k : Keeps). k.finished) b.push.first.client.keeps,
+        none_given r.push.client.parts.gave r.tags.items (ap (λ (p : Past). p.gave) b.push.first.client.past),
+      );
     }
 
 pub begins_first : (r : Run) → Begins r → IsFirst r.tags.items r
@@ -146,7 +152,8 @@ begins_first r b = record {
 abbrev rules_of : List Name → List OpenName → SoleRules
 rules_of names opens = record { names = names; opens = opens; limits = limits }
 
-pub begins_new : (r : Run) → IsNewPort r.port → IsNewLine wish.Pull player r.pull → IsNewLine wish.Push publisher r.push → r.stage ≡ Giving → r.begun ≡ false → r.over ≡ false → r.told ≡ 0 → AreWritable r.tags.items → IsNewRun r.tags.items r
+pub begins_new : (r : Run) → IsNewPort r.port → IsNewLine wish.Pull player r.pull → IsNewLine wish.Push publisher r.push → r.stage ≡ Giving
+    → r.begun ≡ false → r.over ≡ false → r.told ≡ 0 → AreWritable r.tags.items → IsNewRun r.tags.items r
 begins_new r port pull push stage begun over told fine =
     let b : Begins r = record { port = port; pull = pull; push = push; stage = stage; begun = begun; over = over; told = told } in
     record { sound = begins_sound r b fine; is_run = λ held. begins_run r held b; first = begins_first r b }
@@ -154,7 +161,8 @@ begins_new r port pull push stage begun over told fine =
 -- ---- its port
 
 pub few_names : (names : List Name) (opens : List OpenName) → names ≡ one_name ∷ [] → opens ≡ [] → AreFewNames names opens
-few_names names opens e f = subst (λ (o : List OpenName). AreFewNames names o) (sym f) (subst (λ (n : List Name). AreFewNames n []) (sym e) (record { some = tt; most = omega arith }))
+few_names names opens e f = subst (λ (o : List OpenName). AreFewNames names o) (sym f)
+    (subst (λ (n : List Name). AreFewNames n []) (sym e) (record { some = tt; most = omega arith }))
 
 pub new_port : {E : Type 0} → (v : Result SoleState E) (names : List Name) (opens : List OpenName) → names ≡ one_name ∷ [] → opens ≡ []
     → IfOk v (λ s. (s.rules ≡ record { names = names; opens = opens; limits = limits }) × ((q : ℕ) → journal_at s.books q ≡ [])) → IfOk v IsNewPort

@@ -1,5 +1,6 @@
 -- How many bytes a film has, and why it is refused
-use Rattle.std.proofs.Common.{◌≡◌, inl, inr, ℕ, ◌+◌, ◌<◌, ◌≤◌, min, Bool, true, false, nat_lt, List, [], ◌∷◌, ◌++◌, length, map, drop, Option, Some, None, Ok, Err, refl, sym, ap, ◌∙◌, subst, arith, length-append}
+use Rattle.std.proofs.Common.{◌≡◌, inl, inr, ℕ, ◌+◌, ◌<◌, ◌≤◌, min, Bool, true, false, nat_lt, List, [], ◌∷◌, ◌++◌, length, map, drop, Option, Some, None, Ok}
+use Rattle.std.proofs.Common.{Err, refl, sym, ap, ◌∙◌, subst, arith, length-append}
 use Rattle.std.specs.List.{AllByRecursion, concat}
 use Rattle.std.proofs.lemmas.Bool.Decides.{nat_tests}
 use Rattle.std.proofs.lemmas.List.{length-drop, length-take}
@@ -63,14 +64,16 @@ refused_at read at tags left h = by_test (nat_lt at most_bytes) refl
         let more : most_bytes ≤ at = grind (arith, nat_tests, t) in
         inr (omega (arith, more), tags, inr (at, more, h))
 
-pub next_stops : (stop : CommandStop) (tags : List Tag) (read : List ℕ) (start left : Option (List ℕ)) (n n' : ℕ) → WasRead read start left → NextStops stop tags read left n n' → ReadStops (stop_within stop) start left n n'
+pub next_stops : (stop : CommandStop) (tags : List Tag) (read : List ℕ) (start left : Option (List ℕ)) (n n' : ℕ) → WasRead read start left
+    → NextStops stop tags read left n n' → ReadStops (stop_within stop) start left n n'
 next_stops command.Client tags read start left n n' w h = absurd h
 next_stops (command.Refused at) tags read start left n n' w h = ((read, w, refused_at read at tags left h.0), h.1)
 next_stops command.Source tags read start left n n' w h = h.1
 next_stops command.Sink tags read start left n n' w h = absurd h
 next_stops command.Memory tags read start left n n' w h = h.1
 
-pub next_goes : (o : Option Tag) (f g : Film) (start left : Option (List ℕ)) (n n' : ℕ) → MayGo g o → ReadsNext (Ok o) f g start left n n' → NextBy (Ok o) f g start left n n'
+pub next_goes : (o : Option Tag) (f g : Film) (start left : Option (List ℕ)) (n n' : ℕ) → MayGo g o → ReadsNext (Ok o) f g start left n n'
+    → NextBy (Ok o) f g start left n n'
 next_goes (Some t) f g start left n n' m r = (m, r.0, r.1, r.2)
 next_goes None f g start left n n' m r = ((r.0.0, r.0.1, r.0.2), r.1)
 
@@ -83,14 +86,16 @@ none_counted r e n = record {
   writable = subst AreWritable (sym e) tt;
 }
 
-pub counted_more : (r s : Reading) (t : Tag) → IsCounted r → IsWritable t → (s.tags.items ≡ r.tags.items ++ t ∷ []) × (s.bytes ≡ r.bytes + tag_length t) × (s.bytes ≤ most_bytes) → IsCounted s
+pub counted_more : (r s : Reading) (t : Tag) → IsCounted r → IsWritable t
+    → (s.tags.items ≡ r.tags.items ++ t ∷ []) × (s.bytes ≡ r.bytes + tag_length t) × (s.bytes ≤ most_bytes) → IsCounted s
 counted_more r s t c w a = record {
   bytes = omega (arith, a.1, c.bytes, film_more r.tags.items t, ap film_length a.0);
   short = a.2;
   writable = subst AreWritable (sym a.0) (writable_more r.tags.items t c.writable w);
 }
 
-pub whole_read : (r : Reading) (f g : Film) (start left : Option (List ℕ)) (m n n' : ℕ) → IsCounted r → r.tags.items ≡ f.reader.given → n ≡ m → NextBy (Ok None) f g start left n n' → ReadsWhole r start left m n'
+pub whole_read : (r : Reading) (f g : Film) (start left : Option (List ℕ)) (m n n' : ℕ) → IsCounted r → r.tags.items ≡ f.reader.given → n ≡ m
+    → NextBy (Ok None) f g start left n n' → ReadsWhole r start left m n'
 whole_read r f g start left m n n' c items e h =
     let whole : IsWhole h.0.0 r.tags.items left = subst (λ (tags : List Tag). IsWhole h.0.0 tags left) (sym items) h.0.2 in
     let count : length h.0.0 ≡ film_length r.tags.items = file_length h.0.0 r.tags.items whole.file in
@@ -104,14 +109,33 @@ whole_read r f g start left m n n' c items e h =
       faults = h.1 ∙ e;
     }
 
-pub too_many : (stop : Stop) (t : Tag) (r s : Reading) (f g : Film) (start left : Option (List ℕ)) (m n n' : ℕ) → IsCounted r → r.tags.items ≡ f.reader.given → n ≡ m → AddsTag (Err stop) t r s → NextBy (Ok (Some t)) f g start left n n'
+pub too_many : (stop : Stop) (t : Tag) (r s : Reading) (f g : Film) (start left : Option (List ℕ)) (m n n' : ℕ) → IsCounted r
+    → r.tags.items ≡ f.reader.given → n ≡ m → AddsTag (Err stop) t r s → NextBy (Ok (Some t)) f g start left n n'
     → ReadStops stop start left m n'
 too_many (Refused at) t r s f g start left m n n' c items e a h =
     let given : g.reader.given ≡ r.tags.items ++ t ∷ [] = h.2 ∙ ap (λ (tags : List Tag). tags ++ t ∷ []) (sym items) in
     let x = h.0.0.stands in
     let least : film_length g.reader.given ≤ length g.reader.fed = reads_length g.reader.fed r.tags.items t g.reader.given x.0 given x.1 in
-    let long : most_bytes < length g.reader.fed = omega (arith, a.1, least, c.bytes, film_more r.tags.items t, ap film_length given) in
-    ((came_of g, h.1, inr (a.0, g.reader.given, inl (record { front = g.reader.fed; behind = g.ahead; parts = refl; long = long; rest = x.0; reads = x.1 }))), h.3 ∙ e)
+    let long : most_bytes < length g.reader.fed = omega (arith, a.1, least, c.bytes, film_more r.tags.items t, ap film_length given) in (
+      (
+        came_of g,
+        h.1,
+        inr (
+          a.0,
+          g.reader.given,
+          inl (record {
+            front = g.reader.fed;
+            behind = g.ahead;
+            parts = refl;
+            long = long;
+            rest = x.0;
+            reads =
+                x.1;
+          }),
+        ),
+      ),
+      h.3 ∙ e,
+    )
 too_many Source t r s f g start left m n n' c items e a h = absurd a
 too_many Sink t r s f g start left m n n' c items e a h = absurd a
 too_many Memory t r s f g start left m n n' c items e a h = h.3 ∙ e

@@ -27,27 +27,35 @@ use Rattle.loop_command.proofs.Laws.{PullLaw, PushLaw, ReadableLaw, looped}
 use Rattle.loop_command.proofs.Sessions.{one_place, serves_on}
 
 module _ (push_law : PushLaw) (pull_law : PullLaw) (readable : ReadableLaw) where
-  finished : (file : List Tag) (run : Run) (old now : Option (List ℕ)) (history : List Step) → IsRun file run old now → IsSettled run → Keeps shape history → HaveRoom max_message history
-      → SessionSide publisher run.push.far run.push.session.parts.x run.push.session.parts.calls history → SessionSide player run.pull.far run.pull.session.parts.x run.pull.session.parts.calls history
+  finished : (file : List Tag) (run : Run) (old now : Option (List ℕ)) (history : List Step) → IsRun file run old now → IsSettled run
+      → Keeps shape history → HaveRoom max_message history
+      → SessionSide publisher run.push.far run.push.session.parts.x run.push.session.parts.calls history
+      → SessionSide player run.pull.far run.pull.session.parts.x run.pull.session.parts.calls history
       → length (items_sent run.pull.session.parts.calls) ≤ run.told → IsLooped file (text_of run)
   finished file run old now history r s keeps room p q few =
       let c = run.pull.client.parts in
       let told : IsTold true run.begun c.taken old now = subst (λ (b : Bool). IsTold b run.begun c.taken old now) s.over_is r.told in
       let taken : c.taken ≡ told.0.0 ++ gift.Unpublished ∷ [] = told.0.1 in
-      let pushes : PushesOf Done file run.tags.items run.push.client run.push.near = subst (λ (x : Stage). PushesOf x file run.tags.items run.push.client run.push.near) s.stage_is r.pushes in
+      let pushes : PushesOf Done file run.tags.items run.push.client run.push.near =
+      subst (λ (x : Stage). PushesOf x file run.tags.items run.push.client run.push.near) s.stage_is r.pushes in
       let gifts : gifts_of c ≡ (told.0.0 ++ gift.Unpublished ∷ []) ++ listed c.gift = ap (λ (l : List Gift). l ++ listed c.gift) taken in
       let side : ClientSide puller run.pull.near [] ((told.0.0 ++ gift.Unpublished ∷ []) ++ listed c.gift) c.outgoing.pending =
       subst (λ (l : List Gift). ClientSide puller run.pull.near [] l c.outgoing.pending) gifts
-      (subst (λ (T : List Gave). ClientSide puller run.pull.near T (gifts_of c) c.outgoing.pending) r.gave_none (side_of puller run.pull.client run.pull.near r.pulls)) in
+      (subst (λ (T : List Gave). ClientSide puller run.pull.near T (gifts_of c) c.outgoing.pending) r.gave_none
+      (side_of puller run.pull.client run.pull.near r.pulls)) in
       subst (λ (l : List Gift). IsLooped file (pull_text l)) (sym taken)
-      (looped push_law pull_law readable history room file pushes.0 pushes.1 told.0.0 (listed c.gift) c.outgoing.pending run.push.near run.push.far run.pull.near run.pull.far
-      run.push.forth run.push.back run.pull.forth run.pull.back run.push.session.parts.x run.pull.session.parts.x run.push.session.parts.calls run.pull.session.parts.calls keeps pushes.4 pushes.3 pushes.2 p
+      (looped push_law pull_law readable history room file pushes.0 pushes.1 told.0.0 (listed c.gift) c.outgoing.pending run.push.near run.push.far
+      run.pull.near run.pull.far
+      run.push.forth run.push.back run.pull.forth run.pull.back run.push.session.parts.x run.pull.session.parts.x run.push.session.parts.calls
+      run.pull.session.parts.calls keeps pushes.4 pushes.3 pushes.2 p
       r.push_passed.forth r.push_passed.back s.came side s.pulls q r.pull_passed.forth r.pull_passed.back (omega (arith, few, r.few, ap length taken)))
 
   -- THE ENDING of a run: the stream is asked for its counts, the sessions end, and its history is looked through
-  pub ended : (file : List Tag) (run : Run) (old now : Option (List ℕ)) (a b c : SoleState) (f g : MemLinkState) → sole_rules run.port.rules ≡ rules → IsRun file run old now → IsSettled run
+  pub ended : (file : List Tag) (run : Run) (old now : Option (List ℕ)) (a b c : SoleState) (f g : MemLinkState) → sole_rules run.port.rules ≡ rules
+      → IsRun file run old now → IsSettled run
       → GoesAhead run.port a → Keeps shape (journal_at a.books 0)
-      → (Serves publisher a run.push.session run.push.far → SessionSide publisher f run.push.session.parts.x run.push.session.parts.calls (journal_at a.books 0))
+      → (Serves publisher a run.push.session run.push.far → SessionSide publisher f run.push.session.parts.x run.push.session.parts.calls
+      (journal_at a.books 0))
       → (Serves publisher a run.push.session run.push.far → b ≡ a) → (Serves publisher a run.push.session run.push.far → f ≡ run.push.far)
       → (Serves player b run.pull.session run.pull.far → SessionSide player g run.pull.session.parts.x run.pull.session.parts.calls (journal_at b.books 0))
       → (Serves player b run.pull.session run.pull.far → c ≡ b) → (Serves player b run.pull.session run.pull.far → g ≡ run.pull.far)

@@ -1,5 +1,6 @@
 -- The sessions of a loop call at its one stream alone
-use Rattle.std.proofs.Common.{◌≡◌, ◌≢◌, ℕ, Bool, true, false, ◌&&◌, if◌then◌else◌, List, [], codes, Option, Some, None, Result, Ok, Err, refl, sym, ap, ◌∙◌, subst, arith}
+use Rattle.std.proofs.Common.{◌≡◌, ◌≢◌, ℕ, Bool, true, false, ◌&&◌, if◌then◌else◌, List, codes, Option, Some, None, Result, Ok, Err, refl, sym, ◌∙◌}
+use Rattle.std.proofs.Common.{subst, arith}
 use Rattle.ack_window.specs.declared.control.BadControl.{BadControl}
 use Rattle.ack_window.specs.declared.control.Control.{Control}
 use Rattle.ack_window.specs.Controls.{control_in}
@@ -55,7 +56,8 @@ granted_home a p e =
     let f : granted a ≡ grant.Place p = cc in
     test_home (is_text a.app (codes "live") && is_text a.name (codes "cam")) p f
 
-act_home : (place : Option ℕ) (r : Role) (name : List ℕ) (g : Option Grant) → GrantsHome g → IsHome place → IsHome (session.place_of place (dialog.calls_by r name g))
+act_home : (place : Option ℕ) (r : Role) (name : List ℕ) (g : Option Grant) → GrantsHome g → IsHome place
+    → IsHome (session.place_after place (dialog.calls_by r name g))
 act_home place role.Publish name (Some (grant.Place p)) g h = λ q e. let f : p ≡ q = cc in sym f ∙ g p refl
 act_home place role.Play name (Some (grant.Place p)) g h = λ q e. let f : p ≡ q = cc in sym f ∙ g p refl
 act_home place role.Publish name (Some grant.Refused) g h = h
@@ -65,25 +67,26 @@ act_home place role.Play name (Some grant.NoName) g h = h
 act_home place role.Publish name None g h = h
 act_home place role.Play name None g h = h
 
-ends_home : (place : Option ℕ) (id : ℕ) (p : Phase) → IsHome place → IsHome (session.place_of place (dialog.ends id p))
+ends_home : (place : Option ℕ) (id : ℕ) (p : Phase) → IsHome place → IsHome (session.place_after place (dialog.ends id p))
 ends_home place id (phase.Publishes n size) h = by_test (Rattle.std.proofs.Common.nat_eq n id)
   where
-    by_test : (b : Bool) → IsHome (session.place_of place (if b then Some act.End else None))
+    by_test : (b : Bool) → IsHome (session.place_after place (if b then Some act.End else None))
     by_test true = h
     by_test false = h
 ends_home place id (phase.Plays p) h = by_test (Rattle.std.proofs.Common.nat_eq p.id id)
   where
-    by_test : (b : Bool) → IsHome (session.place_of place (if b then Some (act.Leave p.player) else None))
+    by_test : (b : Bool) → IsHome (session.place_after place (if b then Some (act.Leave p.player) else None))
     by_test true = h
     by_test false = h
 ends_home place id phase.Idle h = h
 ends_home place id (phase.Asked r n) h = h
 
-media_home : (place : Option ℕ) (u : Option Media) → IsHome place → IsHome (session.place_of place (Rattle.std.specs.Option.option_map act.Push u))
+media_home : (place : Option ℕ) (u : Option Media) → IsHome place → IsHome (session.place_after place (Rattle.std.specs.Option.option_map act.Push u))
 media_home place None h = h
 media_home place (Some u) h = h
 
-makes_home : (place : Option ℕ) (s : State) (m : Message) (x : Meant) → IsHome place → IsHome (session.place_of place (dialog.makes s m (dialog.granted granted x) x))
+makes_home : (place : Option ℕ) (s : State) (m : Message) (x : Meant) → IsHome place
+    → IsHome (session.place_after place (dialog.makes s m (dialog.granted granted x) x))
 unfolding Rattle.command_dialog.specs.Dialog.makes
 makes_home place s m meant.Passed h = h
 makes_home place s m (meant.Connects transaction app) h = h
@@ -94,7 +97,8 @@ makes_home place s m (meant.Closes id) h = ends_home place id s.phase h
 makes_home place s m (meant.Turns p) h = h
 makes_home place s m meant.Media h = media_home place (dialog.published_in s.phase m) h
 
-does_home : (place : Option ℕ) (s : State) (m : Message) (r : Result Meant DialogFail) → IsHome place → IsHome (session.place_of place (dialog.does_by granted s m r).makes)
+does_home : (place : Option ℕ) (s : State) (m : Message) (r : Result Meant DialogFail) → IsHome place
+    → IsHome (session.place_after place (dialog.does_by granted s m r).makes)
 does_home place s m (Ok x) h = makes_home place s m x h
 does_home place s m (Err e) h = h
 
@@ -104,7 +108,8 @@ control_home place s m (Ok None) h = does_home place s m (meaning s m) h
 control_home place s m (Ok (Some c)) h = h
 control_home place s m (Err e) h = h
 
-pub heard_home : (s : State) (place : Option ℕ) (m : Message) (x : SoleState) (t : SeatState SeenState) → StaysHome place x t → StaysHome (place_by granted s place m) x t
+pub heard_home : (s : State) (place : Option ℕ) (m : Message) (x : SoleState) (t : SeatState SeenState) → StaysHome place x t
+    → StaysHome (place_by granted s place m) x t
 unfolding Rattle.relay_session.specs.Session.place_by
 heard_home s place m x t h = record { place = control_home place s m (control_in m) h.place; spot = h.spot; none = h.none }
 
@@ -124,7 +129,8 @@ elsewhere : (spot : Option (ℕ × SeenState)) (q : ℕ) → q ≢ 0 → IsHome 
 elsewhere None q n h = tt
 elsewhere (Some p) q n h = λ e. n (e ∙ h p.0 refl)
 
-pub asked_home : (x : SoleState) (s : SeatState SeenState) (place : ℕ) (e : Entry) (r : Made) (y : SoleState) (t : SeatState SeenState) → Asks x s place e r y t → StaysHome (Some place) x s → StaysHome (Some place) y t
+pub asked_home : (x : SoleState) (s : SeatState SeenState) (place : ℕ) (e : Entry) (r : Made) (y : SoleState) (t : SeatState SeenState)
+    → Asks x s place e r y t → StaysHome (Some place) x s → StaysHome (Some place) y t
 asked_home x s place e r y t a h =
     let zero : place ≡ 0 = h.place place refl in
     record {

@@ -1,5 +1,6 @@
 -- The two laws of a client and a session, over a run that is over
-use Rattle.std.proofs.Common.{◌≡◌, ℕ, ◌-◌, ◌<◌, ◌≤◌, ◌^◌, Bool, true, false, nat_le, if◌then◌else◌, List, [], ◌∷◌, ◌++◌, length, refl, sym, ap, ◌∙◌, arith, append_assoc, append-nil, length-append}
+use Rattle.std.proofs.Common.{◌≡◌, ℕ, ◌-◌, ◌<◌, ◌≤◌, ◌^◌, Bool, true, false, nat_le, if◌then◌else◌, List, [], ◌∷◌, ◌++◌, length, refl, sym, ap, ◌∙◌, arith}
+use Rattle.std.proofs.Common.{append_assoc, append-nil, length-append}
 use Rattle.std.specs.List.{concat}
 use Rattle.std.proofs.lemmas.Bool.Decides.{nat_tests}
 use Rattle.av_unit.specs.declared.item.Item.{Item}
@@ -45,7 +46,8 @@ front_short : (a b c : List ℕ) → a ++ b ≡ c → length c ≤ most_passed �
 front_short a b c e l = omega (arith, length-append a b, ap length e, l)
 
 -- the chunks that a session owes
-session_short : (who : ℕ) (x : List ℕ) (ms : List (ℕ × Message)) (C : List Own) (all : List ℕ) → all ≡ session_owed.out (dialogue who) x ms C → length all ≤ most_passed
+session_short : (who : ℕ) (x : List ℕ) (ms : List (ℕ × Message)) (C : List Own) (all : List ℕ) → all ≡ session_owed.out (dialogue who) x ms C
+    → length all ≤ most_passed
     → length (written fresh (session_owed.owed (dialogue who) (session_owed.count_of (dialogue who) x) ms C)) ≤ 2 ^ 62
 unfolding Rattle.session_owed.specs.Owed.out
 session_short who x ms C all e l =
@@ -53,7 +55,8 @@ session_short who x ms C all e l =
     omega (arith, front_short (answered x) w all (sym e) l)
 
 -- and those that a client owes, behind the handshake
-client_short : (k : Asked) (y : List ℕ) (ns : List (ℕ × Message)) (T : List Gave) (all : List ℕ) → hand_bytes ≤ length y → all ≡ client.out k y ns T → length all ≤ most_passed
+client_short : (k : Asked) (y : List ℕ) (ns : List (ℕ × Message)) (T : List Gave) (all : List ℕ) → hand_bytes ≤ length y → all ≡ client.out k y ns T
+    → length all ≤ most_passed
     → length (written fresh (client.owed k (length y - hand_bytes) ns T)) ≤ 2 ^ 62
 unfolding Rattle.client_owed.specs.Owed.out
 client_short k y ns T all g e l =
@@ -67,7 +70,7 @@ client_short k y ns T all g e l =
 -- ---- what passed between them
 
 -- all that one link took begins with what the other gave
-passed_all : (a rest pieces handed : List ℕ) (gave : List ℕ) → gave ++ pieces ≡ handed → gave ≡ a ++ rest → a ++ (rest ++ pieces) ≡ handed
+pub passed_all : (a rest pieces handed : List ℕ) (gave : List ℕ) → gave ++ pieces ≡ handed → gave ≡ a ++ rest → a ++ (rest ++ pieces) ≡ handed
 passed_all a rest pieces handed gave e g = sym (append_assoc a rest pieces) ∙ ap (λ (l : List ℕ). l ++ pieces) (sym g) ∙ e
 
 none_more : (m : MemLinkState) → m.sent ≡ [] → m.handed ++ m.sent ≡ m.handed
@@ -82,7 +85,8 @@ PullLaw = (k : Asked) (who window max : ℕ) (desk : Ask → Grant) (x y : List 
     → k.wish ≡ wish.Pull → HavePlayed k (session who window desk) max x y ms ns T C → IsTold k ns C
 
 abbrev pub ReadableLaw : Type 0
-ReadableLaw = (who window max n : ℕ) (desk : Ask → Grant) (ms : List (ℕ × Message)) (C : List Own) → 4096 ≤ max → max ≤ 4194304 → HaveRoom max C → AreReadable max (session_owed.owed (session who window desk) n ms C)
+ReadableLaw = (who window max n : ℕ) (desk : Ask → Grant) (ms : List (ℕ × Message)) (C : List Own) → 4096 ≤ max → max ≤ 4194304 → HaveRoom max C
+    → AreReadable max (session_owed.owed (session who window desk) n ms C)
 
 module _ (push_law : PushLaw) (pull_law : PullLaw) (readable : ReadableLaw) (history : List Step) (room : HaveRoom max_message history) where
   side_room : (who : ℕ) (m : MemLinkState) (x : List ℕ) (C : List Own) → SessionSide who m x C history → HaveRoom max_message C
@@ -90,11 +94,13 @@ module _ (push_law : PushLaw) (pull_law : PullLaw) (readable : ReadableLaw) (his
 
   side_readable : (who : ℕ) (m : MemLinkState) (x : List ℕ) (C : List Own) (s : SessionSide who m x C history)
       → AreReadable max_message (session_owed.owed (dialogue who) (session_owed.count_of (dialogue who) x) s.ms C)
-  side_readable who m x C s = readable who window max_message (session_owed.count_of (dialogue who) x) granted s.ms C (omega arith) (omega arith) (side_room who m x C s)
+  side_readable who m x C s = readable who window max_message (session_owed.count_of (dialogue who) x) granted s.ms C (omega arith) (omega arith)
+      (side_room who m x C s)
 
   -- ---- the publisher
 
-  sent_all : (T : List Gave) (gifts : List Gift) (near far : MemLinkState) (forth back : ℕ) (x : List ℕ) (C : List Own) → is_finished T ≡ true → ClientSide pusher near T gifts [] → (s : SessionSide publisher far x C history) → IsPassed near far forth → IsPassed far near back
+  sent_all : (T : List Gave) (gifts : List Gift) (near far : MemLinkState) (forth back : ℕ) (x : List ℕ) (C : List Own) → is_finished T ≡ true
+      → ClientSide pusher near T gifts [] → (s : SessionSide publisher far x C history) → IsPassed near far forth → IsPassed far near back
       → length x ≡ forth → published (dialogue publisher) s.ms C ≡ units T
   unfolding is_finished
   sent_all [] gifts near far forth back x C f c s p q l = absurd (let e : false ≡ true = f in cc)
@@ -132,7 +138,8 @@ module _ (push_law : PushLaw) (pull_law : PullLaw) (readable : ReadableLaw) (his
   unfolding pulled_from
   nothing_told k ns g gs e t = absurd (let f : g ∷ gs ≡ [] = t ∙ ap (pulled k) e in cc)
 
-  told_all : (before after : List Gift) (more : List ℕ) (near far : MemLinkState) (forth back : ℕ) (x : List ℕ) (C : List Own) → ClientSide puller near [] ((before ++ gift.Unpublished ∷ []) ++ after) more → length more ≡ 0
+  told_all : (before after : List Gift) (more : List ℕ) (near far : MemLinkState) (forth back : ℕ) (x : List ℕ) (C : List Own)
+      → ClientSide puller near [] ((before ++ gift.Unpublished ∷ []) ++ after) more → length more ≡ 0
       → (s : SessionSide player far x C history) → IsPassed near far forth → IsPassed far near back
       → Told (before ++ gift.Unpublished ∷ []) (items_sent C)
   told_all before after more near far forth back x C c none s p q =
@@ -144,12 +151,14 @@ module _ (push_law : PushLaw) (pull_law : PullLaw) (readable : ReadableLaw) (his
         most = omega arith;
         given = tt;
         rest = (s.rest ++ concat far.pieces) ++ more;
-        sent = sym (append_assoc x (s.rest ++ concat far.pieces) more) ∙ ap (λ (l : List ℕ). l ++ more) (passed_all x s.rest (concat far.pieces) near.handed far.gave p.came s.gave) ∙ owed;
+        sent = sym (append_assoc x (s.rest ++ concat far.pieces) more)
+            ∙ ap (λ (l : List ℕ). l ++ more) (passed_all x s.rest (concat far.pieces) near.handed far.gave p.came s.gave) ∙ owed;
         left = c.rest ++ concat near.pieces;
         told = passed_all c.y c.rest (concat near.pieces) far.handed near.gave q.came c.gave ∙ owes;
         session_read = s.read;
         client_read = c.read;
-        client_near = client_short puller c.y c.ms [] (near.handed ++ more) greeted owed (omega (arith, length-append near.handed more, none, p.total_is, p.few));
+        client_near = client_short puller c.y c.ms [] (near.handed ++ more) greeted owed
+            (omega (arith, length-append near.handed more, none, p.total_is, p.few));
         session_says = side_readable player far x C s;
         session_near = session_short player x s.ms C far.handed owes (omega (arith, q.total_is, q.few));
         early = s.early;
@@ -171,8 +180,10 @@ module _ (push_law : PushLaw) (pull_law : PullLaw) (readable : ReadableLaw) (his
 
   -- ---- both
 
-  looped_by : (file : List Tag) (publishes plays : List Own) (before : List Gift) → Keeps shape history → StandIn publishes history → StandIn plays history → pushed_by publishes ≡ units_of file
-      → (t : Told (before ++ gift.Unpublished ∷ []) (items_sent plays)) → t.later ≡ [] → Closes t.told → IsLooped file (pull_text (before ++ gift.Unpublished ∷ []))
+  looped_by : (file : List Tag) (publishes plays : List Own) (before : List Gift) → Keeps shape history → StandIn publishes history
+      → StandIn plays history → pushed_by publishes ≡ units_of file
+      → (t : Told (before ++ gift.Unpublished ∷ []) (items_sent plays)) → t.later ≡ [] → Closes t.told
+      → IsLooped file (pull_text (before ++ gift.Unpublished ∷ []))
   looped_by file publishes plays before keeps s u units t none c =
       let all : items_sent plays ≡ c.before ++ item.End ∷ [] = sym t.all ∙ ap (λ (l : List Item). t.told ++ l) none ∙ append-nil t.told ∙ c.last in
       record {
@@ -189,11 +200,15 @@ module _ (push_law : PushLaw) (pull_law : PullLaw) (readable : ReadableLaw) (his
       }
 
   -- A RUN THAT IS OVER: the client that plays was told as much as its session was sent
-  pub looped : (file : List Tag) (T : List Gave) (gifts before after : List Gift) (unsent : List ℕ) (n f n' f' : MemLinkState) (a b a' b' : ℕ) (x x' : List ℕ) (C D : List Own) → Keeps shape history
-      → is_finished T ≡ true → tags_given T ≡ file → ClientSide pusher n T gifts [] → SessionSide publisher f x C history → IsPassed n f a → IsPassed f n b → length x ≡ a
-      → ClientSide puller n' [] ((before ++ gift.Unpublished ∷ []) ++ after) unsent → length unsent ≡ 0 → SessionSide player f' x' D history → IsPassed n' f' a' → IsPassed f' n' b'
+  pub looped : (file : List Tag) (T : List Gave) (gifts before after : List Gift) (unsent : List ℕ) (n f n' f' : MemLinkState) (a b a' b' : ℕ)
+      (x x' : List ℕ) (C D : List Own) → Keeps shape history
+      → is_finished T ≡ true → tags_given T ≡ file → ClientSide pusher n T gifts [] → SessionSide publisher f x C history → IsPassed n f a
+      → IsPassed f n b → length x ≡ a
+      → ClientSide puller n' [] ((before ++ gift.Unpublished ∷ []) ++ after) unsent → length unsent ≡ 0 → SessionSide player f' x' D history
+      → IsPassed n' f' a' → IsPassed f' n' b'
       → length (items_sent D) ≤ length (before ++ gift.Unpublished ∷ []) → IsLooped file (pull_text (before ++ gift.Unpublished ∷ []))
   looped file T gifts before after unsent n f n' f' a b a' b' x x' C D keeps done tags c s p q all c' none s' p' q' few =
       let published_is = sent_all T gifts n f a b x C done c s p q all in
       let t = told_all before after unsent n' f' a' b' x' D c' none s' p' q' in
-      looped_by file C D before keeps s.stand s'.stand (s.units ∙ published_is ∙ units_given T file tags) t (none_later (before ++ gift.Unpublished ∷ []) (items_sent D) t few) (last_is t.told before t.gifts)
+      looped_by file C D before keeps s.stand s'.stand (s.units ∙ published_is ∙ units_given T file tags) t
+      (none_later (before ++ gift.Unpublished ∷ []) (items_sent D) t few) (last_is t.told before t.gifts)

@@ -9,6 +9,7 @@ pub mod Laws
 pub mod Counting
 pub mod Beginning
 pub mod Running
+pub mod Refusing
 pub mod Rounding
 pub mod Settling
 pub mod Finishing

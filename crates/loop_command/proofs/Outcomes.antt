@@ -1,5 +1,5 @@
 -- How the command ends, by what its steps came to
-use Rattle.std.proofs.Common.{◌≡◌, ◌⊎◌, ℕ, ◌+◌, ◌*◌, ◌<◌, ◌≤◌, List, length, Option, Result, Ok, Err, refl, sym, ap, subst, arith}
+use Rattle.std.proofs.Common.{◌≡◌, ◌⊎◌, ℕ, ◌<◌, ◌≤◌, List, length, Option, Result, Ok, Err, refl, sym, ap, subst, arith}
 use Rattle.std.specs.Prelude.{IfErr, OnOk}
 use Rattle.file_commands.specs.Outcome.{seen}
 use Rattle.flv_tags.specs.declared.tag.Tag.{Tag}
@@ -14,24 +14,32 @@ use Rattle.loop_command.specs.declared.stop.Stop.{Stop}
 use Rattle.loop_command.specs.declared.stop.Stop.TheVariants.{Refused, Source, Sink, Memory, Unfinished}
 use Rattle.loop_command.proofs.Running.{run_text}
 
-whole : (r : Reading) (left left' held held' : Option (List ℕ)) (n n' f f' : ℕ) → ReadsWhole r left left' n n' → WasWhole r.tags.items (seen left held n f) (seen left' held' n' f')
+whole : (r : Reading) (left left' held held' : Option (List ℕ)) (n n' f f' : ℕ) → ReadsWhole r left left' n n'
+    → WasWhole r.tags.items (seen left held n f) (seen left' held' n' f')
 whole r left left' held held' n n' f f' h = record { read = h.read; was_read = h.was_read; whole = h.whole; short = h.short; faults = h.faults }
 
 -- the film is refused, or can't be read
-pub film_ends : (stop : Stop) (left left' held : Option (List ℕ)) (n n' f : ℕ) → ReadStops stop left left' n n' → Ends (how_of (Err stop)) (seen left held n f) (seen left' held n' f)
-film_ends (Refused at) left left' held n n' f h = (record { read = h.0.0; was_read = h.0.1; refused = h.0.2; faults = h.1 }, record { held = refl; faults = refl })
+pub film_ends : (stop : Stop) (left left' held : Option (List ℕ)) (n n' f : ℕ) → ReadStops stop left left' n n'
+    → Ends (how_of (Err stop)) (seen left held n f) (seen left' held n' f)
+film_ends (Refused at) left left' held n n' f h = (
+  record { read = h.0.0; was_read = h.0.1; refused = h.0.2; faults = h.1 },
+  record { held = refl; faults = refl },
+)
 film_ends Source left left' held n n' f h = (h, record { held = refl; faults = refl })
 film_ends Sink left left' held n n' f h = absurd h
 film_ends Memory left left' held n n' f h = (h, refl)
 film_ends Unfinished left left' held n n' f h = absurd h
 
 -- memory is refused
-pub memory_ends : (stop : Stop) (r : Reading) (left left' held held' : Option (List ℕ)) (n n' f f' : ℕ) → stop ≡ Memory → ReadsWhole r left left' n n' → f' ≡ f → Ends (how_of (Err stop)) (seen left held n f) (seen left' held' n' f')
-memory_ends stop r left left' held held' n n' f f' e h s = subst (λ (x : Stop). Ends (how_of (Err x)) (seen left held n f) (seen left' held' n' f')) (sym e) (h.faults, s)
+pub memory_ends : (stop : Stop) (r : Reading) (left left' held held' : Option (List ℕ)) (n n' f f' : ℕ) → stop ≡ Memory → ReadsWhole r left left' n n'
+    → f' ≡ f → Ends (how_of (Err stop)) (seen left held n f) (seen left' held' n' f')
+memory_ends stop r left left' held held' n n' f f' e h s = subst (λ (x : Stop). Ends (how_of (Err x)) (seen left held n f) (seen left' held' n' f'))
+    (sym e) (h.faults, s)
 
-not_back : (r : Reading) (left left' : Option (List ℕ)) (n n' : ℕ) (first : Run) (h : ReadsWhole r left left' n n') (at : Run) → IsFirst r.tags.items first → FailsWithin first (4096 + 2 * r.bytes) at → CameNot r.tags.items (length h.read) (text_of at)
+not_back : (r : Reading) (left left' : Option (List ℕ)) (n n' : ℕ) (first : Run) (h : ReadsWhole r left left' n n') (at : Run)
+    → IsFirst r.tags.items first → FailsWithin first (rounds_of r.bytes) at → CameNot r.tags.items (length h.read) (text_of at)
 not_back r left left' n n' first h at fresh e =
-    let rounds : 4096 + 2 * r.bytes ≡ rounds_of (length h.read) = ap rounds_of h.count in
+    let rounds : rounds_of r.bytes ≡ rounds_of (length h.read) = ap rounds_of h.count in
     record {
       first = first;
       fresh = fresh;
@@ -44,7 +52,8 @@ not_back r left left' n n' first h at fresh e =
     }
 
 -- the run doesn't come to its end
-pub run_ends : (stop : Stop) (r : Reading) (left left' held held' : Option (List ℕ)) (n n' f f' : ℕ) (first last : Run) → ReadsWhole r left left' n n' → IsFirst r.tags.items first → RunsBy (Err stop) r.tags.items first last (4096 + 2 * r.bytes) held held' → SinkCause stop f f'
+pub run_ends : (stop : Stop) (r : Reading) (left left' held held' : Option (List ℕ)) (n n' f f' : ℕ) (first last : Run) → ReadsWhole r left left' n n'
+    → IsFirst r.tags.items first → RunsBy (Err stop) r.tags.items first last (rounds_of r.bytes) held held' → SinkCause stop f f'
     → Ends (how_of (Err stop)) (seen left held n f) (seen left' held' n' f')
 unfolding whole
 run_ends (Refused at) r left left' held held' n n' f f' first last h fresh e s = absurd s
@@ -61,7 +70,8 @@ run_ends Unfinished r left left' held held' n n' f f' first last h fresh e s = r
 }
 
 -- the film came back
-back_ends : (r : Reading) (left left' held held' : Option (List ℕ)) (n n' f f' : ℕ) (first last : Run) → ReadsWhole r left left' n n' → IsFirst r.tags.items first → Goes r.tags.items last held held' (HasSettled first last (4096 + 2 * r.bytes)) → f' ≡ f
+back_ends : (r : Reading) (left left' held held' : Option (List ℕ)) (n n' f f' : ℕ) (first last : Run) → ReadsWhole r left left' n n'
+    → IsFirst r.tags.items first → Goes r.tags.items last held held' (HasSettled first last (rounds_of r.bytes)) → f' ≡ f
     → IsLooped r.tags.items (text_of last) → HasCome (seen left held n f) (seen left' held' n' f')
 unfolding whole
 back_ends r left left' held held' n n' f f' first last h fresh g s looped =
@@ -87,20 +97,26 @@ back_ends r left left' held held' n n' f f' first last h fresh g s looped =
       faults = s;
     }
 
-pub finish_ends : (v : Result (Unit {0}) Stop) (r : Reading) (left left' held held' : Option (List ℕ)) (n n' f f' : ℕ) (first last : Run) → ReadsWhole r left left' n n' → IsFirst r.tags.items first
-    → Goes r.tags.items last held held' (HasSettled first last (4096 + 2 * r.bytes)) → f' ≡ f → OnOk v (IsLooped r.tags.items (text_of last)) → IfErr v (λ stop. stop ≡ Memory) → Ends (how_of v) (seen left held n f) (seen left' held' n' f')
+pub finish_ends : (v : Result (Unit {0}) Stop) (r : Reading) (left left' held held' : Option (List ℕ)) (n n' f f' : ℕ) (first last : Run)
+    → ReadsWhole r left left' n n' → IsFirst r.tags.items first
+    → Goes r.tags.items last held held' (HasSettled first last (rounds_of r.bytes)) → f' ≡ f → OnOk v (IsLooped r.tags.items (text_of last))
+    → IfErr v (λ stop. stop ≡ Memory) → Ends (how_of v) (seen left held n f) (seen left' held' n' f')
 finish_ends (Ok x) r left left' held held' n n' f f' first last h fresh g s looped e = back_ends r left left' held held' n n' f f' first last h fresh g s looped
 finish_ends (Err stop) r left left' held held' n n' f f' first last h fresh g s looped e = memory_ends stop r left left' held held' n n' f f' e h s
 
 -- ---- a run, by what its rounds came to
 
-pub whole_stops : (stop : Stop) (first last : Run) (rounds : ℕ) (held before now : Option (List ℕ)) (f f' : ℕ) → ((file : List Tag) → IsRun file first held before → RunsBy (Err stop) file first last rounds held now) → SinkCause stop f f'
+pub whole_stops : (stop : Stop) (first last : Run) (rounds : ℕ) (held before now : Option (List ℕ)) (f f' : ℕ)
+    → ((file : List Tag) → IsRun file first held before → RunsBy (Err stop) file first last rounds held now) → SinkCause stop f f'
     → EndsWith (Err stop) first rounds held before now f f'
 whole_stops stop first last rounds held before now f f' goes s = λ r left left' n n' h e fresh is.
-    run_ends stop r left left' held now n n' f f' first last h fresh (subst (λ (k : ℕ). RunsBy (Err stop) r.tags.items first last k held now) e (goes r.tags.items is)) s
+    run_ends stop r left left' held now n n' f f' first last h fresh
+    (subst (λ (k : ℕ). RunsBy (Err stop) r.tags.items first last k held now) e (goes r.tags.items is)) s
 
-pub whole_ends : (v : Result (Unit {0}) Stop) (first last : Run) (rounds : ℕ) (held before now : Option (List ℕ)) (f f' : ℕ) → ((file : List Tag) → IsRun file first held before → Goes file last held now (HasSettled first last rounds)) → f' ≡ f
-    → ((file : List Tag) → IsRun file last held now → OnOk v (IsLooped file (text_of last))) → IfErr v (λ stop. stop ≡ Memory) → EndsWith v first rounds held before now f f'
+pub whole_ends : (v : Result (Unit {0}) Stop) (first last : Run) (rounds : ℕ) (held before now : Option (List ℕ)) (f f' : ℕ)
+    → ((file : List Tag) → IsRun file first held before → Goes file last held now (HasSettled first last rounds)) → f' ≡ f
+    → ((file : List Tag) → IsRun file last held now → OnOk v (IsLooped file (text_of last))) → IfErr v (λ stop. stop ≡ Memory)
+    → EndsWith v first rounds held before now f f'
 whole_ends v first last rounds held before now f f' goes s looped err = λ r left left' n n' h e fresh is.
     let g = subst (λ (k : ℕ). Goes r.tags.items last held now (HasSettled first last k)) e (goes r.tags.items is) in
     finish_ends v r left left' held now n n' f f' first last h fresh g s (looped r.tags.items g.is_run) err

@@ -3,14 +3,17 @@ use Rattle.std.proofs.Common.{◌≡◌, inl, inr, ℕ, ◌+◌, Bool, true, fal
 use Rattle.std.specs.Prelude.{IfErr, MatchResult, OnOk}
 use Rattle.flv_tags.specs.declared.tag.Tag.{Tag}
 use Rattle.rtmp_client.specs.ClientState.{has_started}
-use Rattle.loop_command.specs.Course.{FailsToPush, GivesWhere, PlayFails, PlayerServed, Plays, PublishFails, PublisherServed, Publishes, PullFails, Pulled, PushFails, PushesOnce, PushesWhere, Round, RoundFails, SessionEnds, SessionTurned, TakesGift, can_give, is_settled}
+use Rattle.loop_command.specs.Course.{ClientRefused, GivesWhere, PlayerServed, Plays, PublisherServed, Publishes, Pulled, PushFails, PushesOnce, PushesWhere}
+use Rattle.loop_command.specs.Course.{Round, RoundFails, SessionTurned, TakesGift, can_give, is_settled}
 use Rattle.loop_command.specs.declared.line.Line.{Line}
-use Rattle.loop_command.specs.Rounds.{FailsWithin, Goes, HasSettled, IsOwn, IsRun, IsWanting, PlaysBy, PublishesBy, RoundBy, RunsBy, RunsOn, SinkCause, StepBy, Stuck, TurnsClient, TurnsSession}
+use Rattle.loop_command.specs.Rounds.{ClientEnds, FailsWithin, Goes, HasSettled, IsOwn, IsRun, IsWanting, PlaysBy, PublishesBy, RoundBy, RunsBy, RunsOn}
+use Rattle.loop_command.specs.Rounds.{SinkCause, StepBy}
+use Rattle.loop_command.specs.Rounds.{PlayFails, SessionEnds, Stuck, TurnsClient, TurnsSession, is_failure}
 use Rattle.loop_command.specs.declared.rounds.Run.{Run}
 use Rattle.loop_command.specs.declared.stop.Stop.{Stop}
 use Rattle.loop_command.specs.declared.stop.Stop.TheVariants.{Refused, Source, Sink, Memory, Unfinished}
 use Rattle.stream_registry.specs.Books.{SoleState}
-use Rattle.loop_command.proofs.Clients.{failure_cause}
+use Rattle.rtmp_client.specs.declared.end.ClientEnd.{ClientEnd}
 use Rattle.loop_command.proofs.Running.{own_cause, run_text}
 
 -- ---- steps
@@ -58,144 +61,157 @@ own_session (Err (Refused at)) a b l m h = h
 own_session (Err Source) a b l m h = h
 own_session (Err Sink) a b l m h = h
 
--- the client that plays has ended
-pub pull_ends : (stop : Stop) (B : Type 0) (r : Run) (m : Line) → TurnsClient (Err stop) r.pull m → StepBy (Err stop) B (PullFails r)
-pull_ends Unfinished B r m h = (h.0, failure_cause h.0 h.1, h.2)
-pull_ends Memory B r m h = tt
-pull_ends (Refused at) B r m h = tt
-pull_ends Source B r m h = tt
-pull_ends Sink B r m h = tt
+-- a client has ended
+pub client_ends : (stop : Stop) (B : Type 0) (l m : Line) → ((e : ClientEnd) → is_failure e ≡ true → ClientEnds l e → ClientRefused l)
+    → TurnsClient (Err stop) l m → StepBy (Err stop) B (ClientRefused l)
+client_ends Unfinished B l m f h = f h.0 h.1 h.2
+client_ends Memory B l m f h = tt
+client_ends (Refused at) B l m f h = tt
+client_ends Source B l m f h = tt
+client_ends Sink B l m f h = tt
 
--- and so has the one that publishes
-pub push_ends : (stop : Stop) (B : Type 0) (r : Run) (m : Line) → TurnsClient (Err stop) r.push m → StepBy (Err stop) B (FailsToPush r)
-push_ends Unfinished B r m h = (h.0, h.1, h.2)
-push_ends Memory B r m h = tt
-push_ends (Refused at) B r m h = tt
-push_ends Source B r m h = tt
-push_ends Sink B r m h = tt
-
--- a session's turn
-pub session_by : (q : Result (Unit {0}) Stop) (a b : SoleState) (l m : Line) (B : Type 0) → (SessionTurned a b l m → OnOk q B) → TurnsSession q a b l m → StepBy q B (SessionEnds a l)
-session_by (Ok x) a b l m B f h = f h
-session_by (Err Unfinished) a b l m B f h = h
-session_by (Err Memory) a b l m B f h = tt
-session_by (Err (Refused at)) a b l m B f h = tt
-session_by (Err Source) a b l m B f h = tt
-session_by (Err Sink) a b l m B f h = tt
+-- a session's turn, by which it hasn't ended
+pub session_by : (q : Result (Unit {0}) Stop) (a b : SoleState) (l m : Line) (B : Type 0) → (SessionTurned a b l m → OnOk q B) → (SessionEnds a l → ⊥)
+    → TurnsSession q a b l m → StepBy q B ⊥
+session_by (Ok x) a b l m B f g h = f h
+session_by (Err Unfinished) a b l m B f g h = g h
+session_by (Err Memory) a b l m B f g h = tt
+session_by (Err (Refused at)) a b l m B f g h = tt
+session_by (Err Source) a b l m B f g h = tt
+session_by (Err Sink) a b l m B f g h = tt
 
 -- ---- the client that plays, and its session
 
-pub pull_failed : (file : List Tag) (r : Run) (old now : Option (List ℕ)) → IsRun file r old now → PullFails r → Stuck (PlayFails r) old now
-pull_failed file r old now h f = record { at = r; fails = inl (refl, f); written = run_text file r old now h }
+pub pull_failed : (file : List Tag) (r : Run) (old now : Option (List ℕ)) → IsRun file r old now → ClientRefused r.pull → Stuck (PlayFails r) old now
+pull_failed file r old now h f = record { at = r; fails = (refl, f); written = run_text file r old now h }
 
-pub plays_on : (file : List Tag) (r pulled told s : Run) (old now : Option (List ℕ)) → Pulled r pulled → TakesGift pulled.over pulled.pull.client.parts.gift pulled told → Goes file s old now (PlayerServed told s) → Goes file s old now (Plays r s)
-plays_on file r pulled told s old now p t g = record { is_run = g.is_run; made = record { pulled = pulled; told = told; client = p; gift = t; session = g.made } }
-
-pub player_left : (file : List Tag) (r pulled told : Run) (old now : Option (List ℕ)) → Pulled r pulled → TakesGift pulled.over pulled.pull.client.parts.gift pulled told → IsRun file told old now → SessionEnds told.port told.pull → Stuck (PlayFails r) old now
-player_left file r pulled told old now p t h f = record {
-  at = told;
-  fails = inr (record { pulled = pulled; client = p; gift = t; session = f });
-  written = run_text file told old now h;
+pub plays_on : (file : List Tag) (r pulled told s : Run) (old now : Option (List ℕ)) → Pulled r pulled
+    → TakesGift pulled.over pulled.pull.client.parts.gift pulled told → Goes file s old now (PlayerServed told s) → Goes file s old now (Plays r s)
+plays_on file r pulled told s old now p t g = record {
+  is_run = g.is_run;
+  made =
+      record { pulled = pulled; told = told; client = p; gift = t; session = g.made };
 }
 
 -- what a step came to
-pub pull_stops : (stop : Stop) (A : Type 0) (file : List Tag) (r s : Run) (old now : Option (List ℕ)) → IsRun file r old now → StepBy (Err stop) A (PullFails r) → PlaysBy (Err stop) file r s old now
-pull_stops stop A file r s old now h t = step_fails stop A (Goes file s old now (Plays r s)) (PullFails r) (Stuck (PlayFails r) old now) (pull_failed file r old now h) t
+pub pull_stops : (stop : Stop) (A : Type 0) (file : List Tag) (r s : Run) (old now : Option (List ℕ)) → IsRun file r old now
+    → StepBy (Err stop) A (ClientRefused r.pull) → PlaysBy (Err stop) file r s old now
+pull_stops stop A file r s old now h t = step_fails stop A (Goes file s old now (Plays r s)) (ClientRefused r.pull) (Stuck (PlayFails r) old now)
+    (pull_failed file r old now h) t
 
 pub write_stops : (stop : Stop) (file : List Tag) (r s : Run) (old now : Option (List ℕ)) → IsWanting stop → PlaysBy (Err stop) file r s old now
 write_stops stop file r s old now w = step_wants stop (Goes file s old now (Plays r s)) (Stuck (PlayFails r) old now) w
 
-pub plays_by : (q : Result (Unit {0}) Stop) (file : List Tag) (r pulled told s : Run) (old now : Option (List ℕ)) → Pulled r pulled → TakesGift pulled.over pulled.pull.client.parts.gift pulled told → IsRun file told old now
-    → StepBy q (Goes file s old now (PlayerServed told s)) (SessionEnds told.port told.pull) → PlaysBy q file r s old now
-plays_by q file r pulled told s old now p t h b =
-    step_then q (Goes file s old now (PlayerServed told s)) (Goes file s old now (Plays r s)) (SessionEnds told.port told.pull) (Stuck (PlayFails r) old now)
-    (plays_on file r pulled told s old now p t) (player_left file r pulled told old now p t h) b
+pub plays_by : (q : Result (Unit {0}) Stop) (file : List Tag) (r pulled told s : Run) (old now : Option (List ℕ)) → Pulled r pulled
+    → TakesGift pulled.over pulled.pull.client.parts.gift pulled told → StepBy q (Goes file s old now (PlayerServed told s)) ⊥ → PlaysBy q file r s old now
+plays_by q file r pulled told s old now p t b =
+    step_then q (Goes file s old now (PlayerServed told s)) (Goes file s old now (Plays r s)) ⊥ (Stuck (PlayFails r) old now)
+    (plays_on file r pulled told s old now p t) (λ x. absurd x) b
 
 -- ---- the client that publishes, and its session
 
 abbrev Starts : Run → Bool
 Starts r = has_started r.pull.client.parts.phase
 
-pub pushes_on : (file : List Tag) (r given s : Run) (old now : Option (List ℕ)) → Starts r ≡ true → GivesWhere r.stage (can_give r.push.client) r given → Goes file s old now (PushesWhere given.stage given s) → Goes file s old now (PushesOnce (Starts r) r s)
+pub pushes_on : (file : List Tag) (r given s : Run) (old now : Option (List ℕ)) → Starts r ≡ true → GivesWhere r.stage (can_give r.push.client) r given
+    → Goes file s old now (PushesWhere given.stage given s) → Goes file s old now (PushesOnce (Starts r) r s)
 pushes_on file r given s old now e v g = record { is_run = g.is_run; made = subst (λ (b : Bool). PushesOnce b r s) (sym e) (given, v, g.made) }
 
-pub push_failed : (file : List Tag) (r given : Run) (old now : Option (List ℕ)) → Starts r ≡ true → GivesWhere r.stage (can_give r.push.client) r given → IsRun file given old now → FailsToPush given → Stuck (PushFails r) old now
-push_failed file r given old now e v h f = record { at = given; fails = record { started = e; given = v; fails = f }; written = run_text file given old now h }
+pub push_failed : (file : List Tag) (r given : Run) (old now : Option (List ℕ)) → Starts r ≡ true → GivesWhere r.stage (can_give r.push.client) r given
+    → IsRun file given old now → ClientRefused given.push → Stuck (PushFails r) old now
+push_failed file r given old now e v h f = record {
+  at = given;
+  fails = record { started = e; given = v; refused = f };
+  written =
+      run_text file given old now h;
+}
 
-pub push_stuck : (r : Run) (old now : Option (List ℕ)) → Stuck (PushFails r) old now → Stuck (PublishFails r) old now
-push_stuck r old now s = record { at = s.at; fails = inl s.fails; written = s.written }
-
-pub publishes_on : (file : List Tag) (r pushed s : Run) (old now : Option (List ℕ)) → PushesOnce (Starts r) r pushed → Goes file s old now (PublisherServed pushed s) → Goes file s old now (Publishes r s)
+pub publishes_on : (file : List Tag) (r pushed s : Run) (old now : Option (List ℕ)) → PushesOnce (Starts r) r pushed
+    → Goes file s old now (PublisherServed pushed s) → Goes file s old now (Publishes r s)
 publishes_on file r pushed s old now p g = record { is_run = g.is_run; made = record { pushed = pushed; client = p; session = g.made } }
-
-pub publisher_left : (file : List Tag) (r pushed : Run) (old now : Option (List ℕ)) → PushesOnce (Starts r) r pushed → IsRun file pushed old now → SessionEnds pushed.port pushed.push → Stuck (PublishFails r) old now
-publisher_left file r pushed old now p h f = record { at = pushed; fails = inr (record { client = p; session = f }); written = run_text file pushed old now h }
 
 abbrev pub PushesBy : Result (Unit {0}) Stop → List Tag → Run → Run → Option (List ℕ) → Option (List ℕ) → Type 0
 PushesBy q file r s old now = StepBy q (Goes file s old now (PushesOnce (Starts r) r s)) (Stuck (PushFails r) old now)
 
-pub pushes_by : (q : Result (Unit {0}) Stop) (file : List Tag) (r given s : Run) (old now : Option (List ℕ)) → Starts r ≡ true → GivesWhere r.stage (can_give r.push.client) r given → IsRun file given old now
-    → StepBy q (Goes file s old now (PushesWhere given.stage given s)) (FailsToPush given) → PushesBy q file r s old now
+pub pushes_by : (q : Result (Unit {0}) Stop) (file : List Tag) (r given s : Run) (old now : Option (List ℕ)) → Starts r ≡ true
+    → GivesWhere r.stage (can_give r.push.client) r given → IsRun file given old now
+    → StepBy q (Goes file s old now (PushesWhere given.stage given s)) (ClientRefused given.push) → PushesBy q file r s old now
 pushes_by q file r given s old now e v h b =
-    step_then q (Goes file s old now (PushesWhere given.stage given s)) (Goes file s old now (PushesOnce (Starts r) r s)) (FailsToPush given) (Stuck (PushFails r) old now)
+    step_then q (Goes file s old now (PushesWhere given.stage given s)) (Goes file s old now (PushesOnce (Starts r) r s)) (ClientRefused given.push)
+    (Stuck (PushFails r) old now)
     (pushes_on file r given s old now e v) (push_failed file r given old now e v h) b
 
-pub unstarted : (file : List Tag) (r : Run) (old now : Option (List ℕ)) → Starts r ≡ false → IsRun file r old now → Goes file r old now (PushesOnce (Starts r) r r)
+pub unstarted : (file : List Tag) (r : Run) (old now : Option (List ℕ)) → Starts r ≡ false → IsRun file r old now
+    → Goes file r old now (PushesOnce (Starts r) r r)
 unstarted file r old now e h = record { is_run = h; made = subst (λ (b : Bool). PushesOnce b r r) (sym e) refl }
 
-pub push_stops : (stop : Stop) (A : Type 0) (file : List Tag) (r s : Run) (old now : Option (List ℕ)) → StepBy (Err stop) A (Stuck (PushFails r) old now) → PublishesBy (Err stop) file r s old now
-push_stops stop A file r s old now t = step_fails stop A (Goes file s old now (Publishes r s)) (Stuck (PushFails r) old now) (Stuck (PublishFails r) old now) (push_stuck r old now) t
+pub push_stops : (stop : Stop) (A : Type 0) (file : List Tag) (r s : Run) (old now : Option (List ℕ)) → StepBy (Err stop) A (Stuck (PushFails r) old now)
+    → PublishesBy (Err stop) file r s old now
+push_stops stop A file r s old now t =
+    step_fails stop A (Goes file s old now (Publishes r s)) (Stuck (PushFails r) old now) (Stuck (PushFails r) old now) (λ x. x) t
 
-pub publishes_by : (q : Result (Unit {0}) Stop) (file : List Tag) (r pushed s : Run) (old now : Option (List ℕ)) → PushesOnce (Starts r) r pushed → IsRun file pushed old now
-    → StepBy q (Goes file s old now (PublisherServed pushed s)) (SessionEnds pushed.port pushed.push) → PublishesBy q file r s old now
-publishes_by q file r pushed s old now p h b =
-    step_then q (Goes file s old now (PublisherServed pushed s)) (Goes file s old now (Publishes r s)) (SessionEnds pushed.port pushed.push) (Stuck (PublishFails r) old now)
-    (publishes_on file r pushed s old now p) (publisher_left file r pushed old now p h) b
+pub publishes_by : (q : Result (Unit {0}) Stop) (file : List Tag) (r pushed s : Run) (old now : Option (List ℕ)) → PushesOnce (Starts r) r pushed
+    → StepBy q (Goes file s old now (PublisherServed pushed s)) ⊥ → PublishesBy q file r s old now
+publishes_by q file r pushed s old now p b =
+    step_then q (Goes file s old now (PublisherServed pushed s)) (Goes file s old now (Publishes r s)) ⊥ (Stuck (PushFails r) old now)
+    (publishes_on file r pushed s old now p) (λ x. absurd x) b
 
 -- ---- rounds
 
-round_on : (file : List Tag) (r between s : Run) (old now : Option (List ℕ)) → Plays r between → Goes file s old now (Publishes between s) → Goes file s old now (Round r s)
+round_on : (file : List Tag) (r between s : Run) (old now : Option (List ℕ)) → Plays r between → Goes file s old now (Publishes between s)
+    → Goes file s old now (Round r s)
 round_on file r between s old now p g = record { is_run = g.is_run; made = record { between = between; plays = p; publishes = g.made } }
 
 pub early_stuck : (r : Run) (old now : Option (List ℕ)) → Stuck (PlayFails r) old now → Stuck (RoundFails r) old now
 early_stuck r old now s = record { at = s.at; fails = inl s.fails; written = s.written }
 
-pub late_stuck : (r between : Run) (old now : Option (List ℕ)) → Plays r between → Stuck (PublishFails between) old now → Stuck (RoundFails r) old now
+pub late_stuck : (r between : Run) (old now : Option (List ℕ)) → Plays r between → Stuck (PushFails between) old now → Stuck (RoundFails r) old now
 late_stuck r between old now p s = record { at = s.at; fails = inr (record { between = between; plays = p; fails = s.fails }); written = s.written }
 
-pub play_stops : (stop : Stop) (A : Type 0) (file : List Tag) (r s : Run) (old now : Option (List ℕ)) → StepBy (Err stop) A (Stuck (PlayFails r) old now) → RoundBy (Err stop) file r s old now
-play_stops stop A file r s old now t = step_fails stop A (Goes file s old now (Round r s)) (Stuck (PlayFails r) old now) (Stuck (RoundFails r) old now) (early_stuck r old now) t
+pub play_stops : (stop : Stop) (A : Type 0) (file : List Tag) (r s : Run) (old now : Option (List ℕ)) → StepBy (Err stop) A (Stuck (PlayFails r) old now)
+    → RoundBy (Err stop) file r s old now
+play_stops stop A file r s old now t = step_fails stop A (Goes file s old now (Round r s)) (Stuck (PlayFails r) old now) (Stuck (RoundFails r) old now)
+    (early_stuck r old now) t
 
-pub round_by : (q : Result (Unit {0}) Stop) (file : List Tag) (r between s : Run) (old now : Option (List ℕ)) → Plays r between → PublishesBy q file between s old now → RoundBy q file r s old now
+pub round_by : (q : Result (Unit {0}) Stop) (file : List Tag) (r between s : Run) (old now : Option (List ℕ)) → Plays r between
+    → PublishesBy q file between s old now → RoundBy q file r s old now
 round_by q file r between s old now p b =
-    step_then q (Goes file s old now (Publishes between s)) (Goes file s old now (Round r s)) (Stuck (PublishFails between) old now) (Stuck (RoundFails r) old now)
+    step_then q (Goes file s old now (Publishes between s)) (Goes file s old now (Round r s)) (Stuck (PushFails between) old now)
+    (Stuck (RoundFails r) old now)
     (round_on file r between s old now p) (late_stuck r between old now p) b
 
 pub run_begins : (file : List Tag) (r : Run) (rounds : ℕ) (old now : Option (List ℕ)) → IsRun file r old now → RunsOn file r r rounds rounds old now
 run_begins file r rounds old now h = record { is_run = h; states = []; course = refl; count = omega arith }
 
-pub run_on : (file : List Tag) (first r s : Run) (rounds left left' : ℕ) (old held now : Option (List ℕ)) → RunsOn file first r rounds left old held → left ≡ left' + 1 → is_settled s ≡ false → Goes file s old now (Round r s) → RunsOn file first s rounds left' old now
-run_on file first r s rounds left left' old held now o e f g = record { is_run = g.is_run; states = r ∷ o.states; course = (o.course, g.made, f); count = omega (arith, e, o.count) }
+pub run_on : (file : List Tag) (first r s : Run) (rounds left left' : ℕ) (old held now : Option (List ℕ)) → RunsOn file first r rounds left old held
+    → left ≡ left' + 1 → is_settled s ≡ false → Goes file s old now (Round r s) → RunsOn file first s rounds left' old now
+run_on file first r s rounds left left' old held now o e f g =
+    record { is_run = g.is_run; states = r ∷ o.states; course = (o.course, g.made, f); count = omega (arith, e, o.count) }
 
-pub run_settles : (file : List Tag) (first r s : Run) (rounds left left' : ℕ) (old held now : Option (List ℕ)) → RunsOn file first r rounds left old held → left ≡ left' + 1 → is_settled s ≡ true → Goes file s old now (Round r s) → Goes file s old now (HasSettled first s rounds)
+pub run_settles : (file : List Tag) (first r s : Run) (rounds left left' : ℕ) (old held now : Option (List ℕ)) → RunsOn file first r rounds left old held
+    → left ≡ left' + 1 → is_settled s ≡ true → Goes file s old now (Round r s) → Goes file s old now (HasSettled first s rounds)
 run_settles file first r s rounds left left' old held now o e f g = record {
   is_run = g.is_run;
   made = record { states = o.states; before = r; course = o.course; within = omega (arith, e, o.count); round = g.made; settled = f };
 }
 
-pub run_stuck : (file : List Tag) (first r : Run) (rounds left left' : ℕ) (old held now : Option (List ℕ)) → RunsOn file first r rounds left old held → left ≡ left' + 1 → Stuck (RoundFails r) old now → Stuck (FailsWithin first rounds) old now
+pub run_stuck : (file : List Tag) (first r : Run) (rounds left left' : ℕ) (old held now : Option (List ℕ)) → RunsOn file first r rounds left old held
+    → left ≡ left' + 1 → Stuck (RoundFails r) old now → Stuck (FailsWithin first rounds) old now
 run_stuck file first r rounds left left' old held now o e s = record {
   at = s.at;
   fails = record { states = o.states; last = r; course = o.course; ends = inr (omega (arith, e, o.count), s.fails) };
   written = s.written;
 }
 
-pub round_stops : (stop : Stop) (A : Type 0) (file : List Tag) (first r s : Run) (rounds left left' : ℕ) (old held now : Option (List ℕ)) → RunsOn file first r rounds left old held → left ≡ left' + 1 → StepBy (Err stop) A (Stuck (RoundFails r) old now)
+pub round_stops : (stop : Stop) (A : Type 0) (file : List Tag) (first r s : Run) (rounds left left' : ℕ) (old held now : Option (List ℕ))
+    → RunsOn file first r rounds left old held → left ≡ left' + 1 → StepBy (Err stop) A (Stuck (RoundFails r) old now)
     → RunsBy (Err stop) file first s rounds old now
 round_stops stop A file first r s rounds left left' old held now o e t =
-    step_fails stop A (Goes file s old now (HasSettled first s rounds)) (Stuck (RoundFails r) old now) (Stuck (FailsWithin first rounds) old now) (run_stuck file first r rounds left left' old held now o e) t
+    step_fails stop A (Goes file s old now (HasSettled first s rounds)) (Stuck (RoundFails r) old now) (Stuck (FailsWithin first rounds) old now)
+    (run_stuck file first r rounds left left' old held now o e) t
 
-pub run_out : (file : List Tag) (first r : Run) (rounds left : ℕ) (old now : Option (List ℕ)) → RunsOn file first r rounds left old now → left ≡ 0 → Stuck (FailsWithin first rounds) old now
+pub run_out : (file : List Tag) (first r : Run) (rounds left : ℕ) (old now : Option (List ℕ)) → RunsOn file first r rounds left old now → left ≡ 0
+    → Stuck (FailsWithin first rounds) old now
 run_out file first r rounds left old now o e = record {
   at = r;
   fails = record { states = o.states; last = r; course = o.course; ends = inl (omega (arith, e, o.count), refl) };

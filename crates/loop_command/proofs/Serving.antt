@@ -16,7 +16,7 @@ use Rattle.relay_session.specs.declared.turn.Turn.{Turn}
 use Rattle.relay_session.specs.declared.turn.Turn.TheVariants.{Ended}
 use Rattle.loop_command.specs.Course.{Asks, Passes, SessionTurned}
 use Rattle.loop_command.specs.Desk.{granted, rules}
-use Rattle.loop_command.specs.Lines.{ArePassed, GoesAhead, Served, Serves, StaysHome, most_passed}
+use Rattle.loop_command.specs.Lines.{ArePassed, GoesAhead, Served, Serves, StaysHome, Works, most_passed}
 use Rattle.loop_command.specs.Rounds.{IsStill, LastsBy, TurnsSession}
 use Rattle.loop_command.specs.Sides.{SessionSide}
 use Rattle.loop_command.specs.declared.line.Line.{Line}
@@ -25,7 +25,7 @@ use Rattle.loop_command.specs.declared.stop.Stop.TheVariants.{Refused, Source, S
 use Rattle.loop_command.proofs.Home.{asked_home, heard_home}
 use Rattle.loop_command.proofs.Links.{Keeps, handed_on, still_passed, took_same}
 use Rattle.loop_command.proofs.Sessions.{ended_side, serves_at, serves_turned, tied_before}
-use Rattle.loop_command.proofs.Ties.{turned_lives}
+use Rattle.loop_command.proofs.Ties.{not_both, turned_lives}
 
 abbrev IsTurn : SessionState SeenState → SoleState → MemLinkState → Turn → SessionState SeenState → SoleState → MemLinkState → Type 0
 IsTurn v p l a w q m = EndedBy Asks granted MemHears MemSays v.ended v.quit (life_at v p) l a (life_at w q) m
@@ -39,16 +39,19 @@ record Kept (who : ℕ) (p q : SoleState) (w : SessionState SeenState) (l link :
   pub keeps : Keeps l link
   pub ahead : GoesAhead p q
 
-lasts : (who : ℕ) (p q : SoleState) (v w : SessionState SeenState) (l link : MemLinkState) (a : Turn) → IsTurn v p l a w q link → IsOn p v.seat q w.seat → w.ended ≡ ended_by a → ended_by a ≡ None → lasting_of w.parts ≡ lasting_of v.parts
-    → (StandsFor granted v → StandsFor granted w) → (StandsFor granted v → Publishes granted w.parts) → (StandsFor granted v → Rises granted w.parts) → IsAt (FitsSole q) (places (sole_rules q.rules)) w.parts w.seat → Serves who p v l
+lasts : (who : ℕ) (p q : SoleState) (v w : SessionState SeenState) (l link : MemLinkState) (a : Turn) → IsTurn v p l a w q link → IsOn p v.seat q w.seat
+    → w.ended ≡ ended_by a → ended_by a ≡ None → w.quit ≡ v.quit → Works l → lasting_of w.parts ≡ lasting_of v.parts
+    → (StandsFor granted v → StandsFor granted w) → (StandsFor granted v → Publishes granted w.parts) → (StandsFor granted v → Rises granted w.parts)
+    → IsAt (FitsSole q) (places (sole_rules q.rules)) w.parts w.seat → Serves who p v l
     → Kept who p q w l link
-lasts who p q v w l link a turn on ended lives la stands units rises at s =
+lasts who p q v w l link a turn on ended lives quit works la stands units rises at s =
     let h = l.handed in
     let z = l.gave ++ concat l.pieces in
-    let o = turned_lives Asks granted h z StaysHome heard_home asked_home v.ended v.quit (life_at v p) (life_at w q) l a link s.lives lives turn (record { tied = tied_before who p v l s; home = s.home }) in
+    let o = turned_lives Asks granted h z StaysHome heard_home asked_home ⊥ v.ended v.quit (life_at v p) (life_at w q) l a link s.lives
+    (λ e. not_both v.quit e s.goes_on) lives turn (record { tied = tied_before who p v l s; home = s.home; works = works }) in
     record {
-      serves = serves_turned who p q v w l link h z (ended ∙ lives) (stands s.stands) (units s.stands) (rises s.stands) at la on.stands o.home o.tied s;
-      keeps = record { handed = o.tied.handed; stream = o.tied.stream };
+      serves = serves_turned who p q v w l link h z (ended ∙ lives) quit (stands s.stands) (units s.stands) (rises s.stands) at la on.stands o.home o.tied s;
+      keeps = record { handed = o.tied.handed; stream = o.tied.stream; works = λ x. o.works };
       ahead = record { rules = on.fixed; roots = on.roots; passes = on.passes; others = λ x. o.home.none };
     }
 
@@ -56,12 +59,15 @@ lasts who p q v w l link a turn on ended lives la stands units rises at s =
 abbrev pub served_line : Line → SessionState SeenState → MemLinkState → MemLinkState → ℕ → Line
 served_line l w far near back = record { client = l.client; near = near; session = w; far = far; forth = l.forth; back = back }
 
-pub was_served : (who : ℕ) (p q : SoleState) (l : Line) (w : SessionState SeenState) (link far near : MemLinkState) (back : ℕ) (a : Turn) → IsTurn l.session p l.far a w q link → IsOn p l.session.seat q w.seat → w.ended ≡ ended_by a → ended_by a ≡ None
-    → lasting_of w.parts ≡ lasting_of l.session.parts → (StandsFor granted l.session → StandsFor granted w) → (StandsFor granted l.session → Publishes granted w.parts) → (StandsFor granted l.session → Rises granted w.parts)
-    → IsAt (FitsSole q) (places (sole_rules q.rules)) w.parts w.seat → Passes link l.near far near → back ≡ l.back + length link.sent → back ≤ most_passed → Serves who p l.session l.far → ArePassed l
+pub was_served : (who : ℕ) (p q : SoleState) (l : Line) (w : SessionState SeenState) (link far near : MemLinkState) (back : ℕ) (a : Turn)
+    → IsTurn l.session p l.far a w q link → IsOn p l.session.seat q w.seat → w.ended ≡ ended_by a → ended_by a ≡ None → w.quit ≡ l.session.quit
+    → lasting_of w.parts ≡ lasting_of l.session.parts → (StandsFor granted l.session → StandsFor granted w)
+    → (StandsFor granted l.session → Publishes granted w.parts) → (StandsFor granted l.session → Rises granted w.parts)
+    → IsAt (FitsSole q) (places (sole_rules q.rules)) w.parts w.seat → Passes link l.near far near → back ≡ l.back + length link.sent → back ≤ most_passed
+    → Serves who p l.session l.far → ArePassed l
     → Served who p q (served_line l w far near back)
-was_served who p q l w link far near back a turn on ended lives la stands units rises at passes count few s passed =
-    let t = lasts who p q l.session w l.far link a turn on ended lives la stands units rises at s in
+was_served who p q l w link far near back a turn on ended lives quit la stands units rises at passes count few s passed =
+    let t = lasts who p q l.session w l.far link a turn on ended lives quit passed.back.works la stands units rises at s in
     record {
       serves = serves_at who q w link far (ap (λ (m : MemLinkState). m.gave) passes.handed) (took_same link far passes.handed) t.serves;
       passed = record {
@@ -71,17 +77,31 @@ was_served who p q l w link far near back a turn on ended lives la stands units 
       ahead = t.ahead;
     }
 
-pub turned_so : (p q : SoleState) (l : Line) (w : SessionState SeenState) (link far near : MemLinkState) (back : ℕ) (a : Turn) → IsTurn l.session p l.far a w q link → w.ended ≡ ended_by a → ended_by a ≡ None → w.quit ≡ l.session.quit → Passes link l.near far near
+pub turned_so : (p q : SoleState) (l : Line) (w : SessionState SeenState) (link far near : MemLinkState) (back : ℕ) (a : Turn)
+    → IsTurn l.session p l.far a w q link → w.ended ≡ ended_by a → ended_by a ≡ None → w.quit ≡ l.session.quit → Passes link l.near far near
     → SessionTurned p q l (served_line l w far near back)
-turned_so p q l w link far near back a turn ended lives quit passes = record { answer = a; link = link; turn = turn; lives = lives; ended = ended ∙ lives; quit = quit; passed = passes; client = refl }
+turned_so p q l w link far near back a turn ended lives quit passes =
+    record { answer = a; link = link; turn = turn; lives = lives; ended = ended ∙ lives; quit = quit; passed = passes; client = refl }
 
 -- one that has ended in it
-pub session_stops : (stop : Stop) (p q : SoleState) (l m : Line) (w : SessionState SeenState) (link : MemLinkState) (a : Turn) → LastsBy (Err stop) a → IsTurn l.session p l.far a w q link → TurnsSession (Err stop) p q l m
-session_stops Unfinished p q l m w link a h t = record { cause = h.0; why = h.2; new = w; port = q; link = link; turn = subst (λ (b : Turn). IsTurn l.session p l.far b w q link) h.1 t }
-session_stops (Refused at) p q l m w link a h t = absurd h
-session_stops Source p q l m w link a h t = absurd h
-session_stops Sink p q l m w link a h t = absurd h
-session_stops Memory p q l m w link a h t = tt
+pub session_stops : (stop : Stop) (p q : SoleState) (l m : Line) (w : SessionState SeenState) (link : MemLinkState) (a : Turn) → LastsBy (Err stop) a
+    → IsTurn l.session p l.far a w q link → w.ended ≡ ended_by a → (StandsFor granted l.session → StandsFor granted w)
+    → lasting_of w.parts ≡ lasting_of l.session.parts → TurnsSession (Err stop) p q l m
+session_stops Unfinished p q l m w link a h t ended stands lasting = record {
+  cause = h.0;
+  why = h.2;
+  new = w;
+  port = q;
+  link = link;
+  turn = subst (λ (b : Turn). IsTurn l.session p l.far b w q link) h.1 t;
+  ended = ended ∙ ap ended_by h.1;
+  stands = stands;
+  lasts = lasting;
+}
+session_stops (Refused at) p q l m w link a h t ended stands lasting = absurd h
+session_stops Source p q l m w link a h t ended stands lasting = absurd h
+session_stops Sink p q l m w link a h t ended stands lasting = absurd h
+session_stops Memory p q l m w link a h t ended stands lasting = tt
 
 pub session_wants : (stop : Stop) (p q : SoleState) (l m : Line) → stop ≡ Memory → TurnsSession (Err stop) p q l m
 session_wants stop p q l m e = subst (λ (s : Stop). TurnsSession (Err s) p q l m) (sym e) tt
@@ -95,12 +115,15 @@ pub record Quitting (who : ℕ) (p q : SoleState) (v : SessionState SeenState) (
   pub link : m ≡ l
   pub side : SessionSide who m v.parts.x v.parts.calls (journal_at p.books 0)
 
-quit_turn : (p q : SoleState) (v w : SessionState SeenState) (l m : MemLinkState) (a : Turn) → v.ended ≡ None → v.parts.kept ≡ None → IsTurn (record v { quit = true }) p l a w q m → IsEnded Quit (life_at v p) a (life_at w q) × (m ≡ l)
+quit_turn : (p q : SoleState) (v w : SessionState SeenState) (l m : MemLinkState) (a : Turn) → v.ended ≡ None → v.parts.kept ≡ None
+    → IsTurn (record v { quit = true }) p l a w q m → IsEnded Quit (life_at v p) a (life_at w q) × (m ≡ l)
 quit_turn p q v w l m a lives none t =
-    let x : KeptBy Asks granted MemHears MemSays v.parts.kept true (life_at v p) l a (life_at w q) m = subst (λ (o : Option End). EndedBy Asks granted MemHears MemSays o true (life_at v p) l a (life_at w q) m) lives t in
+    let x : KeptBy Asks granted MemHears MemSays v.parts.kept true (life_at v p) l a (life_at w q) m =
+    subst (λ (o : Option End). EndedBy Asks granted MemHears MemSays o true (life_at v p) l a (life_at w q) m) lives t in
     subst (λ (o : Option Entry). KeptBy Asks granted MemHears MemSays o true (life_at v p) l a (life_at w q) m) none x
 
-pub quits : (who : ℕ) (p q : SoleState) (v x w : SessionState SeenState) (l m : MemLinkState) (a : Turn) → sole_rules p.rules ≡ rules → IsStill v → x ≡ record v { quit = true } → IsTurn x p l a w q m → (StandsFor granted x → StandsFor granted w) → w.ended ≡ ended_by a
+pub quits : (who : ℕ) (p q : SoleState) (v x w : SessionState SeenState) (l m : MemLinkState) (a : Turn) → sole_rules p.rules ≡ rules → IsStill v
+    → x ≡ record v { quit = true } → IsTurn x p l a w q m → (StandsFor granted x → StandsFor granted w) → w.ended ≡ ended_by a
     → Serves who p v l → Quitting who p q v l m a
 quits who p q v x w l m a r still e t stands ended s =
     let b = quit_turn p q v w l m a s.lives still.none (subst (λ (y : SessionState SeenState). IsTurn y p l a w q m) e t) in

@@ -1,5 +1,6 @@
 -- What a run that has come to its end is
-use Rattle.std.proofs.Common.{◌≡◌, ℕ, ◌≤◌, ◌<◌, Bool, true, false, ◌&&◌, not, nat_eq, nat_le, List, [], ◌∷◌, length, Option, Some, None, is_some, refl, sym, ◌∙◌, subst, arith}
+use Rattle.std.proofs.Common.{◌≡◌, ℕ, ◌≤◌, ◌<◌, Bool, true, false, ◌&&◌, not, nat_eq, nat_le, List, [], ◌∷◌, length, Option, Some, None, is_some, refl, sym}
+use Rattle.std.proofs.Common.{◌∙◌, subst, arith}
 use Rattle.std.proofs.lemmas.Bool.Decides.{nat_tests}
 use Rattle.av_unit.specs.Fits.{Fits}
 use Rattle.av_unit.specs.declared.item.Item.{Item}
@@ -35,7 +36,8 @@ none_kept : (o : Option Entry) → not (is_some o) ≡ true → o ≡ None
 none_kept None e = refl
 none_kept (Some x) e = absurd (cc)
 
-pub still : (s : SessionState SeenState) (n : ℕ) → n ≡ pending_by s.ended s.parts → ((desk : Ask → Grant) → StandsFor desk s → IsUnsent s.ended desk s.parts n) → is_still s ≡ true → IsStill s
+pub still : (s : SessionState SeenState) (n : ℕ) → n ≡ pending_by s.ended s.parts
+    → ((desk : Ask → Grant) → StandsFor desk s → IsUnsent s.ended desk s.parts n) → is_still s ≡ true → IsStill s
 still s n e u t =
     let b = both (not (is_some s.parts.kept)) (nat_eq (pending_by s.ended s.parts) 0) t in
     let zero : n ≡ 0 = e ∙ same_is (pending_by s.ended s.parts) 0 b.1 in

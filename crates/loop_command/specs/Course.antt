@@ -1,5 +1,6 @@
 -- THE RUN OF A FILM, as a relation: rounds of turns, each of them that of a client or of a session
-use Rattle.std.specs.Prelude.{◌≡◌, ◌⊎◌, ◌<◌, ◌+◌, ◌-◌, ◌*◌, ◌^◌, ◌++◌, ℕ, Bool, true, false, ◌&&◌, not, min, nat_eq, nat_le, List, [], ◌∷◌, length, Option, Some, None}
+use Rattle.std.specs.Prelude.{◌≡◌, ◌⊎◌, ◌<◌, ◌+◌, ◌-◌, ◌*◌, ◌^◌, ◌++◌, ℕ, Bool, true, false, ◌&&◌, not, min, nat_eq, nat_le, List, [], ◌∷◌, length, Option}
+use Rattle.std.specs.Prelude.{Some, None}
 use Rattle.std.specs.Option.{is_some}
 use Rattle.flv_tags.specs.declared.tag.Tag.{Tag}
 use Rattle.relay_outside.specs.MemLinks.{MemHears, MemLinkState, MemSays}
@@ -12,7 +13,6 @@ use Rattle.client_owed.specs.Standing.{gave_more, with_given}
 use Rattle.rtmp_client.specs.ClientState.{ClientState, TurnMade, has_started, untouched_of, without_gift}
 use Rattle.rtmp_client.specs.Keeping as client_keeping
 use Rattle.rtmp_client.specs.Turns as client_turns
-use Rattle.rtmp_client.specs.declared.end.ClientEnd.{ClientEnd}
 use Rattle.rtmp_client.specs.declared.end.ClientEnd.TheVariants as client_end
 use Rattle.rtmp_client.specs.declared.end.ClientTurn.{ClientTurn}
 use Rattle.rtmp_client.specs.declared.end.ClientTurn.TheVariants as client_turn
@@ -29,11 +29,8 @@ use Rattle.relay_session.specs.Places.{AskedAlone}
 use Rattle.relay_session.specs.SeatState.{SeatState}
 use Rattle.relay_session.specs.SessionState.{SessionState, ended_by, life_at, pending_by}
 use Rattle.relay_session.specs.Turns.{EndedBy}
-use Rattle.relay_session.specs.declared.end.End.{End}
-use Rattle.relay_session.specs.declared.end.End.TheVariants as session_end
 use Rattle.relay_session.specs.declared.seat_answers.Made.{Made}
 use Rattle.relay_session.specs.declared.turn.Turn.{Turn}
-use Rattle.relay_session.specs.declared.turn.Turn.TheVariants as session_turn
 use Rattle.loop_command.specs.Desk.{asked_by, granted, max_message, player, publisher, rules, window}
 use Rattle.loop_command.specs.declared.line.Line.{Line}
 use Rattle.loop_command.specs.declared.rounds.Run.{Run}
@@ -58,30 +55,6 @@ is_on client_turn.Moved = true
 is_on client_turn.Idle = true
 is_on client_turn.Ended = false
 
--- an end that is no want of memory
-abbrev pub is_cause : ClientEnd → Bool
-is_cause client_end.PeerClosed = true
-is_cause client_end.LinkFault = true
-is_cause (client_end.BadVersion at) = true
-is_cause (client_end.BadChunk cause at) = true
-is_cause (client_end.BadControl at) = true
-is_cause (client_end.BadCommand at) = true
-is_cause (client_end.Refused code) = true
-is_cause client_end.Done = true
-is_cause client_end.OutOfMemory = false
-
--- nor that all was sent
-abbrev pub is_failure : ClientEnd → Bool
-is_failure client_end.PeerClosed = true
-is_failure client_end.LinkFault = true
-is_failure (client_end.BadVersion at) = true
-is_failure (client_end.BadChunk cause at) = true
-is_failure (client_end.BadControl at) = true
-is_failure (client_end.BadCommand at) = true
-is_failure (client_end.Refused code) = true
-is_failure client_end.Done = false
-is_failure client_end.OutOfMemory = false
-
 -- the turn, and what its link took comes to the session
 pub record ClientTurned (answer : ClientTurn) (l m : Line) : Type 0 where
   pub link : MemLinkState
@@ -90,12 +63,13 @@ pub record ClientTurned (answer : ClientTurn) (l m : Line) : Type 0 where
   pub session : m.session ≡ l.session
   pub all_sent : is_on answer ≡ false → m.client.ended ≡ Some client_end.Done
 
--- a turn by which it has ended so
-pub record ClientEnds (l : Line) (e : ClientEnd) : Type 0 where
+-- a turn by which it has ended, since its session refused it
+pub record ClientRefused (l : Line) : Type 0 where
+  pub code : List ℕ
   pub new : ClientState
   pub link : MemLinkState
   pub turn : TurnMade (client_turns.EndedBy MemHears MemSays) l.client l.near client_turn.Ended new link
-  pub ended : new.ended ≡ Some e
+  pub ended : new.ended ≡ Some (client_end.Refused code)
 
 -- ---- a turn of a session
 
@@ -103,18 +77,6 @@ abbrev pub Asks : SoleState → SeatState SeenState → ℕ → Entry → Made �
 Asks = AskedAlone FitsSole (λ (s : SoleState). sole_rules s.rules) (λ (s : SoleState). journal_at s.books) (λ (p : SeenState). p.seen)
     (λ (p : SeenState). length p.seen) (λ (e : Entry). Unit {0}) (λ (s : SoleState). 0) (λ (h xs i : List Step). i ≡ h ++ xs)
     (λ (s : SoleState) (q : ℕ). []) (λ (p : SeenState). [])
-
-abbrev pub is_session_cause : End → Bool
-is_session_cause session_end.PeerClosed = true
-is_session_cause session_end.LinkFault = true
-is_session_cause (session_end.BadVersion at) = true
-is_session_cause (session_end.BadChunk cause at) = true
-is_session_cause (session_end.BadControl at) = true
-is_session_cause (session_end.BadCommand at) = true
-is_session_cause (session_end.TooManyStreams at) = true
-is_session_cause session_end.Quit = true
-is_session_cause session_end.Worn = true
-is_session_cause session_end.OutOfMemory = false
 
 -- the turn of one that lives on, and what its link took comes to the client
 pub record SessionTurned (p q : SoleState) (l m : Line) : Type 0 where
@@ -126,15 +88,6 @@ pub record SessionTurned (p q : SoleState) (l m : Line) : Type 0 where
   pub quit : m.session.quit ≡ l.session.quit
   pub passed : Passes link l.near m.far m.near
   pub client : m.client ≡ l.client
-
--- a turn by which it has ended, and not for want of memory
-pub record SessionEnds (p : SoleState) (l : Line) : Type 0 where
-  pub cause : End
-  pub why : is_session_cause cause ≡ true
-  pub new : SessionState SeenState
-  pub port : SoleState
-  pub link : MemLinkState
-  pub turn : EndedBy Asks granted MemHears MemSays l.session.ended l.session.quit (life_at l.session p) l.far (session_turn.Ended cause) (life_at new port) link
 
 -- ---- the client that plays, and its session
 
@@ -155,10 +108,6 @@ pub record Pulled (r s : Run) : Type 0 where
   pub turned : ClientTurned answer r.pull s.pull
   pub others : s ≡ record r { pull = s.pull }
 
--- it has ended
-abbrev pub PullFails : Run → Type 0
-PullFails r = (e : ClientEnd) × (is_cause e ≡ true) × ClientEnds r.pull e
-
 -- a turn of its session
 pub record PlayerServed (r s : Run) : Type 0 where
   pub turned : SessionTurned r.port s.port r.pull s.pull
@@ -171,16 +120,6 @@ pub record Plays (r s : Run) : Type 0 where
   pub client : Pulled r pulled
   pub gift : TakesGift pulled.over pulled.pull.client.parts.gift pulled told
   pub session : PlayerServed told s
-
--- or the session has ended, when the run was so
-pub record PlayerLeft (r at : Run) : Type 0 where
-  pub pulled : Run
-  pub client : Pulled r pulled
-  pub gift : TakesGift pulled.over pulled.pull.client.parts.gift pulled at
-  pub session : SessionEnds at.port at.pull
-
-abbrev pub PlayFails : Run → Run → Type 0
-PlayFails r at = ((at ≡ r) × PullFails r) ⊎ PlayerLeft r at
 
 -- ---- the client that publishes, and its session
 
@@ -228,15 +167,11 @@ abbrev pub PushesOnce : Bool → Run → Run → Type 0
 PushesOnce true r s = (given : Run) × GivesWhere r.stage (can_give r.push.client) r given × PushesWhere given.stage given s
 PushesOnce false r s = s ≡ r
 
--- it has ended, and not since all was sent
-abbrev pub FailsToPush : Run → Type 0
-FailsToPush r = (e : ClientEnd) × (is_failure e ≡ true) × ClientEnds r.push e
-
--- when the run was so
+-- it is refused, when the run was so
 pub record PushFails (r at : Run) : Type 0 where
   pub started : has_started r.pull.client.parts.phase ≡ true
   pub given : GivesWhere r.stage (can_give r.push.client) r at
-  pub fails : FailsToPush at
+  pub refused : ClientRefused at.push
 
 -- a turn of its session
 pub record PublisherServed (r s : Run) : Type 0 where
@@ -249,14 +184,6 @@ pub record Publishes (r s : Run) : Type 0 where
   pub client : PushesOnce (has_started r.pull.client.parts.phase) r pushed
   pub session : PublisherServed pushed s
 
--- or the session has ended, when the run was so
-pub record PublisherLeft (r at : Run) : Type 0 where
-  pub client : PushesOnce (has_started r.pull.client.parts.phase) r at
-  pub session : SessionEnds at.port at.push
-
-abbrev pub PublishFails : Run → Run → Type 0
-PublishFails r at = PushFails r at ⊎ PublisherLeft r at
-
 -- ---- rounds
 
 -- A ROUND
@@ -265,15 +192,15 @@ pub record Round (r s : Run) : Type 0 where
   pub plays : Plays r between
   pub publishes : Publishes between s
 
--- the second half of it fails
+-- the client that publishes is refused in it
 pub record LateFails (r at : Run) : Type 0 where
   pub between : Run
   pub plays : Plays r between
-  pub fails : PublishFails between at
+  pub fails : PushFails between at
 
--- or a client or a session has ended in it, when the run was so
+-- A CLIENT IS REFUSED IN IT, when the run was so
 abbrev pub RoundFails : Run → Run → Type 0
-RoundFails r at = PlayFails r at ⊎ LateFails r at
+RoundFails r at = ((at ≡ r) × ClientRefused r.pull) ⊎ LateFails r at
 
 abbrev pub is_done : Stage → Bool
 is_done Giving = false
@@ -376,7 +303,7 @@ pub record CameBack (tags : List Tag) (bytes : ℕ) (text : List ℕ) : Type 0 w
   pub settled : is_settled last ≡ true
   pub text_is : text ≡ text_of last
 
--- IT HASN'T: a client or a session has ended before, or all its rounds are made. This text came
+-- IT HASN'T: all its rounds are made, or a client was refused before. This text came
 pub record CameNot (tags : List Tag) (bytes : ℕ) (text : List ℕ) : Type 0 where
   pub first : Run
   pub fresh : IsFirst tags first

@@ -31,6 +31,12 @@ pub record Tied (h z : List ℕ) (m : MemLinkState) (x input sent : List ℕ) : 
   pub handed : m.handed ≡ h
   pub stream : m.gave ++ concat m.pieces ≡ z
 
+-- no call of it fails, and its input doesn't end
+pub record Works (m : MemLinkState) : Type 0 where
+  pub receives : m.recv_fails ≡ false
+  pub sends : m.send_fails ≡ false
+  pub lasts : m.ended ≡ false
+
 -- ---- the client
 
 -- one that lives, over its link
@@ -74,6 +80,7 @@ pub record StaysHome (where_is : Option ℕ) (p : SoleState) (s : SeatState Seen
 -- one that lives, over its link and at these streams
 pub record Serves (who : ℕ) (p : SoleState) (s : SessionState SeenState) (m : MemLinkState) : Type 0 where
   pub lives : s.ended ≡ None
+  pub goes_on : s.quit ≡ false
   pub who_is : s.parts.who ≡ who
   pub window_is : s.parts.window ≡ window
   pub max : s.parts.reader.max ≡ max_message
@@ -98,12 +105,13 @@ pub record GoesAhead (p q : SoleState) : Type 0 where
 abbrev pub most_passed : ℕ
 most_passed = 2 ^ 61
 
--- what each link has handed over came to the other, and is counted
+-- what a link has handed over came to the other, and is counted, and the link works
 pub record IsPassed (from to : MemLinkState) (total : ℕ) : Type 0 where
   pub came : to.gave ++ concat to.pieces ≡ from.handed
   pub none : from.sent ≡ []
   pub total_is : total ≡ length from.handed
   pub few : total ≤ most_passed
+  pub works : Works from
 
 pub record ArePassed (l : Line) : Type 0 where
   pub forth : IsPassed l.near l.far l.forth

@@ -1,16 +1,17 @@
 -- Only proofs and private functions use it.
 -- A run between two rounds
-use Rattle.std.specs.Prelude.{◌≡◌, ◌⊎◌, ◌≤◌, ◌<◌, ◌+◌, ◌*◌, ◌++◌, min, ℕ, Bool, true, false, List, [], ◌∷◌, length, Option, Some, None, Result, Ok, Err}
+use Rattle.std.specs.Prelude.{◌≡◌, ◌⊎◌, ◌≤◌, ◌<◌, ◌+◌, ◌++◌, min, ℕ, Bool, true, false, List, [], ◌∷◌, length, Option, Some, None, Result, Ok, Err}
 use Rattle.std.specs.Io.KnownBytes.{append_known}
 use Rattle.flv_tags.specs.declared.tag.Tag.{Tag}
 use Rattle.flv_tags.specs.Written.{IsWritable}
 use Rattle.relay_outside.specs.Counts.{Rose}
-use Rattle.relay_outside.specs.MemLinks.{MemLinkState}
+use Rattle.relay_outside.specs.MemLinks.{MemHears, MemLinkState, MemSays}
 use Rattle.client_owed.specs.declared.types.Gave.{Gave}
 use Rattle.client_owed.specs.declared.types.Gift.{Gift}
 use Rattle.client_owed.specs.declared.types.Gift.TheVariants.{Unpublished}
 use Rattle.client_owed.specs.Standing.{is_finished}
-use Rattle.rtmp_client.specs.ClientState.{ClientState}
+use Rattle.rtmp_client.specs.ClientState.{ClientState, StandsBy, TurnMade, lasting_of}
+use Rattle.rtmp_client.specs.Turns as client_turns
 use Rattle.rtmp_client.specs.declared.end.ClientEnd.{ClientEnd}
 use Rattle.rtmp_client.specs.declared.end.ClientEnd.TheVariants as client_end
 use Rattle.rtmp_client.specs.declared.end.ClientTurn.{ClientTurn}
@@ -18,8 +19,10 @@ use Rattle.rtmp_client.specs.declared.end.ClientTurn.TheVariants as client_turn
 use Rattle.stream_registry.specs.Books.{FitsSole, SeenState, SoleState, journal_at, sole_rules}
 use Rattle.stream_registry.specs.Names.{places}
 use Rattle.relay_session.specs.Places.{IsAt}
-use Rattle.relay_session.specs.SessionState.{IsUnsent, SessionState, StandsFor, ended_by}
+use Rattle.relay_session.specs.SessionState.{IsUnsent, SessionState, StandsFor, ended_by, life_at, lasting_of as session_lasting}
+use Rattle.relay_session.specs.Turns.{EndedBy}
 use Rattle.relay_session.specs.declared.end.End.{End}
+use Rattle.relay_session.specs.declared.end.End.TheVariants as session_end
 use Rattle.relay_session.specs.declared.turn.Turn.{Turn}
 use Rattle.relay_session.specs.declared.turn.Turn.TheVariants as session_turn
 use Rattle.client_command.specs.Turned.{IsLive}
@@ -32,7 +35,8 @@ use Rattle.client_command.specs.declared.stop.Stop.{Stop as CommandStop}
 use Rattle.client_command.specs.declared.stop.Stop.TheVariants as command
 use Rattle.file_commands.specs.Outcome.{seen}
 use Rattle.segment_command.specs.Films.{WasRead}
-use Rattle.loop_command.specs.Course.{ClientEnds, ClientTurned, IsCourse, IsFirst, PlayFails, Plays, PublishFails, Publishes, Round, RoundFails, SessionEnds, SessionTurned, is_failure, is_on, is_session_cause, is_settled, sent_in, text_of}
+use Rattle.loop_command.specs.Course.{Asks, ClientRefused, ClientTurned, IsCourse, IsFirst, Plays, Publishes, PushFails, Round, RoundFails, SessionTurned}
+use Rattle.loop_command.specs.Course.{is_on, is_settled, rounds_of, sent_in, text_of}
 use Rattle.loop_command.specs.Desk.{granted, player, publisher, puller, pusher, rules}
 use Rattle.loop_command.specs.Films.{IsRefused, film_length, most_bytes, tag_length}
 use Rattle.loop_command.specs.Outcome.{Ends, How, Whole, ByFilm, BySource, BySink, ByMemory, ByRounds}
@@ -103,6 +107,52 @@ AddsTag (Err Memory) t r s = Unit {0}
 AddsTag (Err Unfinished) t r s = ⊥
 
 -- ---- the turns of a line
+
+-- an end that is neither want of memory nor that all was sent
+abbrev pub is_failure : ClientEnd → Bool
+is_failure client_end.PeerClosed = true
+is_failure client_end.LinkFault = true
+is_failure (client_end.BadVersion at) = true
+is_failure (client_end.BadChunk cause at) = true
+is_failure (client_end.BadControl at) = true
+is_failure (client_end.BadCommand at) = true
+is_failure (client_end.Refused code) = true
+is_failure client_end.Done = false
+is_failure client_end.OutOfMemory = false
+
+-- a turn of a client by which it has ended so
+pub record ClientEnds (l : Line) (e : ClientEnd) : Type 0 where
+  pub new : ClientState
+  pub link : MemLinkState
+  pub turn : TurnMade (client_turns.EndedBy MemHears MemSays) l.client l.near client_turn.Ended new link
+  pub ended : new.ended ≡ Some e
+  pub stands : StandsBy new.ended new.parts
+  pub lasts : lasting_of new.parts ≡ lasting_of l.client.parts
+
+-- an end of a session that is no want of memory; that its calls are too many to be counted counts as one
+abbrev pub is_session_cause : End → Bool
+is_session_cause session_end.PeerClosed = true
+is_session_cause session_end.LinkFault = true
+is_session_cause (session_end.BadVersion at) = true
+is_session_cause (session_end.BadChunk cause at) = true
+is_session_cause (session_end.BadControl at) = true
+is_session_cause (session_end.BadCommand at) = true
+is_session_cause (session_end.TooManyStreams at) = true
+is_session_cause session_end.Quit = true
+is_session_cause session_end.Worn = false
+is_session_cause session_end.OutOfMemory = false
+
+-- a turn of a session by which it has ended so
+pub record SessionEnds (p : SoleState) (l : Line) : Type 0 where
+  pub cause : End
+  pub why : is_session_cause cause ≡ true
+  pub new : SessionState SeenState
+  pub port : SoleState
+  pub link : MemLinkState
+  pub turn : EndedBy Asks granted MemHears MemSays l.session.ended l.session.quit (life_at l.session p) l.far (session_turn.Ended cause) (life_at new port) link
+  pub ended : new.ended ≡ Some cause
+  pub stands : StandsFor granted l.session → StandsFor granted new
+  pub lasts : session_lasting new.parts ≡ session_lasting l.session.parts
 
 -- why the run ends with a client that has ended
 abbrev pub is_stuck : Option ClientEnd → Bool
@@ -220,7 +270,7 @@ StepBy (Err Source) Made Fails = Unit {0}
 StepBy (Err Sink) Made Fails = Unit {0}
 StepBy (Err Memory) Made Fails = Unit {0}
 
--- memory is refused, or a client or a session has ended
+-- memory is refused, or a client was refused
 abbrev pub IsOwn : Stop → Type 0
 IsOwn (Refused at) = ⊥
 IsOwn Source = ⊥
@@ -236,7 +286,7 @@ IsWanting Sink = Unit {0}
 IsWanting Memory = Unit {0}
 IsWanting Unfinished = ⊥
 
--- a client or a session had ended when the run was at `at`, and what it was told until then is written
+-- a client was refused when the run was at `at`, and what it was told until then is written
 pub record Stuck (Fails : Run → Type 0) (old now : Option (List ℕ)) : Type 0 where
   pub at : Run
   pub fails : Fails at
@@ -247,11 +297,15 @@ pub record Goes (file : List Tag) (run : Run) (old now : Option (List ℕ)) (Mad
   pub is_run : IsRun file run old now
   pub made : Made
 
+-- the client that plays was refused
+abbrev pub PlayFails : Run → Run → Type 0
+PlayFails r at = (at ≡ r) × ClientRefused r.pull
+
 abbrev pub PlaysBy : Result (Unit {0}) Stop → List Tag → Run → Run → Option (List ℕ) → Option (List ℕ) → Type 0
 PlaysBy r file run new old now = StepBy r (Goes file new old now (Plays run new)) (Stuck (PlayFails run) old now)
 
 abbrev pub PublishesBy : Result (Unit {0}) Stop → List Tag → Run → Run → Option (List ℕ) → Option (List ℕ) → Type 0
-PublishesBy r file run new old now = StepBy r (Goes file new old now (Publishes run new)) (Stuck (PublishFails run) old now)
+PublishesBy r file run new old now = StepBy r (Goes file new old now (Publishes run new)) (Stuck (PushFails run) old now)
 
 abbrev pub RoundBy : Result (Unit {0}) Stop → List Tag → Run → Run → Option (List ℕ) → Option (List ℕ) → Type 0
 RoundBy r file run new old now = StepBy r (Goes file new old now (Round run new)) (Stuck (RoundFails run) old now)
@@ -301,7 +355,7 @@ how_of (Err Unfinished) = ByRounds
 -- how the command ends by what a run of a film came to, where the sink held this at first and this as the run began
 abbrev pub EndsWith : Result (Unit {0}) Stop → Run → ℕ → Option (List ℕ) → Option (List ℕ) → Option (List ℕ) → ℕ → ℕ → Type 0
 EndsWith v first rounds held before now f f' =
-    (r : Reading) (left left' : Option (List ℕ)) (n n' : ℕ) → ReadsWhole r left left' n n' → rounds ≡ 4096 + 2 * r.bytes → IsFirst r.tags.items first
+    (r : Reading) (left left' : Option (List ℕ)) (n n' : ℕ) → ReadsWhole r left left' n n' → rounds ≡ rounds_of r.bytes → IsFirst r.tags.items first
     → IsRun r.tags.items first held before
     → Ends (how_of v) (seen left held n f) (seen left' now n' f')
 

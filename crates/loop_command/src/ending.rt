@@ -172,8 +172,8 @@ fn brings_room(reply: &Reply)
     }
 }
 
-// And each item of a history.
-fn have_room(history: &[(Entry, Reply)])
+/// And each item of a history.
+pub(crate) fn have_room(history: &[(Entry, Reply)])
     ensures { HaveRoom 4194304 history.now }
 {
     let mut left = history;

@@ -14,6 +14,7 @@ mod publishing;
 mod rounds;
 mod run;
 mod stop;
+mod talk;
 mod words;
 
 pub use run::loop_run;

@@ -148,7 +148,9 @@ pub(crate) fn turn_client(alloc: Global, line: &mut Line) -> Result<bool, Stop>
     ensures passed { ArePassed line.old → OnOk result (ArePassed line.new) }
     ensures live { IsLive line.old.client → IfOk result (λ lives. lives ≡ true → IsLive line.new.client) }
     ensures lasts { lasting_of line.new.client.parts ≡ lasting_of line.old.client.parts }
-    ensures goes { (k : AnAsked) → ClientRuns k line.old.client line.old.near → IfOk result (λ lives. ClientGoes lives k line.old.client line.new.client line.new.near) }
+    ensures session { line.new.session ≡ line.old.session }
+    ensures goes { (k : AnAsked) → ClientRuns k line.old.client line.old.near
+        → IfOk result (λ lives. ClientGoes lives k line.old.client line.new.client line.new.near) }
     ensures turned { TurnsClient result line.old line.new }
 {
     let answer = line.client.turn(alloc, &mut line.near);
@@ -157,7 +159,7 @@ pub(crate) fn turn_client(alloc: Global, line: &mut Line) -> Result<bool, Stop>
     Ok(lives)
 }
 
-// Whether a session lives after a turn.
+// Whether a session lives after a turn. That a stream can count no more calls is want of memory.
 fn lasts_after(answer: Turn) -> Result<(), Stop>
     ensures { LastsBy result answer }
 {
@@ -166,6 +168,7 @@ fn lasts_after(answer: Turn) -> Result<(), Stop>
         Turn::Idle => Ok(()),
         Turn::Ended(end) => match end {
             End::OutOfMemory => Err(Stop::Memory),
+            End::Worn => Err(Stop::Memory),
             End::PeerClosed => Err(Stop::Unfinished),
             End::LinkFault => Err(Stop::Unfinished),
             End::BadVersion { at: _ } => Err(Stop::Unfinished),
@@ -174,7 +177,6 @@ fn lasts_after(answer: Turn) -> Result<(), Stop>
             End::BadCommand { at: _ } => Err(Stop::Unfinished),
             End::TooManyStreams { at: _ } => Err(Stop::Unfinished),
             End::Quit => Err(Stop::Unfinished),
-            End::Worn => Err(Stop::Unfinished),
         },
     }
 }

@@ -4,29 +4,39 @@ ghost use Rattle.std.specs.declared.option.Option.{Option};
 ghost use Rattle.flv_tags.specs.declared.tag.Tag.{Tag as ATag};
 ghost use Rattle.client_command.specs.Telling.{IsFine};
 ghost use Rattle.client_command.specs.Turned.{IsLive};
-ghost use Rattle.loop_command.specs.Course.{PlayerServed, PullFails, Pulled, SessionEnds, TakesGift, without};
+ghost use Rattle.loop_command.specs.Course.{ClientRefused, PlayerServed, Pulled, TakesGift, without};
 ghost use Rattle.loop_command.specs.Rounds.{Goes, IsOwn, IsRun, IsSound, IsWanting, PlaysBy, SinkCause, StepBy};
 
 use crate::line::{turn_client, turn_session};
 use crate::rounds::Run;
 use crate::stop::{Stop, within};
+use crate::talk::talk_law;
 use chunk_reader::messages_are_short;
 use client_command::{is_last, write_gift};
 use client_owed::Gift;
+use refusal_law::{a_client_is_ended_by_a_refusal_alone, a_session_is_ended_by_no_byte};
 use relay_outside::Sink;
+use relay_session::decided_law;
 use rtmp_client::Client;
 use std::alloc::Global;
 
-// A turn of the client that plays, which lives on.
+// A turn of the client that plays, which lives on, or is refused.
 fn pull_turn(alloc: Global, run: &mut Run) -> Result<(), Stop>
     requires sound { IsSound run.old }
     ensures sound { OnOk result (IsSound run.new) }
     ensures goes { (file : List ATag) (old now : Option (List ℕ)) → IsRun file run.old old now
-        → StepBy result (Goes file run.new old now (Pulled run.old run.new)) (PullFails run.old) }
+        → StepBy result (Goes file run.new old now (Pulled run.old run.new)) (ClientRefused run.old.pull) }
     ensures err { IfErr result IsOwn }
 {
-    let lives = turn_client(alloc, &mut run.pull)?;
-    if lives { Ok(()) } else { Err(Stop::Unfinished) }
+    a_client_is_ended_by_a_refusal_alone();
+    match turn_client(alloc, &mut run.pull) {
+        Ok(true) => Ok(()),
+        Ok(false) => Err(Stop::Unfinished),
+        Err(stop) => {
+            talk_law(&run.pull.session, &run.port);
+            Err(stop)
+        }
+    }
 }
 
 // Takes the gift that waits, if there is one. It can be written.
@@ -67,14 +77,16 @@ fn write_next<K: Sink>(alloc: Global, run: &mut Run, out: &mut K) -> Result<(), 
     }
 }
 
-// A turn of the session of the client that plays.
+// A turn of the session of the client that plays, which lives on.
 fn serve_player(alloc: Global, run: &mut Run) -> Result<(), Stop>
     requires sound { IsSound run.old }
     ensures sound { OnOk result (IsSound run.new) }
     ensures goes { (file : List ATag) (old now : Option (List ℕ)) → IsRun file run.old old now
-        → StepBy result (Goes file run.new old now (PlayerServed run.old run.new)) (SessionEnds run.old.port run.old.pull) }
+        → StepBy result (Goes file run.new old now (PlayerServed run.old run.new)) ⊥ }
     ensures err { IfErr result IsOwn }
 {
+    a_session_is_ended_by_no_byte();
+    decided_law();
     turn_session(alloc, &mut run.pull, &mut run.port)
 }
 
@@ -82,7 +94,8 @@ fn serve_player(alloc: Global, run: &mut Run) -> Result<(), Stop>
 pub(crate) fn play<K: Sink>(alloc: Global, run: &mut Run, out: &mut K) -> Result<(), Stop>
     requires sound { IsSound run.old }
     ensures sound { OnOk result (IsSound run.new) }
-    ensures goes { (file : List ATag) (held : Option (List ℕ)) → IsRun file run.old held (K.holds out.old) → PlaysBy result file run.old run.new held (K.holds out.new) }
+    ensures goes { (file : List ATag) (held : Option (List ℕ)) → IsRun file run.old held (K.holds out.old)
+        → PlaysBy result file run.old run.new held (K.holds out.new) }
     ensures faults { MatchResult result (λ _. K.faults out.new ≡ K.faults out.old) (λ stop. SinkCause stop (K.faults out.old) (K.faults out.new)) }
 {
     pull_turn(alloc, run)?;

@@ -3,7 +3,18 @@ ghost use Rattle.std.specs.Prelude.{◌≡◌, ℕ, List, true, false, IfErr, On
 ghost use Rattle.std.specs.declared.option.Option.{Option};
 ghost use Rattle.flv_tags.specs.declared.tag.Tag.{Tag as ATag};
 ghost use Rattle.rtmp_client.specs.ClientState.{has_started};
-ghost use Rattle.loop_command.specs.Course.{FailsToPush, GivesNext, GivesWhere, PublisherServed, PushFails, Pushed, PushesOnce, PushesWhere, SessionEnds, can_give, is_done};
+ghost use Rattle.loop_command.specs.Course.{
+  ClientRefused,
+  GivesNext,
+  GivesWhere,
+  PublisherServed,
+  PushFails,
+  Pushed,
+  PushesOnce,
+  PushesWhere,
+  can_give,
+  is_done,
+};
 ghost use Rattle.loop_command.specs.Rounds.{Goes, IsOwn, IsRun, IsSound, PublishesBy, StepBy, Stuck};
 ghost use Rattle.loop_command.specs.declared.rounds.Stage.TheVariants.{Giving};
 ghost use Rattle.loop_command.specs.declared.stop.Stop.TheVariants.{Memory};
@@ -11,8 +22,11 @@ ghost use Rattle.loop_command.specs.declared.stop.Stop.TheVariants.{Memory};
 use crate::line::{turn_client, turn_session};
 use crate::rounds::{Run, Stage};
 use crate::stop::Stop;
+use crate::talk::talk_law;
 use client_command::give_tag;
 use client_owed::give_step;
+use refusal_law::{a_client_is_ended_by_a_refusal_alone, a_session_is_ended_by_no_byte};
+use relay_session::decided_law;
 use rtmp_client::Client;
 use std::alloc::Global;
 
@@ -73,15 +87,21 @@ fn push_once(alloc: Global, run: &mut Run) -> Result<(), Stop>
     requires lives { is_done run.old.stage ≡ false }
     ensures sound { OnOk result (IsSound run.new) }
     ensures goes { (file : List ATag) (old now : Option (List ℕ)) → IsRun file run.old old now
-        → StepBy result (Goes file run.new old now (Pushed run.old run.new)) (FailsToPush run.old) }
+        → StepBy result (Goes file run.new old now (Pushed run.old run.new)) (ClientRefused run.old.push) }
     ensures err { IfErr result IsOwn }
 {
-    let lives = turn_client(alloc, &mut run.push)?;
-    if lives {
-        return Ok(());
+    a_client_is_ended_by_a_refusal_alone();
+    match turn_client(alloc, &mut run.push) {
+        Ok(true) => Ok(()),
+        Ok(false) => {
+            run.stage = Stage::Done;
+            Ok(())
+        }
+        Err(stop) => {
+            talk_law(&run.push.session, &run.port);
+            Err(stop)
+        }
     }
-    run.stage = Stage::Done;
-    Ok(())
 }
 
 // The same, unless it has sent all.
@@ -89,7 +109,7 @@ fn push_turn(alloc: Global, run: &mut Run) -> Result<(), Stop>
     requires sound { IsSound run.old }
     ensures sound { OnOk result (IsSound run.new) }
     ensures goes { (file : List ATag) (old now : Option (List ℕ)) → IsRun file run.old old now
-        → StepBy result (Goes file run.new old now (PushesWhere run.old.stage run.old run.new)) (FailsToPush run.old) }
+        → StepBy result (Goes file run.new old now (PushesWhere run.old.stage run.old run.new)) (ClientRefused run.old.push) }
     ensures err { IfErr result IsOwn }
 {
     match run.stage {
@@ -104,7 +124,8 @@ fn push_part(alloc: Global, run: &mut Run) -> Result<(), Stop>
     requires sound { IsSound run.old }
     ensures sound { OnOk result (IsSound run.new) }
     ensures goes { (file : List ATag) (old now : Option (List ℕ)) → IsRun file run.old old now
-        → StepBy result (Goes file run.new old now (PushesOnce (has_started run.old.pull.client.parts.phase) run.old run.new)) (Stuck (PushFails run.old) old now) }
+        → StepBy result (Goes file run.new old now (PushesOnce (has_started run.old.pull.client.parts.phase) run.old run.new))
+        (Stuck (PushFails run.old) old now) }
     ensures err { IfErr result IsOwn }
 {
     if run.pull.client.started() {
@@ -114,14 +135,16 @@ fn push_part(alloc: Global, run: &mut Run) -> Result<(), Stop>
     Ok(())
 }
 
-// A turn of the session of the client that publishes.
+// A turn of the session of the client that publishes, which lives on.
 fn serve_publisher(alloc: Global, run: &mut Run) -> Result<(), Stop>
     requires sound { IsSound run.old }
     ensures sound { OnOk result (IsSound run.new) }
     ensures goes { (file : List ATag) (old now : Option (List ℕ)) → IsRun file run.old old now
-        → StepBy result (Goes file run.new old now (PublisherServed run.old run.new)) (SessionEnds run.old.port run.old.push) }
+        → StepBy result (Goes file run.new old now (PublisherServed run.old run.new)) ⊥ }
     ensures err { IfErr result IsOwn }
 {
+    a_session_is_ended_by_no_byte();
+    decided_law();
     turn_session(alloc, &mut run.push, &mut run.port)
 }
 

@@ -154,7 +154,8 @@ pub(crate) fn new_run(alloc: Global, tags: VecDeque<Tag>) -> Result<Run, Stop>
 pub(crate) fn round<K: Sink>(alloc: Global, run: &mut Run, out: &mut K) -> Result<(), Stop>
     requires sound { IsSound run.old }
     ensures sound { OnOk result (IsSound run.new) }
-    ensures goes { (file : List ATag) (held : Option (List ℕ)) → IsRun file run.old held (K.holds out.old) → RoundBy result file run.old run.new held (K.holds out.new) }
+    ensures goes { (file : List ATag) (held : Option (List ℕ)) → IsRun file run.old held (K.holds out.old)
+        → RoundBy result file run.old run.new held (K.holds out.new) }
     ensures faults { MatchResult result (λ _. K.faults out.new ≡ K.faults out.old) (λ stop. SinkCause stop (K.faults out.old) (K.faults out.new)) }
 {
     play(alloc, run, out)?;

@@ -3,6 +3,7 @@ ghost use Rattle.std.specs.Prelude.{◌≡◌, ◌↔◌, ◌≤◌, ◌^◌, �
 ghost use Rattle.std.specs.declared.option.Option.{Option};
 ghost use Rattle.file_commands.specs.Outcome.{seen};
 ghost use Rattle.flv_tags.specs.declared.tag.Tag.{Tag as ATag};
+ghost use Rattle.loop_command.specs.Course.{rounds_of};
 ghost use Rattle.loop_command.specs.Outcome.{Ends, Outcome, status_of};
 ghost use Rattle.loop_command.specs.Rounds.{AreWritable, EndsFilm, EndsWith, IsRun, IsSettled, IsSound, RunsBy, SinkCause, how_of};
 ghost use Rattle.loop_command.specs.Words.{is_loop};
@@ -19,12 +20,21 @@ use std::alloc::Global;
 /// The rounds of a film without bytes.
 const FIRST_ROUNDS: u64 = 4_096;
 
+// How many rounds a film of so many bytes has.
+fn rounds_of(bytes: u64) -> u64
+    requires { bytes ≤ 2 ^ 28 }
+    ensures { result ≡ rounds_of bytes }
+{
+    FIRST_ROUNDS + 2 * bytes
+}
+
 // Rounds until the run is settled.
 fn run_all<K: Sink>(alloc: Global, run: &mut Run, rounds: u64, out: &mut K) -> Result<(), Stop>
     requires sound { IsSound run.old }
     ensures sound { OnOk result (IsSound run.new) }
     ensures settled { OnOk result (IsSettled run.new) }
-    ensures goes { (file : List ATag) (held : Option (List ℕ)) → IsRun file run.old held (K.holds out.old) → RunsBy result file run.old run.new rounds held (K.holds out.new) }
+    ensures goes { (file : List ATag) (held : Option (List ℕ)) → IsRun file run.old held (K.holds out.old)
+        → RunsBy result file run.old run.new rounds held (K.holds out.new) }
     ensures faults { MatchResult result (λ _. K.faults out.new ≡ K.faults out.old) (λ stop. SinkCause stop (K.faults out.old) (K.faults out.new)) }
 {
     let mut left = rounds;
@@ -57,7 +67,7 @@ fn run_film<K: Sink>(alloc: Global, film: Reading, out: &mut K) -> Result<(), St
     ensures { EndsFilm result film (K.holds out.old) (K.holds out.new) (K.faults out.old) (K.faults out.new) }
 {
     let Reading { tags, bytes } = film;
-    let rounds = FIRST_ROUNDS + 2 * bytes;
+    let rounds = rounds_of(bytes);
     match new_run(alloc, tags) {
         Ok(mut run) => {
             let how = run_whole(alloc, &mut run, rounds, out);
@@ -107,7 +117,7 @@ fn status_of(run: Result<(), Stop>) -> Status
 /// | 4 | the film is refused at `place`: at that of [`flv_tags::FlvFail`], or at 2^28 where it has more bytes | nothing |
 /// | 5 | only where the sink's faults rose | a first part |
 /// | 6 | for want of memory | a first part |
-/// | 9 | exactly where the run hasn't come to its end within 4,096 rounds and two for each byte of the film | what came |
+/// | 9 | the run hasn't come to its end within 4,096 rounds and two for each byte of the film, or a session has refused its client before | what came |
 ///
 /// `place` is 0 but for code 4.
 pub fn loop_run<S: Source, K: Sink>(

@@ -11,19 +11,22 @@ returns-in-Ok-clause-keeps c =
     let a = c.attach-pass in
     let t = c.call in
     let e = c.in-Ok.ensures in
-    count_keeps _ _ _ _ _ _ _ _ _ e.reply e.adds t.ensures.pass.0.seen e.laws (t.ensures.pass.1 ∙ a.ensures.pass.1 ∙ ap (λ (r : PortRules). r.limits 0) c.requires.rules)
+    count_keeps _ _ _ _ _ _ _ _ _ e.reply e.adds t.ensures.pass.0.seen e.laws (t.ensures.pass.1 ∙ a.ensures.pass.1
+    ∙ ap (λ (r : PortRules). r.limits 0) c.requires.rules)
 
 pub returns-in-Ok-clause-ahead : goal.returns-in-Ok-clause-ahead
 returns-in-Ok-clause-ahead c =
     let a = c.attach-pass in
     let t = c.call in
-    count_ahead c.args.port.now a.new.self t.new.self a.ensures.fixed.0 a.ensures.root a.ensures.fits t.ensures.fixed t.ensures.here t.ensures.others t.ensures.fits
+    count_ahead c.args.port.now a.new.self t.new.self a.ensures.fixed.0 a.ensures.root a.ensures.fits t.ensures.fixed t.ensures.here t.ensures.others
+    t.ensures.fits
 
 pub returns-clause-ahead : goal.returns-clause-ahead
 returns-clause-ahead c =
     let a = c.attach-pass in
     let t = c.call in
-    count_ahead c.args.port.now a.new.self t.new.self a.ensures.fixed.0 a.ensures.root a.ensures.fits t.ensures.fixed t.ensures.here t.ensures.others t.ensures.fits
+    count_ahead c.args.port.now a.new.self t.new.self a.ensures.fixed.0 a.ensures.root a.ensures.fits t.ensures.fixed t.ensures.here t.ensures.others
+    t.ensures.fits
 
 pub attach-pass-requires : goal.attach-pass-requires
 attach-pass-requires c = let e : places (sole_rules c.args.port.now.rules) ≡ 1 = ap places c.requires.rules in omega (arith, e)

@@ -21,8 +21,10 @@ pub returns-clause-looped : goal.returns-clause-looped
 returns-clause-looped c = λ file old now h.
     let a = c.end_session in
     let b = c.end_session-2 in
-    ended c.push_bytes_law.ensures c.pull_bytes_law.ensures c.session_readable_law.ensures file c.args.run.now old now c.count.new.port a.new.port b.new.port a.new.line.far b.new.line.far
-    c.requires.sound.rules_are h c.requires.settled c.count.ensures.ahead c.in_ok-count.ensures.keeps (c.in_ok-end_session.ensures.side publisher) (a.ensures.port publisher) (a.ensures.far publisher)
+    ended c.push_bytes_law.ensures c.pull_bytes_law.ensures c.session_readable_law.ensures file c.args.run.now old now c.count.new.port a.new.port
+    b.new.port a.new.line.far b.new.line.far
+    c.requires.sound.rules_are h c.requires.settled c.count.ensures.ahead c.in_ok-count.ensures.keeps (c.in_ok-end_session.ensures.side publisher)
+    (a.ensures.port publisher) (a.ensures.far publisher)
     (c.in_ok-end_session-2.ensures.side player) (b.ensures.port player) (b.ensures.far player) (subst (HaveRoom 4194304) c.journal.ensures c.have_room.ensures)
 
 pub end_session-requires-clause-rules : goal.end_session-requires-clause-rules
@@ -33,5 +35,6 @@ end_session-requires-2-clause-rules c = c.end_session.ensures.rules ∙ c.count.
 
 pub journal-requires : goal.journal-requires
 journal-requires c =
-    let e : places (sole_rules c.end_session-2.new.port.rules) ≡ 1 = ap places (c.end_session-2.ensures.rules ∙ c.end_session.ensures.rules ∙ c.count.ensures.rules ∙ c.requires.sound.rules_are) in
+    let e : places (sole_rules c.end_session-2.new.port.rules)
+    ≡ 1 = ap places (c.end_session-2.ensures.rules ∙ c.end_session.ensures.rules ∙ c.count.ensures.rules ∙ c.requires.sound.rules_are) in
     omega (arith, e)

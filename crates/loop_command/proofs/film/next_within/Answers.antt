@@ -8,7 +8,8 @@ pub returns-in-Ok : goal.returns-in-Ok
 returns-in-Ok g c = λ start w.
     let S = g.S.Source in
     let t = c.next.new in
-    next_goes c.in-Ok.tag c.args.film.now t.film start (S.left t.input) (S.faults c.args.input.now) (S.faults t.input) c.in-Ok.ensures.fine (c.in-Ok.ensures.goes start w)
+    next_goes c.in-Ok.tag c.args.film.now t.film start (S.left t.input) (S.faults c.args.input.now) (S.faults t.input) c.in-Ok.ensures.fine
+    (c.in-Ok.ensures.goes start w)
 
 pub returns-in-Err : goal.returns-in-Err
 returns-in-Err g c = λ start w.

@@ -13,7 +13,8 @@ loop-init g c =
       reading = f.ensures.reading;
       items = c.new.ensures.items ∙ sym f.ensures.given;
       counted = none_counted _ c.new.ensures.items refl;
-      read = subst (λ (b : List ℕ). WasRead b (g.S.Source.left c.args.input.now) (g.S.Source.left c.args.input.now)) (sym f.ensures.none) (prepend_none (g.S.Source.left c.args.input.now));
+      read = subst (λ (b : List ℕ). WasRead b (g.S.Source.left c.args.input.now) (g.S.Source.left c.args.input.now)) (sym f.ensures.none)
+          (prepend_none (g.S.Source.left c.args.input.now));
       faults = refl;
     }
 
@@ -23,7 +24,8 @@ returns-in-Err g c =
     let l = c.loop in
     let t = c.next_within.new in
     let start = S.left c.args.input.now in
-    stops_since c.in-Err.stop start (S.left t.input) (S.faults c.args.input.now) (S.faults l.input) (S.faults t.input) l.invariant.faults (c.in-Err.ensures start l.invariant.read)
+    stops_since c.in-Err.stop start (S.left t.input) (S.faults c.args.input.now) (S.faults l.input) (S.faults t.input) l.invariant.faults
+    (c.in-Err.ensures start l.invariant.read)
 
 pub returns-in-Ok-None : goal.returns-in-Ok-None
 returns-in-Ok-None g c =
@@ -31,8 +33,10 @@ returns-in-Ok-None g c =
     let l = c.loop in
     let t = c.next_within.new in
     let start = S.left c.args.input.now in
-    let h = subst (λ (o : Option Tag). NextBy (Ok o) l.film t.film start (S.left t.input) (S.faults l.input) (S.faults t.input)) c.in-Ok-None.field-0-is (c.in-Ok-None.ensures start l.invariant.read) in
-    whole_read l.reading l.film t.film start (S.left t.input) (S.faults c.args.input.now) (S.faults l.input) (S.faults t.input) l.invariant.counted l.invariant.items l.invariant.faults h
+    let h = subst (λ (o : Option Tag). NextBy (Ok o) l.film t.film start (S.left t.input) (S.faults l.input) (S.faults t.input)) c.in-Ok-None.field-0-is
+    (c.in-Ok-None.ensures start l.invariant.read) in
+    whole_read l.reading l.film t.film start (S.left t.input) (S.faults c.args.input.now) (S.faults l.input) (S.faults t.input) l.invariant.counted
+    l.invariant.items l.invariant.faults h
 
 pub add_tag-requires-clause-fits : goal.add_tag-requires-clause-fits
 add_tag-requires-clause-fits g c =
@@ -40,7 +44,8 @@ add_tag-requires-clause-fits g c =
     let l = c.loop in
     let t = c.next_within.new in
     let start = S.left c.args.input.now in
-    let h = subst (λ (o : Option Tag). NextBy (Ok o) l.film t.film start (S.left t.input) (S.faults l.input) (S.faults t.input)) c.in-Ok-Some.field-0-is (c.in-Ok-Some.ensures start l.invariant.read) in
+    let h = subst (λ (o : Option Tag). NextBy (Ok o) l.film t.film start (S.left t.input) (S.faults l.input) (S.faults t.input)) c.in-Ok-Some.field-0-is
+    (c.in-Ok-Some.ensures start l.invariant.read) in
     h.0.1
 
 pub returns-in-Err-add_tag : goal.returns-in-Err-add_tag
@@ -49,8 +54,10 @@ returns-in-Err-add_tag g c =
     let l = c.loop in
     let t = c.next_within.new in
     let start = S.left c.args.input.now in
-    let h = subst (λ (o : Option Tag). NextBy (Ok o) l.film t.film start (S.left t.input) (S.faults l.input) (S.faults t.input)) c.in-Ok-Some.field-0-is (c.in-Ok-Some.ensures start l.invariant.read) in
-    too_many c.in-Err-add_tag.stop c.in-Ok-Some.tag l.reading c.add_tag.new.reading l.film t.film start (S.left t.input) (S.faults c.args.input.now) (S.faults l.input) (S.faults t.input)
+    let h = subst (λ (o : Option Tag). NextBy (Ok o) l.film t.film start (S.left t.input) (S.faults l.input) (S.faults t.input)) c.in-Ok-Some.field-0-is
+    (c.in-Ok-Some.ensures start l.invariant.read) in
+    too_many c.in-Err-add_tag.stop c.in-Ok-Some.tag l.reading c.add_tag.new.reading l.film t.film start (S.left t.input) (S.faults c.args.input.now)
+    (S.faults l.input) (S.faults t.input)
     l.invariant.counted l.invariant.items l.invariant.faults c.in-Err-add_tag.ensures h
 
 pub loop-preserved : goal.loop-preserved
@@ -59,7 +66,8 @@ loop-preserved g c =
     let l = c.loop in
     let t = c.next_within.new in
     let start = S.left c.args.input.now in
-    let h = subst (λ (o : Option Tag). NextBy (Ok o) l.film t.film start (S.left t.input) (S.faults l.input) (S.faults t.input)) c.in-Ok-Some.field-0-is (c.in-Ok-Some.ensures start l.invariant.read) in
+    let h = subst (λ (o : Option Tag). NextBy (Ok o) l.film t.film start (S.left t.input) (S.faults l.input) (S.faults t.input)) c.in-Ok-Some.field-0-is
+    (c.in-Ok-Some.ensures start l.invariant.read) in
     let a = c.in-Ok.ensures in
     record {
       reading = h.0.0;

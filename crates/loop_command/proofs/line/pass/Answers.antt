@@ -17,7 +17,8 @@ pub returns-in-Ok-clause-passed : goal.returns-in-Ok-clause-passed
 returns-in-Ok-clause-passed c =
     let p = c.take_sent-piece in
     let n = c.size_of-count.ensures ∙ ap length (c.deref.ensures.value ∙ p.ensures.handed) in
-    passes_some c.args.from.now c.args.to.now p.new.self c.give.new.self c.size_of-count.result p.result.items p.ensures.left p.ensures.handed n c.if-count-eq0.false c.in-Ok.ensures.ok
+    passes_some c.args.from.now c.args.to.now p.new.self c.give.new.self c.size_of-count.result p.result.items p.ensures.left p.ensures.handed n
+    c.if-count-eq0.false c.in-Ok.ensures.ok
 
 pub returns-in-Ok-clause-total : goal.returns-in-Ok-clause-total
 returns-in-Ok-clause-total c =

@@ -28,8 +28,10 @@ returns-clause-goes g c = λ file held h.
     let now = g.K.Sink.holds c.write_next.new.out in
     let p = c.in_ok-pull_turn.ensures.goes file held (g.K.Sink.holds c.args.out.now) h in
     let w = c.in_ok-write_next.ensures.goes file held p.is_run in
-    plays_by t.result file c.args.run.now c.pull_turn.new.run c.write_next.new.run t.new.run held now p.made w.made w.is_run (t.ensures.goes file held now w.is_run)
+    plays_by t.result file c.args.run.now c.pull_turn.new.run c.write_next.new.run t.new.run held now p.made w.made
+    (t.ensures.goes file held now w.is_run)
 
 pub returns-clause-faults : goal.returns-clause-faults
 returns-clause-faults g c =
-    own_match c.serve_player.result (g.K.Sink.faults c.args.out.now) (g.K.Sink.faults c.write_next.new.out) c.in_ok-write_next.ensures.faults c.serve_player.ensures.err
+    own_match c.serve_player.result (g.K.Sink.faults c.args.out.now) (g.K.Sink.faults c.write_next.new.out) c.in_ok-write_next.ensures.faults
+    c.serve_player.ensures.err

@@ -14,7 +14,8 @@ returns-in-None-clause-sound g c =
 
 pub returns-in-None-clause-goes : goal.returns-in-None-clause-goes
 returns-in-None-clause-goes g c = λ file held h.
-    none_goes file held (g.K.Sink.holds c.args.out.now) c.args.run.now c.take_gift.new.client c.take_gift.ensures.left c.if-run.false (sym c.take_gift.ensures.gift ∙ c.in-None.is) h
+    none_goes file held (g.K.Sink.holds c.args.out.now) c.args.run.now c.take_gift.new.client c.take_gift.ensures.left c.if-run.false
+    (sym c.take_gift.ensures.gift ∙ c.in-None.is) h
 
 pub returns-clause-sound : goal.returns-clause-sound
 returns-clause-sound g c =
@@ -24,7 +25,8 @@ pub returns-clause-goes : goal.returns-clause-goes
 returns-clause-goes g c = λ file held h.
     let r = c.args.run.now in
     let t = told_is file r held (g.K.Sink.holds c.args.out.now) c.if-run.false h in
-    gift_goes file held (g.K.Sink.holds c.args.out.now) (g.K.Sink.holds c.write_gift.new.out) r c.in-Some.gift c.take_gift.new.client c.is_last-run.result c.saturating_add-run.result c.take_gift.ensures.left c.is_last-run.ensures c.saturating_add-run.ensures
+    gift_goes file held (g.K.Sink.holds c.args.out.now) (g.K.Sink.holds c.write_gift.new.out) r c.in-Some.gift c.take_gift.new.client c.is_last-run.result
+    c.saturating_add-run.result c.take_gift.ensures.left c.is_last-run.ensures c.saturating_add-run.ensures
     c.if-run.false (sym c.take_gift.ensures.gift ∙ c.in-Some.is) (c.in-Ok.ensures.text r.pull.client.parts.taken held t.0 t.1) h
 
 pub returns-in-Err-clause-stops : goal.returns-in-Err-clause-stops

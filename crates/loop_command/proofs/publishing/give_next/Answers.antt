@@ -8,7 +8,8 @@ give_one-requires-clause-can c = sym c.can_give.ensures ∙ c.if-can_give.true
 
 pub returns-then-can_give-clause-goes : goal.returns-then-can_give-clause-goes
 returns-then-can_give-clause-goes c = λ file old now h.
-    given_where c.give_one.result file old now c.args.run.now c.give_one.new.run c.in-Giving.is (sym c.can_give.ensures ∙ c.if-can_give.true) (c.give_one.ensures.goes file old now h)
+    given_where c.give_one.result file old now c.args.run.now c.give_one.new.run c.in-Giving.is (sym c.can_give.ensures ∙ c.if-can_give.true)
+    (c.give_one.ensures.goes file old now h)
 
 pub returns-else-can_give-clause-goes : goal.returns-else-can_give-clause-goes
 returns-else-can_give-clause-goes c = λ file old now h. record { is_run = h; made = given_none c.args.run.now (sym c.can_give.ensures ∙ c.if-can_give.false) }

@@ -30,8 +30,10 @@ returns-in_ok-give_tag-in-Some-clause-sound c =
     let e = c.in_ok-give_tag-in-Some.ensures in
     let fine = (subst AreWritable items opened.1).0 in
     let d = c.give_tag.new.client in
-    let live = live_given c.give_step.ensures r.push.client d (Send c.in-Some.tag) opened.0 can.0 (may_send r.push.client c.in-Some.tag opened.0 c.give_tag.ensures.range fine) e.past e.keeps c.give_tag.ensures.others in
-    tag_sound r (record r { push = record r.push { client = d }; tags = c.pop_front.new.self }) c.in-Some.tag c.requires.giving items refl (record { past = e.past; keeps = e.keeps; others = c.give_tag.ensures.others }) live c.requires.sound
+    let live = live_given c.give_step.ensures r.push.client d (Send c.in-Some.tag) opened.0 can.0
+    (may_send r.push.client c.in-Some.tag opened.0 c.give_tag.ensures.range fine) e.past e.keeps c.give_tag.ensures.others in
+    tag_sound r (record r { push = record r.push { client = d }; tags = c.pop_front.new.self }) c.in-Some.tag c.requires.giving items refl
+    (record { past = e.past; keeps = e.keeps; others = c.give_tag.ensures.others }) live c.requires.sound
 
 pub returns-in_ok-give_tag-in-Some-clause-goes : goal.returns-in_ok-give_tag-in-Some-clause-goes
 returns-in_ok-give_tag-in-Some-clause-goes c = λ file old now h.
@@ -42,7 +44,8 @@ returns-in_ok-give_tag-in-Some-clause-goes c = λ file old now h.
     let e = c.in_ok-give_tag-in-Some.ensures in
     let fine = (subst AreWritable items opened.1).0 in
     let d = c.give_tag.new.client in
-    let live = live_given c.give_step.ensures r.push.client d (Send c.in-Some.tag) opened.0 can.0 (may_send r.push.client c.in-Some.tag opened.0 c.give_tag.ensures.range fine) e.past e.keeps c.give_tag.ensures.others in
+    let live = live_given c.give_step.ensures r.push.client d (Send c.in-Some.tag) opened.0 can.0
+    (may_send r.push.client c.in-Some.tag opened.0 c.give_tag.ensures.range fine) e.past e.keeps c.give_tag.ensures.others in
     tag_goes file old now r (record r { push = record r.push { client = d }; tags = c.pop_front.new.self }) c.in-Some.tag c.requires.giving items refl
     (record { past = e.past; keeps = e.keeps; others = c.give_tag.ensures.others }) live h
 

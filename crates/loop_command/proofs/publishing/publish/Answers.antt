@@ -12,4 +12,4 @@ pub returns-clause-goes : goal.returns-clause-goes
 returns-clause-goes c = λ file old now h.
     let t = c.serve_publisher in
     let p = c.in_ok-push_part.ensures.goes file old now h in
-    publishes_by t.result file c.args.run.now c.push_part.new.run t.new.run old now p.made p.is_run (t.ensures.goes file old now p.is_run)
+    publishes_by t.result file c.args.run.now c.push_part.new.run t.new.run old now p.made (t.ensures.goes file old now p.is_run)

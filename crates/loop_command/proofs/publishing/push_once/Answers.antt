@@ -1,51 +1,61 @@
-use Rattle.std.proofs.Common.{◌∙◌, Bool, false, rules, subst, sym, true}
+use Rattle.std.proofs.Common.{◌∙◌, Bool, false, subst, sym, true}
 use Rattle.loop_command.specs.Course.{Pushed}
 use Rattle.loop_command.specs.Desk.{pusher}
 use Rattle.loop_command.specs.Lines.{ClientGoes}
 use Rattle.loop_command.specs.Rounds.{Goes}
-use Rattle.loop_command.proofs.Rounding.{own_turn, push_ends}
+use Rattle.loop_command.proofs.Refusing.{push_refused, same_whole}
+use Rattle.loop_command.proofs.Rounding.{client_ends, own_turn}
 use Rattle.loop_command.proofs.Running.{pushed_goes, pushed_ok, pushes_runs}
 use Rattle.loop_command.proofs.publishing.push_once.Goals as goal
 
-pub returns-in_err-lives-clause-goes : goal.returns-in_err-lives-clause-goes
-returns-in_err-lives-clause-goes c = λ file old now h.
-    let e = c.in_err-lives in
-    let s = record c.args.run.now { push = c.turn_client.new.line } in
-    let x = push_ends e.field-0.0 (Goes file s old now (Pushed c.args.run.now s)) c.args.run.now c.turn_client.new.line e.ensures.turned in
-    search (rules, x)
+pub returns-in-Err-clause-goes : goal.returns-in-Err-clause-goes
+returns-in-Err-clause-goes c = λ file old now h.
+    let v = c.in-Err in
+    let r = c.args.run.now in
+    let l = c.turn_client.new.line in
+    let s = record r { push = l } in
+    let t = c.talk_law.ensures in
+    client_ends v.stop (Goes file s old now (Pushed r s)) r.push l
+    (push_refused c.a_client_is_ended_by_a_refusal_alone.ensures file old now r c.requires.sound.rules_are c.requires.lives h
+    (same_whole r.push.session l.session c.turn_client.ensures.session h.publishes.stands t.whole) t.room) v.ensures.turned
 
-pub returns-in_err-lives-clause-err : goal.returns-in_err-lives-clause-err
-returns-in_err-lives-clause-err c =
-    let e = c.in_err-lives in
-    let x = own_turn e.field-0.0 c.args.run.now.push c.turn_client.new.line e.ensures.turned in
-    search (rules, x)
+pub returns-in-Err-clause-err : goal.returns-in-Err-clause-err
+returns-in-Err-clause-err c = own_turn c.in-Err.stop c.args.run.now.push c.turn_client.new.line c.in-Err.ensures.turned
 
-pub returns-then-lives-clause-sound : goal.returns-then-lives-clause-sound
-returns-then-lives-clause-sound c =
-    let e = c.in_ok-lives.ensures in
+pub returns-in-Ok-true-clause-sound : goal.returns-in-Ok-true-clause-sound
+returns-in-Ok-true-clause-sound c =
+    let v = c.in-Ok-true in
+    let e = v.ensures in
     let t = e.turned in
-    pushed_ok true t.0 c.args.run.now c.turn_client.new.line (sym t.1 ∙ c.if-lives.true) e.few (λ f m. e.live m (t.1 ∙ f)) c.turn_client.ensures.lasts t.2 c.requires.sound
+    pushed_ok true t.0 c.args.run.now c.turn_client.new.line (sym t.1 ∙ v.field-0-test) e.few (λ f m. e.live m (t.1 ∙ f)) c.turn_client.ensures.lasts
+    t.2 c.requires.sound
 
-pub returns-then-lives-clause-goes : goal.returns-then-lives-clause-goes
-returns-then-lives-clause-goes c = λ file old now h.
-    let e = c.in_ok-lives.ensures in
+pub returns-in-Ok-true-clause-goes : goal.returns-in-Ok-true-clause-goes
+returns-in-Ok-true-clause-goes c = λ file old now h.
+    let v = c.in-Ok-true in
+    let e = v.ensures in
     let t = e.turned in
     let l = c.turn_client.new.line in
     let r = c.args.run.now in
-    let goes = subst (λ (b : Bool). ClientGoes b pusher c.args.run.now.push.client l.client l.near) t.1 (e.goes pusher (pushes_runs r.stage file r.tags.items r.push.client r.push.near c.requires.lives h.pushes)) in
-    pushed_goes true file old now t.0 c.args.run.now l (sym t.1 ∙ c.if-lives.true) c.requires.lives (e.passed h.push_passed) goes c.turn_client.ensures.lasts t.2 h
+    let goes = subst (λ (b : Bool). ClientGoes b pusher r.push.client l.client l.near) t.1
+    (e.goes pusher (pushes_runs r.stage file r.tags.items r.push.client r.push.near c.requires.lives h.pushes)) in
+    pushed_goes true file old now t.0 r l (sym t.1 ∙ v.field-0-test) c.requires.lives (e.passed h.push_passed) goes c.turn_client.ensures.lasts t.2 h
 
-pub returns-clause-sound : goal.returns-clause-sound
-returns-clause-sound c =
-    let e = c.in_ok-lives.ensures in
+pub returns-in-Ok-false-clause-sound : goal.returns-in-Ok-false-clause-sound
+returns-in-Ok-false-clause-sound c =
+    let v = c.in-Ok-false in
+    let e = v.ensures in
     let t = e.turned in
-    pushed_ok false t.0 c.args.run.now c.turn_client.new.line (sym t.1 ∙ c.if-lives.false) e.few (λ f m. e.live m (t.1 ∙ f)) c.turn_client.ensures.lasts t.2 c.requires.sound
+    pushed_ok false t.0 c.args.run.now c.turn_client.new.line (sym t.1 ∙ v.field-0-test) e.few (λ f m. e.live m (t.1 ∙ f)) c.turn_client.ensures.lasts
+    t.2 c.requires.sound
 
-pub returns-clause-goes : goal.returns-clause-goes
-returns-clause-goes c = λ file old now h.
-    let e = c.in_ok-lives.ensures in
+pub returns-in-Ok-false-clause-goes : goal.returns-in-Ok-false-clause-goes
+returns-in-Ok-false-clause-goes c = λ file old now h.
+    let v = c.in-Ok-false in
+    let e = v.ensures in
     let t = e.turned in
     let l = c.turn_client.new.line in
     let r = c.args.run.now in
-    let goes = subst (λ (b : Bool). ClientGoes b pusher c.args.run.now.push.client l.client l.near) t.1 (e.goes pusher (pushes_runs r.stage file r.tags.items r.push.client r.push.near c.requires.lives h.pushes)) in
-    pushed_goes false file old now t.0 c.args.run.now l (sym t.1 ∙ c.if-lives.false) c.requires.lives (e.passed h.push_passed) goes c.turn_client.ensures.lasts t.2 h
+    let goes = subst (λ (b : Bool). ClientGoes b pusher r.push.client l.client l.near) t.1
+    (e.goes pusher (pushes_runs r.stage file r.tags.items r.push.client r.push.near c.requires.lives h.pushes)) in
+    pushed_goes false file old now t.0 r l (sym t.1 ∙ v.field-0-test) c.requires.lives (e.passed h.push_passed) goes c.turn_client.ensures.lasts t.2 h

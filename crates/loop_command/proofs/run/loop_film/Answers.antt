@@ -18,4 +18,5 @@ returns-in-Err g c =
     let S = g.S.Source in
     let K = g.K.Sink in
     let t = c.read_film.new in
-    film_ends c.in-Err.stop (S.left c.args.input.now) (S.left t.input) (K.holds c.args.out.now) (S.faults c.args.input.now) (S.faults t.input) (K.faults c.args.out.now) c.in-Err.ensures
+    film_ends c.in-Err.stop (S.left c.args.input.now) (S.left t.input) (K.holds c.args.out.now) (S.faults c.args.input.now) (S.faults t.input)
+    (K.faults c.args.out.now) c.in-Err.ensures

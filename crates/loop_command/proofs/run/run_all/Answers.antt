@@ -14,7 +14,8 @@ returns-in_err-round-clause-goes g c = λ file held h.
     let l = c.loop-left in
     let e = c.in_err-round in
     let o = l.invariant.goes file held h in
-    let x = round_stops e.field-0.0 _ file c.args.run.now l.run c.round.new.run c.args.rounds l.left (l.left - 1) held (g.K.Sink.holds l.out) (g.K.Sink.holds c.round.new.out) o (omega (arith, c.loop-left-test.true)) (e.ensures.goes file held o.is_run) in
+    let x = round_stops e.field-0.0 _ file c.args.run.now l.run c.round.new.run c.args.rounds l.left (l.left - 1) held (g.K.Sink.holds l.out)
+    (g.K.Sink.holds c.round.new.out) o (omega (arith, c.loop-left-test.true)) (e.ensures.goes file held o.is_run) in
     search (rules, x)
 
 pub returns-then-is_settled-clause-settled : goal.returns-then-is_settled-clause-settled
@@ -24,7 +25,8 @@ pub returns-then-is_settled-clause-goes : goal.returns-then-is_settled-clause-go
 returns-then-is_settled-clause-goes g c = λ file held h.
     let l = c.loop-left in
     let o = l.invariant.goes file held h in
-    run_settles file c.args.run.now l.run c.round.new.run c.args.rounds l.left (l.left - 1) held (g.K.Sink.holds l.out) (g.K.Sink.holds c.round.new.out) o (omega (arith, c.loop-left-test.true)) (sym c.is_settled.ensures ∙ c.if-is_settled.true)
+    run_settles file c.args.run.now l.run c.round.new.run c.args.rounds l.left (l.left - 1) held (g.K.Sink.holds l.out) (g.K.Sink.holds c.round.new.out) o
+    (omega (arith, c.loop-left-test.true)) (sym c.is_settled.ensures ∙ c.if-is_settled.true)
     (c.in_ok-round.ensures.goes file held o.is_run)
 
 pub loop-left-preserved : goal.loop-left-preserved
@@ -34,7 +36,8 @@ loop-left-preserved g c =
       sound = c.in_ok-round.ensures.sound;
       goes = λ file held h.
           let o = l.invariant.goes file held h in
-          run_on file c.args.run.now l.run c.round.new.run c.args.rounds l.left (l.left - 1) held (g.K.Sink.holds l.out) (g.K.Sink.holds c.round.new.out) o (omega (arith, c.loop-left-test.true)) (sym c.is_settled.ensures ∙ c.if-is_settled.false)
+          run_on file c.args.run.now l.run c.round.new.run c.args.rounds l.left (l.left - 1) held (g.K.Sink.holds l.out) (g.K.Sink.holds c.round.new.out)
+          o (omega (arith, c.loop-left-test.true)) (sym c.is_settled.ensures ∙ c.if-is_settled.false)
           (c.in_ok-round.ensures.goes file held o.is_run);
       faults = c.in_ok-round.ensures.faults ∙ l.invariant.faults;
     }

@@ -6,7 +6,7 @@ pub returns-in-Ok : goal.returns-in-Ok
 returns-in-Ok g c = λ left left' n n' h.
     let held = g.K.Sink.holds c.args.out.now in
     let new = c.in-Ok.ensures.new in
-    c.run_whole-how.ensures held c.args.film left left' n n' h refl new.first (new.is_run held)
+    c.run_whole-how.ensures held c.args.film left left' n n' h c.rounds_of-rounds.ensures new.first (new.is_run held)
 
 pub returns-in-Err : goal.returns-in-Err
 returns-in-Err g c = λ left left' n n' h.

@@ -6,7 +6,8 @@ returns-in-Ok g c = λ held.
     let K = g.K.Sink in
     let e = c.in-Ok in
     let t = c.run_all.new in
-    whole_ends c.finish.result c.args.run.now t.run c.args.rounds held (K.holds c.args.out.now) (K.holds t.out) (K.faults c.args.out.now) (K.faults t.out) (λ file. e.ensures.goes file held) e.ensures.faults
+    whole_ends c.finish.result c.args.run.now t.run c.args.rounds held (K.holds c.args.out.now) (K.holds t.out) (K.faults c.args.out.now) (K.faults t.out)
+    (λ file. e.ensures.goes file held) e.ensures.faults
     (λ file. c.finish.ensures.looped file held (K.holds t.out)) c.finish.ensures.err
 
 pub returns-in-Err : goal.returns-in-Err
@@ -14,4 +15,5 @@ returns-in-Err g c = λ held.
     let K = g.K.Sink in
     let e = c.in-Err in
     let t = c.run_all.new in
-    whole_stops e.stop c.args.run.now t.run c.args.rounds held (K.holds c.args.out.now) (K.holds t.out) (K.faults c.args.out.now) (K.faults t.out) (λ file. e.ensures.goes file held) e.ensures.faults
+    whole_stops e.stop c.args.run.now t.run c.args.rounds held (K.holds c.args.out.now) (K.holds t.out) (K.faults c.args.out.now) (K.faults t.out)
+    (λ file. e.ensures.goes file held) e.ensures.faults

@@ -1,0 +1,9 @@
+//! A client and a session that read what the other owes never refuse a byte of it.
+//!
+//! Read [`a_session_is_ended_by_no_byte`] and [`a_client_is_ended_by_a_refusal_alone`] first; their words are `specs/Refusals.antt`. It has
+//! no code that runs.
+#![tactic(auto)]
+
+mod laws;
+
+pub use laws::{a_client_is_ended_by_a_refusal_alone, a_session_is_ended_by_no_byte};
