@@ -4,3 +4,4 @@ pub mod Recs
 pub mod Casts
 pub mod Lines
 pub mod Printing
+pub mod Runs

@@ -3,7 +3,7 @@ use Rattle.std.proofs.Common.{inl, inr, ◌≡◌, ◌⊎◌, ◌^◌, ℕ, ◌+
 use Rattle.std.proofs.Common.{All as Each_of, Option, Some, None, refl, sym, ap, ◌∙◌, subst, arith, length-append}
 use Rattle.std.specs.List.{AllZip}
 use Rattle.std.specs.Option.{option_map}
-use Rattle.std.proofs.lemmas.List.Elements.{AllZip-push, All-head, All-nil, All-push, All-set, All-tail}
+use Rattle.std.proofs.lemmas.List.Elements.{AllZip-push, All-nil, All-push, All-set}
 use Rattle.command_dialog.specs.declared.types.Ask.{Ask}
 use Rattle.command_dialog.specs.declared.types.Grant.{Grant}
 use Rattle.relay_base.specs.declared.limits.Limits.{Limits as AllLimits}
@@ -38,7 +38,7 @@ use Rattle.relay_replay.specs.declared.guest.Guest.{Guest}
 use Rattle.relay_replay.specs.declared.guest.Guest.TheVariants as guest
 use Rattle.relay_replay.specs.declared.recording.Plan.{Plan}
 use Rattle.relay_replay.proofs.Serving.{all_at}
-use Rattle.replay_law.specs.Outputs.{Goes, HasRoomIf, OpensNoOther}
+use Rattle.replay_law.specs.Outputs.{HasRoomIf, OpensNoOther}
 use Rattle.replay_law.proofs.Alike.{AreAlike, AreAlikeIf, LiveAlike, LiveBy, SameCast, SameConn, SameGuest, SameRec, SameScene}
 use Rattle.replay_law.proofs.Casts.{put_length, recs_alike, rounds_alike, same_length, turns_alike, zip_get, zip_length, zip_set}
 
@@ -413,13 +413,5 @@ module _ (line : ReplayLine) (s s' t t' : SceneState) (a : allows line (stand_of
       plays_alike (desk_of s) line s.limits c.before c'.before c.now c'.now o before c.plays plays in
       moved (Some c.now) (Some c'.now) c.cast c'.cast now (desk_same_at (acting_same line (stand_of s) e))
 
-  line_same : SameScene t t'
+  pub line_same : SameScene t t'
   line_same = record { stand = d'.stand ∙ (ap (after line) h.stand ∙ sym d.stand); casts = casts_by (is_acting line) refl d.cast d'.cast }
-
--- LINES
-pub goes_same : (lines : List ReplayLine) (s s' t t' : SceneState) → Each_of OpensNoOther lines → SameScene s s' → Goes lines s t → Goes lines s' t'
-    → SameScene t t'
-goes_same [] s s' t t' o h g g' = subst (λ (z : SceneState). SameScene z t') (sym g) (subst (λ (z : SceneState). SameScene s z) (sym g') h)
-goes_same (line ∷ lines) s s' t t' o h g g' =
-    goes_same lines g.0 g'.0 t t' (All-tail OpensNoOther line lines o)
-    (line_same line s s' g.0 g'.0 g.1.0 (All-head OpensNoOther line lines o) g.1.1 g'.1.1 h) g.1.2 g'.1.2

@@ -1,5 +1,5 @@
 -- What is printed of two runs that are alike
-use Rattle.std.proofs.Common.{◌≡◌, ℕ, zero, suc, ◌+◌, List, [], ◌∷◌, ◌++◌, length, reverse, All, Option, refl, ap, ◌∙◌}
+use Rattle.std.proofs.Common.{◌≡◌, ℕ, zero, suc, ◌+◌, List, [], ◌∷◌, ◌++◌, length, reverse, Option, refl, ap, ◌∙◌}
 use Rattle.std.specs.List.{AllZip}
 use Rattle.command_dialog.specs.declared.types.Ask.{Ask}
 use Rattle.command_dialog.specs.declared.types.Grant.{Grant}
@@ -16,20 +16,19 @@ use Rattle.stream_registry.specs.Names.{PortRules}
 use Rattle.stream_registry.specs.Told.{Step}
 use Rattle.turn_law.specs.Twins.{SamePort}
 use Rattle.relay_outside.specs.MemLinks.{MemLinkState}
-use Rattle.relay_script.specs.declared.replay.ReplayLine.{ReplayLine}
 use Rattle.relay_replay.specs.Cast.{CastState, RecState}
 use Rattle.relay_replay.specs.Files.{FileState}
 use Rattle.relay_replay.specs.Plays.{link_of}
 use Rattle.relay_replay.specs.Prints.{Prints, end_text, end_words, held_at, held_line, most_of, open_line, opens_text, recorder_lines, recorders_text}
 use Rattle.relay_replay.specs.Prints.{session_lines, sessions_text, stream_line, streams_text, text_of}
-use Rattle.relay_replay.specs.Scenes.{SceneState, desk_of, start}
+use Rattle.relay_replay.specs.Scenes.{SceneState, desk_of}
 use Rattle.relay_replay.specs.Stand.{Stand}
 use Rattle.relay_replay.specs.declared.guest.Guest.{Guest}
 use Rattle.relay_replay.specs.declared.guest.Guest.TheVariants as guest
-use Rattle.replay_law.specs.Outputs.{DifferInTotal, HasRoomIf, IsOutput, OpensNoOther}
+use Rattle.replay_law.specs.Outputs.{DifferInTotal, HasRoomIf}
 use Rattle.replay_law.proofs.Alike.{AreAlike, SameCast, SameGuest, SameRec, SameScene}
 use Rattle.replay_law.proofs.Casts.{zip_length}
-use Rattle.replay_law.proofs.Lines.{goes_same, open_alike, open_room}
+use Rattle.replay_law.proofs.Lines.{open_alike, open_room}
 
 module _ (desk : Ask → Grant) where
   session_line_same : (n : ℕ) (g h : Guest) → SameGuest desk g h
@@ -115,7 +114,7 @@ text_same desk limits streams opens c d total h =
     ∙ ap (λ (i : ℕ). lines_of streams opens c ++ held_line total i) (most_same desk limits streams opens c d h)
 
 -- WHAT TWO RUNS PRINT
-prints_same : (s s' : SceneState) (text text' : List ℕ) → SameScene s s' → HasRoomIf s.cast → HasRoomIf s'.cast → Prints s text → Prints s' text'
+pub prints_same : (s s' : SceneState) (text text' : List ℕ) → SameScene s s' → HasRoomIf s.cast → HasRoomIf s'.cast → Prints s text → Prints s' text'
     → DifferInTotal text text'
 prints_same s s' text text' h room room' p p' =
     let alike : AreAlike (desk_of s) p.cast p'.cast = open_alike (desk_of s) s s' s.cast s'.cast p.cast p'.cast h.stand h.casts p.opened p'.opened in
@@ -131,10 +130,3 @@ prints_same s s' text text' h room room' p p' =
       second = p'.report.text_is ∙ (ap (λ (z : Stand). text_of z.limits z.places z.opens p'.cast total') h.stand
           ∙ text_same (desk_of s) s.limits s.places s.opens p.cast p'.cast total' cast);
     }
-
--- TWO OUTPUTS of one script
-pub outputs_same : (lines : List ReplayLine) (text text' : List ℕ) → All OpensNoOther lines → IsOutput lines text → IsOutput lines text'
-    → DifferInTotal text text'
-outputs_same lines text text' o a b =
-    let first : SameScene start start = record { stand = refl; casts = tt } in
-    prints_same a.state b.state text text' (goes_same lines start start a.state b.state o first a.run b.run) a.room b.room a.prints b.prints
