@@ -101,78 +101,86 @@ fn words(alloc: Global, word: &[u8]) -> Result<Vec<Vec<u8>>, Fail> {
     Ok(vec![in alloc; word.to_vec(alloc)?]?)
 }
 
+// What `remux` does with a file in pieces of so many bytes, called by that word, where these reads and puts fail: its status,
+// and what it wrote.
+fn remuxed(
+    alloc: Global,
+    word: &[u8],
+    file: &[u8],
+    piece: usize,
+    fails: (Vec<u64>, Vec<u64>),
+) -> Result<(Status, Vec<u8>), Fail> {
+    let (gets, puts) = fails;
+    let words = words(alloc, word)?;
+    let mut input = source(alloc, file, piece, gets)?;
+    let mut out = MemSink::new(alloc, puts);
+    let status = remux(alloc, &words, &mut input, &mut out);
+    drop(input);
+    let bytes = out.bytes().to_vec(alloc);
+    drop(out);
+    Ok((status, bytes?))
+}
+
 // What `check` tells of a stream, in pieces of so many bytes.
 fn checked(alloc: Global, stream: &[u8], piece: usize) -> Result<Vec<u8>, Fail> {
-    let mut input = source(alloc, stream, piece, vec![in alloc]?)?;
-    let mut out = MemSink::new(alloc, vec![in alloc]?);
-    let status = check(alloc, &words(alloc, b"check")?, &mut input, &mut out);
-    Ok(told(alloc, out.bytes(), status)?)
+    let words = words(alloc, b"check")?;
+    let mut input = source(alloc, stream, piece, Vec::new(alloc))?;
+    let mut out = MemSink::new(alloc, Vec::new(alloc));
+    let status = check(alloc, &words, &mut input, &mut out);
+    drop(input);
+    let text = told(alloc, out.bytes(), status);
+    drop(out);
+    Ok(text?)
 }
 
 // The status of `remux` of a file, in pieces of so many bytes, and what `check` tells of what it wrote.
 fn both(alloc: Global, file: &[u8], piece: usize) -> Result<Vec<u8>, Fail> {
-    let mut input = source(alloc, file, piece, vec![in alloc]?)?;
-    let mut out = MemSink::new(alloc, vec![in alloc]?);
-    let status = remux(alloc, &words(alloc, b"remux")?, &mut input, &mut out);
+    let none = (Vec::new(alloc), Vec::new(alloc));
+    let (status, stream) = remuxed(alloc, b"remux", file, piece, none)?;
     let mut text = told(alloc, b"", status)?;
-    text.extend_from_slice(&checked(alloc, out.bytes(), piece)?)?;
+    text.extend_from_slice(&checked(alloc, &stream, piece)?)?;
     Ok(text)
 }
 
-// What `remux` writes of the sound.
-fn stream(alloc: Global) -> Result<Vec<u8>, Fail> {
-    let mut input = source(alloc, SOUND, 100, vec![in alloc]?)?;
-    let mut out = MemSink::new(alloc, vec![in alloc]?);
-    let _ = remux(alloc, &words(alloc, b"remux")?, &mut input, &mut out);
-    Ok(out.bytes().to_vec(alloc)?)
-}
-
-// What `check` tells of the first so many bytes of that stream.
-fn first(alloc: Global, count: usize) -> Result<Vec<u8>, Fail> {
-    let stream = stream(alloc)?;
-    let bytes = stream.as_slice().get(..count).unwrap_or(b"");
-    checked(alloc, bytes, 200)
-}
-
-// What it tells of those behind the first so many.
-fn behind(alloc: Global, count: usize) -> Result<Vec<u8>, Fail> {
-    let stream = stream(alloc)?;
-    let bytes = stream.as_slice().get(count..).unwrap_or(b"");
-    checked(alloc, bytes, 200)
-}
-
-// What it tells where that byte is 17.
-fn altered(alloc: Global, place: usize) -> Result<Vec<u8>, Fail> {
-    let mut stream = stream(alloc)?;
-    if let Some(byte) = stream.get_mut(place) {
-        *byte = 17;
+// What `check` tells of what `remux` writes of the sound: of its first 563 bytes, of those behind the first 376, or of all where
+// byte 191 is another.
+fn altered(alloc: Global, row: u8) -> Result<Vec<u8>, Fail> {
+    let none = (Vec::new(alloc), Vec::new(alloc));
+    let (_, mut stream) = remuxed(alloc, b"remux", SOUND, 100, none)?;
+    if let Some(byte) = stream.get_mut(191) {
+        if row == b'h' {
+            *byte = 17;
+        }
     }
-    checked(alloc, &stream, 200)
+    let (from, to) = match row {
+        b'f' => (0, 563),
+        b'g' => (376, 564),
+        _ => (0, 564),
+    };
+    checked(alloc, stream.as_slice().get(from..to).unwrap_or(b""), 200)
 }
 
-// What `remux` does with the sound, called by that word, where these reads and puts fail.
+// How `remux` of the sound ends, called by that word, where these reads and puts fail.
 fn faulty(alloc: Global, word: &[u8], gets: Vec<u64>, puts: Vec<u64>) -> Result<Vec<u8>, Fail> {
-    let mut input = source(alloc, SOUND, 20, gets)?;
-    let mut out = MemSink::new(alloc, puts);
-    let status = remux(alloc, &words(alloc, word)?, &mut input, &mut out);
-    Ok(told(alloc, out.bytes(), status)?)
+    let (status, out) = remuxed(alloc, word, SOUND, 20, (gets, puts))?;
+    Ok(told(alloc, &out, status)?)
 }
 
-// How a command ended, and how much it wrote.
-fn ended(alloc: Global, code: u8, len: usize) -> Result<Vec<u8>, Fail> {
-    let line = format!(in alloc; "code {code} after {len} bytes\n")?;
-    Ok(line.as_str().as_bytes().to_vec(alloc)?)
-}
-
-// How `remux` of the sound ends where there is memory for so many puts.
+// How `remux` of the sound ends where there is memory for so many puts, and how much it wrote.
 fn starved(alloc: Global, puts: u64) -> Result<Vec<u8>, Fail> {
-    let mut input = source(alloc, SOUND, 20, vec![in alloc]?)?;
+    let words = words(alloc, b"remux")?;
+    let mut input = source(alloc, SOUND, 20, Vec::new(alloc))?;
     let mut out = Starved {
         list: Vec::new(alloc),
         puts,
+        slow: false,
     };
-    let status = remux(alloc, &words(alloc, b"remux")?, &mut input, &mut out);
-    ended(alloc, status.code, out.list.len())
+    let status = remux(alloc, &words, &mut input, &mut out);
+    drop(input);
+    let code = status.code;
+    let len = out.list.len();
+    let line = format!(in alloc; "code {code} after {len} bytes\n")?;
+    Ok(line.as_str().as_bytes().to_vec(alloc)?)
 }
 
 fn row(alloc: Global, row: u8) -> Result<Vec<u8>, Fail> {
@@ -182,12 +190,10 @@ fn row(alloc: Global, row: u8) -> Result<Vec<u8>, Fail> {
         b'c' => both(alloc, WITH_DATA, 7),
         b'd' => both(alloc, WITH_PICTURE, 20),
         b'e' => both(alloc, CUT, 19),
-        b'f' => first(alloc, 563),
-        b'g' => behind(alloc, 376),
-        b'h' => altered(alloc, 191),
-        b'i' => faulty(alloc, b"remux", vec![in alloc; 1]?, vec![in alloc]?),
-        b'j' => faulty(alloc, b"remux", vec![in alloc]?, vec![in alloc; 0]?),
-        b'k' => faulty(alloc, b"check", vec![in alloc]?, vec![in alloc]?),
+        b'f' | b'g' | b'h' => altered(alloc, row),
+        b'i' => faulty(alloc, b"remux", vec![in alloc; 1]?, Vec::new(alloc)),
+        b'j' => faulty(alloc, b"remux", Vec::new(alloc), vec![in alloc; 0]?),
+        b'k' => faulty(alloc, b"check", Vec::new(alloc), Vec::new(alloc)),
         b'l' => starved(alloc, 0),
         _ => starved(alloc, 1),
     }

@@ -1,14 +1,10 @@
 ghost use Rattle.std.specs.Prelude.{◌≤◌, ◌<◌, ◌+◌, ◌^◌, length, IfOk, OnOk};
 
+use crate::rows::first_row;
 use av_unit::{Bytes, Item, Kind, Unit, UnitArc};
 use flv_tags::*;
 use std::alloc::{AllocError, Global};
 use std::test::Fail;
-
-// An AAC configuration and a frame of sound.
-const SOUND: &[u8; 58] = b"FLV\x01\x05\x00\x00\x00\x09\x00\x00\x00\x00\
-\x08\x00\x00\x04\x00\x00\x00\x00\x00\x00\x00\xaf\x00\x12\x10\x00\x00\x00\x0f\
-\x08\x00\x00\x0b\x00\x00\x00\x00\x00\x00\x00\xaf\x01123456789\x00\x00\x00\x16";
 
 // What FFmpeg 5.1 wrote of three pictures and twelve samples: metadata, a key frame, sound, and two inter frames.
 const PICTURES: &[u8; 402] = b"FLV\x01\x05\x00\x00\x00\x09\x00\x00\x00\x00\
@@ -84,120 +80,78 @@ fn feed_all(
     Ok(())
 }
 
-// What a reader gives of two pieces: type, time and size of each tag, or the refusal, and then what it says at the end.
-fn given(alloc: Global, early: &[u8], late: &[u8], again: &mut Bytes) -> Result<String, AllocError>
-    requires { length early.now + length late.now < 2 ^ 63 }
-{
+// What the end gives.
+fn end_text(reader: &TagReader, alloc: Global) -> Result<String, AllocError> {
+    match reader.finish() {
+        Ok(()) => format!(in alloc; "end"),
+        Err(fail) => refusal(alloc, fail),
+    }
+}
+
+// What a reader gives of a file: type, time and size of each tag, or the refusal, and then what it says at the end.
+fn given(alloc: Global, file: &[u8], again: &mut Bytes) -> Result<String, AllocError> {
+    if file.len() > 1_000_000 {
+        return Err(AllocError);
+    }
     let mut reader = TagReader::new(alloc);
     let mut text = String::new(alloc);
-    feed_all(&mut reader, alloc, early, again, &mut text)?;
-    feed_all(&mut reader, alloc, late, again, &mut text)?;
-    match reader.finish() {
-        Ok(()) => text.push_str("end")?,
-        Err(fail) => text.push_str(refusal(alloc, fail)?.as_str())?,
+    let fed = feed_all(&mut reader, alloc, file, again, &mut text);
+    let end = end_text(&reader, alloc);
+    drop(reader);
+    fed?;
+    text.push_str(end?.as_str())?;
+    Ok(text)
+}
+
+#[test]
+fn files_are_read_and_written_again(rt: HostRuntime) -> Result<(), Fail> {
+    let alloc = rt.alloc();
+    let mut again = Bytes::new(alloc);
+    write_header(&mut again)?;
+    let text = given(alloc, PICTURES, &mut again)?;
+    assert_eq!(rt;
+        text.as_str(),
+        "18 0 268, 9 0 15, 8 0 13, 9 200 9, 9 400 9, end"
+    );
+    assert_eq!(rt; again.as_slice(), PICTURES.as_slice());
+    let text = given(alloc, LATE, &mut again)?;
+    assert_eq!(rt; text.as_str(), "8 20000000 13, end");
+    Ok(())
+}
+
+// Files that end within their header and within a tag, and those that are refused: by a wrong byte of the header, its length,
+// a tag's type, its highest byte, and what is stored behind it.
+const REFUSED: &[u8] =
+    b"|FLV\x01\x05\x00\x00\x00|FLV\x01\x05\x00\x00\x00\x09\x00\x00|FLV\x01\x05\x00\x00\x00\x09\x00\x00\x00\x00|\
+FLV\x01\x05\x00\x00\x00\x09\x00\x00\x00\x00\x08\x00\x00\x01\x00\x00\x00\x00\x00\x00\x00\xaf\x00\x00\x00|\
+FLW\x01|FLV\x01\xff\x00\x00\x00\x0a|FLV\x01\x05\x00\x00\x00\x09\x01\x02\x03\x04\x28|\
+FLV\x01\x05\x00\x00\x00\x09\x00\x00\x00\x00\x09\x40\x00\x01|\
+FLV\x01\x05\x00\x00\x00\x09\x00\x00\x00\x00\x09\x00\x00\x01\x00\x00\x00\x00\x00\x00\x00\x17\x00\x00\x00\x0d|";
+
+// What a reader gives of each row.
+fn told(alloc: Global, rows: &[u8]) -> Result<String, AllocError> {
+    let mut text = String::new(alloc);
+    let mut again = Bytes::new(alloc);
+    let mut left = rows;
+    for _ in 0..rows.len() {
+        let Some((row, rest)) = first_row(left) else {
+            break;
+        };
+        text.push_str(given(alloc, row, &mut again)?.as_str())?;
+        text.push('\n')?;
+        left = rest;
     }
     Ok(text)
 }
 
-// The same of one piece and a byte after it.
-fn given_then_more(alloc: Global, bytes: &[u8]) -> Result<String, AllocError>
-    requires { length bytes.now < 2 ^ 62 }
-{
-    let mut again = Bytes::new(alloc);
-    given(alloc, bytes, b"\x08", &mut again)
-}
-
 #[test]
-fn files_are_read_and_written_again_however_they_are_cut(rt: HostRuntime) -> Result<(), Fail> {
-    let alloc = rt.alloc();
-    for cut in 0..=PICTURES.len() {
-        let (early, late) = PICTURES.split_at(cut);
-        let mut again = Bytes::new(alloc);
-        write_header(&mut again)?;
-        let text = given(alloc, early, late, &mut again)?;
-        assert_eq!(rt;
-            text.as_str(),
-            "18 0 268, 9 0 15, 8 0 13, 9 200 9, 9 400 9, end",
-            "cut at {cut}"
-        );
-        assert_eq!(rt; again.as_slice(), PICTURES.as_slice(), "cut at {cut}");
-    }
-    Ok(())
-}
-
-#[test]
-fn flags_and_the_highest_byte_of_a_time_are_read(rt: HostRuntime) -> Result<(), Fail> {
-    let alloc = rt.alloc();
-    let mut again = Bytes::new(alloc);
-    let text = given(alloc, LATE, b"", &mut again)?;
-    let (_, tags) = LATE.split_at(13);
-    assert_eq!(rt; text.as_str(), "8 20000000 13, end");
-    assert_eq!(rt; again.as_slice(), tags);
-    Ok(())
-}
-
-// What is said of the first bytes of the sound.
-fn ending(end: usize) -> &'static str {
-    match end {
-        0 => "BadHeader { at: 0 }",
-        1..=8 => "BadHeader { at: 8 }",
-        9..=12 => "BadTag { at: 9 }",
-        13 => "end",
-        14..=31 => "BadTag { at: 13 }",
-        32 => "8 0 4, end",
-        33..=57 => "8 0 4, BadTag { at: 32 }",
-        _ => "8 0 4, 8 0 11, end",
-    }
-}
-
-#[test]
-fn a_file_that_ends_early_is_refused_at_its_tag(rt: HostRuntime) -> Result<(), Fail> {
-    let alloc = rt.alloc();
-    for end in 8..=SOUND.len() {
-        let (bytes, _) = SOUND.split_at(end);
-        let mut again = Bytes::new(alloc);
-        let text = given(alloc, bytes, b"", &mut again)?;
-        assert_eq!(rt; text.as_str(), ending(end), "{end} bytes");
-    }
-    let mut again = Bytes::new(alloc);
-    let text = given(alloc, b"", b"", &mut again)?;
-    assert_eq!(rt; text.as_str(), ending(0));
-    Ok(())
-}
-
-#[test]
-fn a_refusal_is_answered_again(rt: HostRuntime) -> Result<(), Fail> {
-    let alloc = rt.alloc();
-    let text = given_then_more(alloc, b"FLW\x01")?;
+fn files_are_refused_and_refused_again(rt: HostRuntime) -> Result<(), Fail> {
     assert_eq!(rt;
-        text.as_str(),
-        "BadHeader { at: 2 }BadHeader { at: 2 }BadHeader { at: 2 }"
-    );
-    let text = given_then_more(alloc, b"FLV\x01\xff\x00\x00\x00\x0a")?;
-    assert_eq!(rt;
-        text.as_str(),
-        "BadHeader { at: 8 }BadHeader { at: 8 }BadHeader { at: 8 }"
-    );
-    let text = given_then_more(alloc, b"FLV\x01\x05\x00\x00\x00\x09\x01\x02\x03\x04\x28")?;
-    assert_eq!(rt;
-        text.as_str(),
-        "BadTag { at: 13 }BadTag { at: 13 }BadTag { at: 13 }"
-    );
-    let text = given_then_more(
-        alloc,
-        b"FLV\x01\x05\x00\x00\x00\x09\x00\x00\x00\x00\x09\x40\x00\x01",
-    )?;
-    assert_eq!(rt;
-        text.as_str(),
-        "BadTag { at: 13 }BadTag { at: 13 }BadTag { at: 13 }"
-    );
-    let text = given_then_more(
-        alloc,
-        b"FLV\x01\x05\x00\x00\x00\x09\x00\x00\x00\x00\x09\x00\x00\x01\x00\x00\x00\x00\x00\x00\x00\x17\x00\x00\x00\x0d",
-    )?;
-    assert_eq!(rt;
-        text.as_str(),
-        "BadBack { at: 25, stored: 13, real: 12 }BadBack { at: 25, stored: 13, real: 12 }BadBack { at: 25, stored: 13, real: 12 }"
+        told(rt.alloc(), REFUSED)?.as_str(),
+        "BadHeader { at: 0 }\nBadHeader { at: 8 }\nBadTag { at: 9 }\nend\nBadTag { at: 13 }\n\
+         BadHeader { at: 2 }BadHeader { at: 2 }\nBadHeader { at: 8 }BadHeader { at: 8 }\n\
+         BadTag { at: 13 }BadTag { at: 13 }\nBadTag { at: 13 }BadTag { at: 13 }\n\
+         BadBack { at: 25, stored: 13, real: 12 }BadBack { at: 25, stored: 13, real: 12 }\n"
     );
     Ok(())
 }

@@ -14,6 +14,8 @@ mod pes;
 #[cfg(test)]
 mod recorders;
 #[cfg(test)]
+mod rows;
+#[cfg(test)]
 mod starved;
 #[cfg(test)]
 mod ts_in;

@@ -5,7 +5,6 @@ ghost use Rattle.media_recorder.specs.Ports.{FitsIf};
 use crate::starved::Starved;
 use av_unit::{Bytes, Kind, OutOfMemory, Unit, UnitArc};
 use media_recorder::*;
-use relay_outside::{MemSink, Put, Sink};
 use std::alloc::Global;
 use std::test::Fail;
 use stream_core::{Call, Entry, ShortName, StreamLimits};
@@ -13,33 +12,8 @@ use stream_registry::{Name, NameList, OpenList, Sole, StreamPort};
 
 // A header, and the tags of the publisher's three units.
 const FILE: &[u8; 66] =
-    b"FLV\x01\x05\x00\x00\x00\x09\x00\x00\x00\x00\x09\x00\x00\x03\x00\x00\x00\x00\x00\x00\x00\x17\x00\x01\x00\x00\x00\x0e\x09\x00\x00\x02\x02\x03\x04\x01\x00\x00\x00\x17\x01\x00\x00\x00\x0d\x08\x00\x00\x03\x00\x00\x05\x00\x00\x00\x00\xaf\x01\x21\x00\x00\x00\x0e";
-
-/// Takes one byte at a time.
-#[derive(Drop)]
-struct Sip {
-    list: Vec<u8>,
-}
-
-impl Sink for Sip {
-    ghost use Rattle.std.specs.Prelude.{Some};
-    ghost use Rattle.relay_outside.specs.Put.{PutStep};
-
-    ghost holds = { λ s. Some s.list.items };
-
-    ghost faults = { λ _. 0 };
-
-    ghost takes = { λ s piece answer t. PutStep piece (Some s.list.items) (Some t.list.items) 0 0 answer };
-
-    fn put(&mut self, piece: &[u8]) -> Put {
-        match self.list.extend_from_slice(&piece[..1]) {
-            Ok(()) => Put::Took(1),
-            Err(_) => Put::OutOfMemory,
-        }
-    }
-
-    ghost takes_mean = { λ s piece answer t some step. step };
-}
+    b"FLV\x01\x05\x00\x00\x00\x09\x00\x00\x00\x00\x09\x00\x00\x03\x00\x00\x00\x00\x00\x00\x00\x17\x00\x01\x00\x00\x00\x0e\
+\x09\x00\x00\x02\x02\x03\x04\x01\x00\x00\x00\x17\x01\x00\x00\x00\x0d\x08\x00\x00\x03\x00\x00\x05\x00\x00\x00\x00\xaf\x01\x21\x00\x00\x00\x0e";
 
 fn bytes(alloc: Global, text: &[u8]) -> Result<Bytes, OutOfMemory>
     ensures { IfOk result (λ b. b ≡ text.now) }
@@ -125,13 +99,13 @@ fn publish<P: StreamPort>(
 }
 
 // One turn of the recorder, or one call of the publisher.
-fn step<P: StreamPort, K: Sink>(
+fn step<P: StreamPort>(
     alloc: Global,
     letter: u8,
     port: &mut P,
     pass: &mut P::Pass,
     recorder: &mut FlvRecorder<P>,
-    sink: &mut K,
+    sink: &mut Starved,
 ) -> Result<u8, OutOfMemory>
     requires there { 0 < length (P.rules port.old).names }
     requires place { recorder.old.seat.place ≡ 0 }
@@ -150,12 +124,12 @@ fn step<P: StreamPort, K: Sink>(
 }
 
 // The letters in turn, and the answers.
-fn run<P: StreamPort, K: Sink>(
+fn run<P: StreamPort>(
     alloc: Global,
     letters: &[u8],
     port: &mut P,
     recorder: &mut FlvRecorder<P>,
-    sink: &mut K,
+    sink: &mut Starved,
 ) -> Result<Bytes, OutOfMemory>
     requires there { 0 < length (P.rules port.old).names }
     requires place { recorder.old.seat.place ≡ 0 }
@@ -174,85 +148,91 @@ fn run<P: StreamPort, K: Sink>(
     Ok(answers)
 }
 
-// A recorder that joins before a broadcast of three units, and then leaves.
-fn recorded<K: Sink>(alloc: Global, sink: &mut K) -> Result<(Bytes, bool), OutOfMemory> {
-    let mut port = port(alloc, 4)?;
-    let mut recorder = FlvRecorder::new(alloc, 0, 7, 4_096)?;
-    let answers = run(alloc, b"ttbckaetttttttttt", &mut port, &mut recorder, sink)?;
-    let left = matches!(recorder.leave(&mut port), Leaving::Done);
-    Ok((answers, left))
+// A recorder's answers to its turns among a publisher's calls, whether it then leaves, and its file.
+#[derive(Drop)]
+struct Recorded {
+    answers: Bytes,
+    left: bool,
+    file: Vec<u8>,
 }
 
-// Whether the answers are these where the put of that number fails, and the file has so many of the first bytes.
-fn is_cut(alloc: Global, fails: u64, answers: &[u8], len: usize) -> Result<bool, OutOfMemory> {
-    let mut sink = MemSink::new(alloc, vec![in alloc; fails]?);
-    let (told, left) = recorded(alloc, &mut sink)?;
-    let file = sink.bytes();
-    Ok(told.as_slice() == answers && file.len() == len && FILE.starts_with(file) && left)
-}
-
-// The same where there is memory for so many puts.
-fn is_starved(alloc: Global, puts: u64, answers: &[u8], len: usize) -> Result<bool, OutOfMemory> {
+// A recorder at that port, which is given so many puts, and puts of one byte each where it is slow.
+fn told_at(
+    alloc: Global,
+    letters: &[u8],
+    port: &mut Sole,
+    puts: u64,
+    slow: bool,
+) -> Result<Recorded, OutOfMemory>
+    requires { 0 < length port.old.rules.names }
+{
     let mut sink = Starved {
         list: Vec::new(alloc),
         puts,
+        slow,
     };
-    let (told, left) = recorded(alloc, &mut sink)?;
-    let file = sink.list.as_slice();
-    Ok(told.as_slice() == answers && file.len() == len && FILE.starts_with(file) && left)
+    let mut recorder = FlvRecorder::new(alloc, 0, 7, 4_096)?;
+    let answers = run(alloc, letters, port, &mut recorder, &mut sink);
+    let left = matches!(recorder.leave(port), Leaving::Done);
+    let Starved { list: file, .. } = sink;
+    Ok(Recorded {
+        answers: answers?,
+        left,
+        file,
+    })
+}
+
+// A recorder of a stream with so many players, which is given so many puts, and puts of one byte each where it is slow.
+fn told(
+    alloc: Global,
+    letters: &[u8],
+    players: u32,
+    puts: u64,
+    slow: bool,
+) -> Result<Recorded, OutOfMemory> {
+    let mut port = port(alloc, players)?;
+    let told = told_at(alloc, letters, &mut port, puts, slow);
+    drop(port);
+    told
+}
+
+// Whether the answers are these where there is memory for so many puts, and the file has so many of the first bytes.
+fn is_told(alloc: Global, puts: u64, answers: &[u8], len: usize) -> Result<bool, OutOfMemory> {
+    let told = told(alloc, b"ttbckaetttttttttt", 4, puts, false)?;
+    let file = told.file.as_slice();
+    Ok(
+        told.answers.as_slice() == answers
+            && file.len() == len
+            && FILE.starts_with(file)
+            && told.left,
+    )
 }
 
 #[test]
 fn each_put_finds_no_memory_once(rt: HostRuntime) -> Result<(), Fail> {
     let alloc = rt.alloc();
-    assert!(rt; is_starved(alloc, 0, b"OO.....OOOOOOOOOO", 0)?);
-    assert!(rt; is_starved(alloc, 1, b"MM.....MMOOOOOOOO", 13)?);
-    assert!(rt; is_starved(alloc, 2, b"MM.....MMMMOOOOOO", 31)?);
-    assert!(rt; is_starved(alloc, 3, b"MM.....MMMMMMOOOO", 48)?);
-    Ok(())
-}
-
-#[test]
-fn each_put_fails_once(rt: HostRuntime) -> Result<(), Fail> {
-    let alloc = rt.alloc();
-    assert!(rt; is_cut(alloc, 0, b"SS.....SSSSSSSSSS", 0)?);
-    assert!(rt; is_cut(alloc, 1, b"MM.....MMSSSSSSSS", 13)?);
-    assert!(rt; is_cut(alloc, 2, b"MM.....MMMMSSSSSS", 31)?);
-    assert!(rt; is_cut(alloc, 3, b"MM.....MMMMMMSSSS", 48)?);
-    assert!(rt; is_cut(alloc, 4, b"MM.....MMMMMMMMII", 66)?);
+    assert!(rt; is_told(alloc, 0, b"OO.....OOOOOOOOOO", 0)?);
+    assert!(rt; is_told(alloc, 1, b"MM.....MMOOOOOOOO", 13)?);
+    assert!(rt; is_told(alloc, 2, b"MM.....MMMMOOOOOO", 31)?);
+    assert!(rt; is_told(alloc, 3, b"MM.....MMMMMMOOOO", 48)?);
+    assert!(rt; is_told(alloc, 4, b"MM.....MMMMMMMMII", 66)?);
     Ok(())
 }
 
 #[test]
 fn a_sink_that_takes_one_byte_takes_the_same(rt: HostRuntime) -> Result<(), Fail> {
-    let alloc = rt.alloc();
-    let mut port = port(alloc, 4)?;
-    let mut recorder = FlvRecorder::new(alloc, 0, 7, 4_096)?;
-    let mut sink = Sip {
-        list: Vec::new(alloc),
-    };
-    let answers = run(
-        alloc,
-        b"ttttttttttttttbcettttttttttttttttttttttt",
-        &mut port,
-        &mut recorder,
-        &mut sink,
-    )?;
-    assert!(rt; answers.as_slice() == b"MMMMMMMMMMMMMM...MMMMMMMMMMMMMMMMMMMMMII".as_slice());
-    assert!(rt; sink.list.len() == 31 && FILE.starts_with(sink.list.as_slice()));
-    assert!(rt; recorder.held() == 0);
+    let letters = b"ttttttttttttttbcettttttttttttttttttttttt";
+    let told = told(rt.alloc(), letters, 4, 100, true)?;
+    assert!(rt; told.answers.as_slice() == b"MMMMMMMMMMMMMM...MMMMMMMMMMMMMMMMMMMMMII".as_slice());
+    assert!(rt; told.file.len() == 31 && FILE.starts_with(told.file.as_slice()));
     Ok(())
 }
 
 #[test]
 fn a_recorder_without_a_place_has_a_file_of_nothing(rt: HostRuntime) -> Result<(), Fail> {
-    let alloc = rt.alloc();
-    let mut port = port(alloc, 0)?;
-    let mut recorder = FlvRecorder::new(alloc, 0, 7, 4_096)?;
-    let mut sink = MemSink::new(alloc, Vec::new(alloc));
-    let answers = run(alloc, b"ttt", &mut port, &mut recorder, &mut sink)?;
-    assert!(rt; answers.as_slice() == b"MFF".as_slice());
-    assert!(rt; sink.bytes().len() == 13 && FILE.starts_with(sink.bytes()));
-    assert!(rt; matches!(recorder.leave(&mut port), Leaving::Done));
+    let told = told(rt.alloc(), b"ttt", 0, 100, false)?;
+    assert!(rt; told.answers.as_slice() == b"MFF".as_slice());
+    assert!(rt; told.file.len() == 13 && FILE.starts_with(told.file.as_slice()));
+    assert!(rt; told.left);
     Ok(())
 }

@@ -1,11 +1,12 @@
 //! A sink that runs out of memory.
 use relay_outside::{Put, Sink};
 
-/// Takes whole pieces, and has no memory once it has taken so many more.
+/// Takes whole pieces, or one byte of each where it is slow, and has no memory once it has taken so many more.
 #[derive(Drop)]
 pub struct Starved {
     pub list: Vec<u8>,
     pub puts: u64,
+    pub slow: bool,
 }
 
 impl Sink for Starved {
@@ -23,8 +24,9 @@ impl Sink for Starved {
             return Put::OutOfMemory;
         }
         self.puts -= 1;
-        match self.list.extend_from_slice(piece) {
-            Ok(()) => Put::Took(piece.len()),
+        let count = if self.slow { 1 } else { piece.len() };
+        match self.list.extend_from_slice(&piece[..count]) {
+            Ok(()) => Put::Took(count),
             Err(_) => Put::OutOfMemory,
         }
     }

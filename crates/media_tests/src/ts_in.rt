@@ -1,173 +1,120 @@
 ghost use Rattle.std.specs.Prelude.{◌≤◌, ◌<◌, ◌+◌, ◌^◌, length, IfOk, OnOk};
-ghost use Rattle.pes_packets.specs.Packet.{AreFlags};
 
+use crate::rows::first_row;
 use av_unit::{Bytes, OutOfMemory};
-use pes_packets::{PesFlags, put_pes, put_section};
 use std::alloc::{AllocError, Global};
 use std::test::Fail;
 use ts_reader::*;
 
-// Sections with their checks, which were computed outside.
-const PAT: &[u8; 16] = b"\x00\xb0\x0d\x00\x01\xc1\x00\x00\x00\x01\xf0\x00\x2a\xb1\x04\xb2";
-
-const BOTH: &[u8; 26] =
-    b"\x02\xb0\x17\x00\x01\xc1\x00\x00\xe1\x00\xf0\x00\x1b\xe1\x00\xf0\x00\x0f\xe1\x01\xf0\x00\x2f\x44\xb9\x9b";
-
-const SOUND: &[u8; 21] =
-    b"\x02\xb0\x12\x00\x01\xc1\x00\x00\xe1\x01\xf0\x00\x0f\xe1\x01\xf0\x00\xec\xe2\xb0\x94";
-
-const PICTURES: &[u8; 21] =
-    b"\x02\xb0\x12\x00\x01\xc3\x00\x00\xe1\x00\xf0\x00\x1b\xe1\x00\xf0\x00\x1a\x50\x8b\x5a";
-
-const NOTHING: &[u8; 16] = b"\x02\xb0\x0d\x00\x01\xff\x00\x00\xe1\x01\xf0\x00\x9e\x70\xa0\x64";
-
 // A frame of ADTS of nine raw bytes behind its header, at time 0.
-const FRAME: &[u8; 30] =
+const FRAME: &[u8] =
     b"\x00\x00\x01\xc0\x00\x18\x80\x80\x05\x21\x00\x01\x00\x01\xff\xf1\x50\x80\x02\x1f\xfc123456789";
 
 // The same with a length of one byte more, and with another first byte.
-const LONG_FRAME: &[u8; 30] =
+const LONG_FRAME: &[u8] =
     b"\x00\x00\x01\xc0\x00\x19\x80\x80\x05\x21\x00\x01\x00\x01\xff\xf1\x50\x80\x02\x1f\xfc123456789";
 
-const NO_FRAME: &[u8; 30] =
+const NO_FRAME: &[u8] =
     b"\x00\x00\x01\xc0\x00\x18\x80\x80\x05\x21\x00\x01\x00\x01\xfe\xf1\x50\x80\x02\x1f\xfc123456789";
 
 // An access unit with a delimiter, at the last times: presentation 8,589,934,412 and decoding 8,589,934,502.
-const PICTURE: &[u8; 31] =
+const PICTURE: &[u8] =
     b"\x00\x00\x01\xe0\x00\x00\x80\xc0\x0a\x3f\xff\xff\xfe\x99\x1f\xff\xff\xff\x4d\x00\x00\x00\x01\x09\xf0\x00\x00\x00\x01\x65\x88";
 
 // One without a delimiter, one that ends in a zero byte, and one whose times are the same though both are there.
-const BARE_PICTURE: &[u8; 25] =
+const BARE_PICTURE: &[u8] =
     b"\x00\x00\x01\xe0\x00\x00\x80\xc0\x0a\x3f\xff\xff\xfe\x99\x1f\xff\xff\xff\x4d\x00\x00\x00\x01\x65\x88";
 
-const ENDED_PICTURE: &[u8; 32] =
+const ENDED_PICTURE: &[u8] =
     b"\x00\x00\x01\xe0\x00\x00\x80\xc0\x0a\x3f\xff\xff\xfe\x99\x1f\xff\xff\xff\x4d\x00\x00\x00\x01\x09\xf0\x00\x00\x00\x01\x65\x88\x00";
 
-const SAME_TIMES: &[u8; 31] =
+const SAME_TIMES: &[u8] =
     b"\x00\x00\x01\xe0\x00\x00\x80\xc0\x0a\x31\x00\x01\x00\x01\x11\x00\x01\x00\x01\x00\x00\x00\x01\x09\xf0\x00\x00\x00\x01\x65\x88";
 
-// The counters of the next packets.
-#[derive(Drop)]
-struct Counters {
-    pat: u8,
-    pmt: u8,
-    video: u8,
-    audio: u8,
-}
-
-// With a clock reference, or without an adaptation field but for stuffing.
-fn flags(clock: bool) -> PesFlags
-    ensures { AreFlags result }
-{
-    PesFlags {
-        pcr: if clock { Some(8_589_889_592) } else { None },
-        random: false,
-        jump: false,
+// What stands at the front and at the end of the packet of a letter, which 0xFF fills between. Its counter is 0. The checks of
+// sections were computed outside.
+fn packet(letter: u8) -> (&'static [u8], &'static [u8]) {
+    match letter {
+        // Tables: the association, both streams, sound alone, pictures alone, none, and each where the other belongs.
+        b'A' => (
+            b"\x47\x40\x00\x10\x00\x00\xb0\x0d\x00\x01\xc1\x00\x00\x00\x01\xf0\x00\x2a\xb1\x04\xb2",
+            b"",
+        ),
+        b'B' => (
+            b"\x47\x50\x00\x10\x00\x02\xb0\x17\x00\x01\xc1\x00\x00\xe1\x00\xf0\x00\x1b\xe1\x00\xf0\x00\x0f\xe1\x01\xf0\x00\x2f\x44\xb9\x9b",
+            b"",
+        ),
+        b'S' => (
+            b"\x47\x50\x00\x10\x00\x02\xb0\x12\x00\x01\xc1\x00\x00\xe1\x01\xf0\x00\x0f\xe1\x01\xf0\x00\xec\xe2\xb0\x94",
+            b"",
+        ),
+        b'P' => (
+            b"\x47\x50\x00\x10\x00\x02\xb0\x12\x00\x01\xc3\x00\x00\xe1\x00\xf0\x00\x1b\xe1\x00\xf0\x00\x1a\x50\x8b\x5a",
+            b"",
+        ),
+        b'N' => (
+            b"\x47\x50\x00\x10\x00\x02\xb0\x0d\x00\x01\xff\x00\x00\xe1\x01\xf0\x00\x9e\x70\xa0\x64",
+            b"",
+        ),
+        b'T' => (
+            b"\x47\x40\x00\x10\x00\x02\xb0\x17\x00\x01\xc1\x00\x00\xe1\x00\xf0\x00\x1b\xe1\x00\xf0\x00\x0f\xe1\x01\xf0\x00\x2f\x44\xb9\x9b",
+            b"",
+        ),
+        b'X' => (
+            b"\x47\x50\x00\x10\x00\x00\xb0\x0d\x00\x01\xc1\x00\x00\x00\x01\xf0\x00\x2a\xb1\x04\xb2",
+            b"",
+        ),
+        // Sound, with a clock reference and without.
+        b'c' => (b"\x47\x41\x01\x30\x99\x10\xff\xff\xa8\x1c\x7e\x00", FRAME),
+        b'f' => (b"\x47\x41\x01\x30\x99\x00", FRAME),
+        b'l' => (b"\x47\x41\x01\x30\x99\x00", LONG_FRAME),
+        b'n' => (b"\x47\x41\x01\x30\x99\x00", NO_FRAME),
+        // Pictures, with a clock reference but for one, and one of a stream that no table names.
+        b'p' => (b"\x47\x41\x00\x30\x98\x10\xff\xff\xa8\x1c\x7e\x00", PICTURE),
+        b'q' => (b"\x47\x41\x00\x30\x98\x00", PICTURE),
+        b'b' => (
+            b"\x47\x41\x00\x30\x9e\x10\xff\xff\xa8\x1c\x7e\x00",
+            BARE_PICTURE,
+        ),
+        b'e' => (
+            b"\x47\x41\x00\x30\x97\x10\xff\xff\xa8\x1c\x7e\x00",
+            ENDED_PICTURE,
+        ),
+        b's' => (
+            b"\x47\x41\x00\x30\x98\x10\xff\xff\xa8\x1c\x7e\x00",
+            SAME_TIMES,
+        ),
+        b'o' => (b"\x47\x41\x02\x30\x98\x10\xff\xff\xa8\x1c\x7e\x00", PICTURE),
+        // A picture of 431 bytes in three packets, and the first packet without a clock reference.
+        b'x' => (
+            b"\x47\x41\x00\x30\x07\x10\xff\xff\xa8\x1c\x7e\x00\x00\x00\x01\xe0\x00\x00\x80\xc0\x0a\x3f\xff\xff\xfe\x99\x1f\xff\xff\xff\x4d\
+\x00\x00\x00\x01\x09\xf0\x00\x00\x00\x01\x65\x88",
+            b"",
+        ),
+        b'w' => (
+            b"\x47\x41\x00\x10\x00\x00\x01\xe0\x00\x00\x80\xc0\x0a\x3f\xff\xff\xfe\x99\x1f\xff\xff\xff\x4d\x00\x00\x00\x01\x09\xf0\x00\x00\x00\x01\x65\x88",
+            b"",
+        ),
+        b'y' => (b"\x47\x01\x00\x10", b""),
+        _ => (b"\x47\x01\x00\x30\x70\x00", b""),
     }
 }
 
-// Appends the packet of a section.
-fn table(pid: u16, next: &mut u8, section: &[u8], out: &mut Bytes) -> Result<(), OutOfMemory>
-    requires pid { pid < 8192 }
-    requires fits { length section.now ≤ 183 }
-{
-    *next = put_section(pid, *next % 16, section, out)?;
-    Ok(())
-}
-
-// Appends the packets of a PES packet.
-fn pes(
-    pid: u16,
-    next: &mut u8,
-    clock: bool,
-    bytes: &[u8],
-    out: &mut Bytes,
-) -> Result<(), OutOfMemory>
-    requires pid { pid < 8192 }
-    requires some { 0 < length bytes.now }
-{
-    *next = put_pes(pid, *next % 16, flags(clock), bytes, out)?;
-    Ok(())
-}
-
-// A picture of three packets.
-fn long_picture(
-    next: &mut u8,
-    clock: bool,
-    alloc: Global,
-    out: &mut Bytes,
-) -> Result<(), OutOfMemory> {
-    let mut bytes = Bytes::new(alloc);
-    bytes.append(PICTURE)?;
-    bytes.append(&[0x88; 400])?;
-    if bytes.is_empty() {
+// Appends the packet of a letter with that counter. A `-` takes one byte away.
+fn put(letter: u8, counter: u8, out: &mut Bytes) -> Result<(), OutOfMemory> {
+    if letter == b'-' {
+        out.truncate(out.len().saturating_sub(1));
         return Ok(());
     }
-    pes(0x100, next, clock, bytes.as_slice(), out)
-}
-
-// Its last two packets.
-fn tail(alloc: Global, out: &mut Bytes) -> Result<(), OutOfMemory> {
-    let mut packets = Bytes::new(alloc);
-    let mut next = 15;
-    long_picture(&mut next, true, alloc, &mut packets)?;
-    match packets.as_slice().get(188..) {
-        Some(last) => out.append(last),
-        None => Ok(()),
+    let (front, end) = packet(letter);
+    if let [a, b, c, d, more @ ..] = front {
+        out.append(&[*a, *b, *c, *d | counter])?;
+        out.append(more)?;
     }
-}
-
-// Appends a table.
-fn put_table(letter: u8, next: &mut Counters, out: &mut Bytes) -> Result<(), OutOfMemory> {
-    match letter {
-        b'A' => table(0, &mut next.pat, PAT, out),
-        b'B' => table(0x1000, &mut next.pmt, BOTH, out),
-        b'S' => table(0x1000, &mut next.pmt, SOUND, out),
-        b'P' => table(0x1000, &mut next.pmt, PICTURES, out),
-        b'N' => table(0x1000, &mut next.pmt, NOTHING, out),
-        b'T' => table(0, &mut next.pat, BOTH, out),
-        _ => table(0x1000, &mut next.pmt, PAT, out),
+    for _ in front.len().saturating_add(end.len())..188 {
+        out.append(b"\xff")?;
     }
-}
-
-// Appends sound or a picture.
-fn put_unit(
-    letter: u8,
-    next: &mut Counters,
-    alloc: Global,
-    out: &mut Bytes,
-) -> Result<(), OutOfMemory> {
-    match letter {
-        b'f' => pes(0x101, &mut next.audio, false, FRAME, out),
-        b'c' => pes(0x101, &mut next.audio, true, FRAME, out),
-        b'l' => pes(0x101, &mut next.audio, false, LONG_FRAME, out),
-        b'n' => pes(0x101, &mut next.audio, false, NO_FRAME, out),
-        b'p' => pes(0x100, &mut next.video, true, PICTURE, out),
-        b'q' => pes(0x100, &mut next.video, false, PICTURE, out),
-        b'b' => pes(0x100, &mut next.video, true, BARE_PICTURE, out),
-        b'e' => pes(0x100, &mut next.video, true, ENDED_PICTURE, out),
-        b's' => pes(0x100, &mut next.video, true, SAME_TIMES, out),
-        b'o' => pes(0x102, &mut next.pat, true, PICTURE, out),
-        b't' => tail(alloc, out),
-        b'w' => long_picture(&mut next.video, false, alloc, out),
-        _ => long_picture(&mut next.video, true, alloc, out),
-    }
-}
-
-// Appends what a letter stands for: a table, a unit, a counter passed over, or one byte fewer.
-fn put(letter: u8, next: &mut Counters, alloc: Global, out: &mut Bytes) -> Result<(), OutOfMemory> {
-    match letter {
-        b'A' | b'B' | b'S' | b'P' | b'N' | b'T' | b'X' => put_table(letter, next, out),
-        b'-' => {
-            out.truncate(out.len().saturating_sub(1));
-            Ok(())
-        }
-        b'+' => {
-            next.pmt = 1;
-            Ok(())
-        }
-        _ => put_unit(letter, next, alloc, out),
-    }
+    out.append(end)
 }
 
 // A refusal as text.
@@ -234,96 +181,54 @@ fn end_text(reader: &mut TsReader, alloc: Global) -> Result<String, AllocError> 
     }
 }
 
-// What a reader gives of two pieces, and then at the end.
-fn given(alloc: Global, early: &[u8], late: &[u8]) -> Result<String, AllocError>
-    requires { length early.now + length late.now < 2 ^ 63 }
-{
+// What a reader gives of a stream.
+fn given(alloc: Global, stream: &[u8]) -> Result<String, AllocError> {
+    if stream.len() > 1_000_000 {
+        return Err(AllocError);
+    }
     let mut reader = TsReader::new(alloc);
     let mut text = String::new(alloc);
-    feed_all(&mut reader, alloc, early, &mut text)?;
-    feed_all(&mut reader, alloc, late, &mut text)?;
-    text.push_str(end_text(&mut reader, alloc)?.as_str())?;
+    let fed = feed_all(&mut reader, alloc, stream, &mut text);
+    let end = end_text(&mut reader, alloc);
+    drop(reader);
+    fed?;
+    text.push_str(end?.as_str())?;
     Ok(text)
 }
 
-// What a reader gives of the bytes.
-fn told(alloc: Global, bytes: &Bytes) -> Result<String, AllocError> {
-    if bytes.len() < 1 << 40 {
-        given(alloc, bytes.as_slice(), b"")
-    } else {
-        Ok(String::new(alloc))
-    }
-}
-
-// Before the first packet of each PID.
-fn first() -> Counters {
-    Counters {
-        pat: 0,
-        pmt: 0,
-        video: 0,
-        audio: 0,
-    }
-}
-
-// What a reader gives of each line's stream, line by line.
-fn told_lines(alloc: Global, script: &[u8]) -> Result<String, Fail> {
-    let mut text = String::new(alloc);
-    let mut next = first();
+// The stream of a line: letters with their counters.
+fn stream(alloc: Global, line: &[u8]) -> Result<Bytes, OutOfMemory> {
     let mut out = Bytes::new(alloc);
-    for letter in script {
-        if *letter == b'\n' {
-            text.push_str(told(alloc, &out)?.as_str())?;
-            text.push_str("\n")?;
-            next = first();
-            out = Bytes::new(alloc);
-        } else {
-            put(*letter, &mut next, alloc, &mut out)?;
+    for pair in line.chunks(2) {
+        if let [letter, digit] = pair {
+            put(*letter, *digit % 16, &mut out)?;
         }
     }
-    Ok(text)
-}
-
-// The bytes of three packets: the tables of sound alone, and a frame.
-fn three_packets(alloc: Global) -> Result<Bytes, OutOfMemory> {
-    let mut next = first();
-    let mut out = Bytes::new(alloc);
-    put(b'A', &mut next, alloc, &mut out)?;
-    put(b'S', &mut next, alloc, &mut out)?;
-    put(b'c', &mut next, alloc, &mut out)?;
     Ok(out)
 }
 
-// What a reader gives of the bytes, cut there.
-fn told_cut(alloc: Global, bytes: &Bytes, cut: usize) -> Result<String, AllocError>
-    requires { cut ≤ length bytes.now }
-{
-    let (early, late) = bytes.as_slice().split_at(cut);
-    if early.len() < 1 << 40 && late.len() < 1 << 40 {
-        given(alloc, early, late)
-    } else {
-        Ok(String::new(alloc))
+// What a reader gives of each row's stream.
+fn told(alloc: Global, rows: &[u8]) -> Result<String, Fail> {
+    let mut text = String::new(alloc);
+    let mut left = rows;
+    for _ in 0..rows.len() {
+        let Some((row, rest)) = first_row(left) else {
+            break;
+        };
+        text.push_str(given(alloc, stream(alloc, row)?.as_slice())?.as_str())?;
+        text.push('\n')?;
+        left = rest;
     }
-}
-
-#[test]
-fn a_stream_is_read_however_it_is_cut(rt: HostRuntime) -> Result<(), Fail> {
-    let alloc = rt.alloc();
-    let bytes = three_packets(alloc)?;
-    assert_eq!(rt; bytes.len(), 564);
-    for cut in 0..=bytes.len() {
-        let text = told_cut(alloc, &bytes, cut)?;
-        assert_eq!(rt; text.as_str(), "audio 0 0 16, end", "cut at {cut}");
-    }
-    Ok(())
+    Ok(text)
 }
 
 #[test]
 fn units_end_with_the_next_packet_that_starts(rt: HostRuntime) -> Result<(), Fail> {
-    let alloc = rt.alloc();
-    let text = told_lines(alloc, b"ABLfpA\nABffNAPp\nASf\nABq\nAN\n\n")?;
+    let rows = b"A0S0c0|A0B0x0y1z2f0p3A1|A0B0f0f1N1A1P2p0|A0S0f0|A0B0q0|A0N0||";
     assert_eq!(rt;
-        text.as_str(),
-        "video 8589934412 8589934502 412, audio 0 0 16, video 8589934412 8589934502 12, end\n\
+        told(rt.alloc(), rows)?.as_str(),
+        "audio 0 0 16, end\n\
+         video 8589934412 8589934502 412, audio 0 0 16, video 8589934412 8589934502 12, end\n\
          audio 0 0 16, audio 0 0 16, video 8589934412 8589934502 12, end\n\
          audio 0 0 16, end\n\
          video 8589934412 8589934502 12, end\n\
@@ -334,14 +239,12 @@ fn units_end_with_the_next_packet_that_starts(rt: HostRuntime) -> Result<(), Fai
 }
 
 #[test]
-fn packets_that_are_refused(rt: HostRuntime) -> Result<(), Fail> {
-    let alloc = rt.alloc();
-    let text = told_lines(
-        alloc,
-        b"ASc-\nA+S\nc\nS\nT\nAX\nASp\nABo\nABc\nABw\nABs\nABt\nABft\n",
-    )?;
+fn packets_and_units_are_refused(rt: HostRuntime) -> Result<(), Fail> {
+    let rows =
+        b"A0S0c0-0|A0S1|c0|S0|T0|A0X0|A0S0p0|A0B0o1|A0B0c0|A0B0w0y1z2|A0B0s0|A0B0y0z1|A0B0f0y0z1|\
+A0B0l0|A0B0l0f1|A0B0n0|A0B0n0A1|A0B0b0|A0B0e0p1|";
     assert_eq!(rt;
-        text.as_str(),
+        told(rt.alloc(), rows)?.as_str(),
         "NoSync { at: 376 }\n\
          BadCounter { at: 188, kept: 0, found: 1 }BadCounter { at: 188, kept: 0, found: 1 }\n\
          BadPes { at: 0 }BadPes { at: 0 }\n\
@@ -354,18 +257,8 @@ fn packets_that_are_refused(rt: HostRuntime) -> Result<(), Fail> {
          BadPes { at: 376 }BadPes { at: 376 }\n\
          BadPes { at: 376 }BadPes { at: 376 }\n\
          BadPes { at: 376 }BadPes { at: 376 }\n\
-         BadPes { at: 564 }BadPes { at: 564 }\n"
-    );
-    Ok(())
-}
-
-#[test]
-fn units_that_are_refused(rt: HostRuntime) -> Result<(), Fail> {
-    let alloc = rt.alloc();
-    let text = told_lines(alloc, b"ABl\nABlf\nABn\nABnA\nABb\nABep\n")?;
-    assert_eq!(rt;
-        text.as_str(),
-        "BadPes { at: 376 }\n\
+         BadPes { at: 564 }BadPes { at: 564 }\n\
+         BadPes { at: 376 }\n\
          BadPes { at: 376 }BadPes { at: 376 }\n\
          BadUnit { at: 376 }\n\
          BadUnit { at: 376 }BadUnit { at: 376 }\n\

@@ -1,18 +1,13 @@
 ghost use Rattle.std.specs.Prelude.{◌≤◌, length};
 ghost use Rattle.av_unit.specs.Fits.{most_bytes};
 
+use crate::rows::first_row;
 use aac_adts::AacFail;
 use av_unit::{Bytes, Item, Kind, OutOfMemory, Unit, UnitArc};
 use avc_annexb::AvcFail;
 use std::alloc::Global;
 use std::test::Fail;
 use ts_writer::*;
-
-// A configuration of AVC with one sequence and one picture parameter set, and one of AAC LC with 44,100 samples a second.
-const AVCC: &[u8; 20] =
-    b"\x17\x00\x00\x00\x00\x01\x64\x00\x1f\xff\xe1\x00\x02\x67\x64\x01\x00\x01\x68\x00";
-
-const ASC: &[u8; 4] = b"\xaf\x00\x12\x10";
 
 /// An answer in one letter, for causes that are numbered with the number's letter.
 fn letter(wrote: Wrote) -> u8 {
@@ -32,62 +27,100 @@ fn letter(wrote: Wrote) -> u8 {
     }
 }
 
-/// A writer with what it has written, and its answers as letters.
-#[derive(Drop)]
-struct Run {
-    alloc: Global,
-    writer: TsWriter,
-    out: Bytes,
-    said: Bytes,
+/// The kind that a letter stands for.
+fn kind_of(letter: u8) -> Kind {
+    match letter {
+        b'C' => Kind::AConfig,
+        b'A' => Kind::Audio,
+        b'V' => Kind::VConfig,
+        b'K' => Kind::Key,
+        b'I' => Kind::Inter,
+        b'S' => Kind::Spare,
+        b'M' => Kind::Meta,
+        _ => Kind::Data,
+    }
 }
 
-impl Run {
-    fn new(alloc: Global) -> Run {
-        Run {
-            alloc,
-            writer: TsWriter::new(alloc),
-            out: Bytes::new(alloc),
-            said: Bytes::new(alloc),
+/// A unit.
+fn unit(alloc: Global, kind: Kind, time: u32, body: &[u8]) -> Result<Item, OutOfMemory>
+    requires { length body.now ≤ most_bytes kind }
+{
+    let body = Bytes::from_vec(Vec::from_slice(alloc, body)?);
+    Ok(Item::Unit(UnitArc::new(alloc, Unit { kind, time, body })?))
+}
+
+/// A unit of that letter; an end where it has too long a body.
+fn unit_of(alloc: Global, letter: u8, time: u32, body: &[u8]) -> Result<Item, OutOfMemory> {
+    let kind = kind_of(letter);
+    if body.len() > kind.most_bytes() {
+        return Ok(Item::End);
+    }
+    unit(alloc, kind, time, body)
+}
+
+/// The item of a row: `(` begins and `)` ends a broadcast; else a unit's letter, four bytes of its time and its body.
+fn item(alloc: Global, row: &[u8]) -> Result<Item, OutOfMemory> {
+    match row {
+        [b'('] => Ok(Item::Begin),
+        [letter, a, b, c, d, body @ ..] => {
+            unit_of(alloc, *letter, u32::from_be_bytes([*a, *b, *c, *d]), body)
         }
+        _ => Ok(Item::End),
     }
+}
 
-    fn item(&mut self, item: Item) {
-        let said = match self.writer.item(&item, &mut self.out) {
-            Ok(wrote) => letter(wrote),
-            Err(_) => b'!',
+/// A writer's answers to the items of rows, as letters, and what it wrote.
+#[derive(Drop)]
+struct Written {
+    said: Bytes,
+    out: Bytes,
+}
+
+fn write(
+    alloc: Global,
+    writer: &mut TsWriter,
+    row: &[u8],
+    run: &mut Written,
+) -> Result<(), OutOfMemory> {
+    let item = item(alloc, row)?;
+    let wrote = writer.item(&item, &mut run.out)?;
+    run.said.append(&[letter(wrote)])
+}
+
+fn write_all(
+    alloc: Global,
+    writer: &mut TsWriter,
+    rows: &[u8],
+    run: &mut Written,
+) -> Result<(), OutOfMemory> {
+    let mut left = rows;
+    for _ in 0..rows.len() {
+        let Some((row, rest)) = first_row(left) else {
+            break;
         };
-        let _ = self.said.append(&[said]);
+        write(alloc, writer, row, run)?;
+        left = rest;
     }
+    Ok(())
+}
 
-    /// Gives a unit, if there is memory for it.
-    fn give(&mut self, kind: Kind, time: u32, body: &[u8]) {
-        if body.len() <= kind.most_bytes() {
-            let _ = self.unit(kind, time, body);
-        }
-    }
-
-    fn unit(&mut self, kind: Kind, time: u32, body: &[u8]) -> Result<(), OutOfMemory>
-        requires { length body.now ≤ most_bytes kind }
-    {
-        let bytes = Bytes::from_vec(Vec::from_slice(self.alloc, body)?);
-        let unit = Unit {
-            kind,
-            time,
-            body: bytes,
-        };
-        let shared = UnitArc::new(self.alloc, unit)?;
-        self.item(Item::Unit(shared));
-        Ok(())
-    }
+fn run(alloc: Global, rows: &[u8]) -> Result<Written, OutOfMemory> {
+    let mut writer = TsWriter::new(alloc);
+    let mut run = Written {
+        said: Bytes::new(alloc),
+        out: Bytes::new(alloc),
+    };
+    let written = write_all(alloc, &mut writer, rows, &mut run);
+    drop(writer);
+    written?;
+    Ok(run)
 }
 
 #[test]
 fn a_frame_of_sound_behind_both_tables(rt: HostRuntime) -> Result<(), Fail> {
-    let mut run = Run::new(rt.alloc());
-    run.give(Kind::AConfig, 0, ASC);
-    run.give(Kind::Audio, 0, b"\xaf\x01123456789");
+    let rows = b"C\x00\x00\x00\x00\xaf\x00\x12\x10|A\x00\x00\x00\x00\xaf\x01123456789|";
+    let run = run(rt.alloc(), rows)?;
     assert_eq!(rt; run.said.as_slice(), b"-u".as_slice());
-    assert_eq!(rt; run.out.len(), 564);
     let mut packets = run.out.as_slice().chunks(188);
     let pat =
         b"\x47\x40\x00\x10\x00\x00\xb0\x0d\x00\x01\xc1\x00\x00\x00\x01\xf0\x00\x2a\xb1\x04\xb2\xff";
@@ -96,13 +129,10 @@ fn a_frame_of_sound_behind_both_tables(rt: HostRuntime) -> Result<(), Fail> {
     let pes = b"\x47\x41\x01\x30\x99\x10\xff\xff\xa8\x1c\x7e\x00\xff";
     let end =
         b"\xff\x00\x00\x01\xc0\x00\x18\x80\x80\x05\x21\x00\x01\x00\x01\xff\xf1\x50\x80\x02\x1f\xfc123456789";
-    let [Some(first), Some(second), Some(third)] = [packets.next(), packets.next(), packets.next()]
-    else {
-        assert!(rt; false);
-        return Ok(());
-    };
-    assert!(rt; first.starts_with(pat) && second.starts_with(pmt));
-    assert!(rt; third.starts_with(pes) && third.ends_with(end));
+    assert!(rt; packets.next().is_some_and(|p| p.starts_with(pat)));
+    assert!(rt; packets.next().is_some_and(|p| p.starts_with(pmt)));
+    assert!(rt; packets.next().is_some_and(|p| p.starts_with(pes)));
+    assert!(rt; run.out.as_slice().ends_with(end) && run.out.len() == 564);
     Ok(())
 }
 
@@ -122,23 +152,13 @@ fn heads(alloc: Global, out: &Bytes) -> Result<Bytes, Fail> {
 #[test]
 fn pictures_and_sound_in_packets(rt: HostRuntime) -> Result<(), Fail> {
     let alloc = rt.alloc();
-    let mut run = Run::new(alloc);
-    run.item(Item::Begin);
-    run.give(Kind::AConfig, 0, ASC);
-    run.give(Kind::Audio, 0, b"\xaf\x01\x21");
-    run.give(Kind::VConfig, 0, &AVCC[..19]);
-    run.give(
-        Kind::Key,
-        0,
-        b"\x17\x01\x00\x00\x50\x00\x00\x00\x02\x09\xf0\x00\x00\x00\x01\x65",
-    );
-    run.give(Kind::Inter, 40, b"\x27\x01\x00\x00\x00\x00\x00\x00\x01\x41");
-    run.give(Kind::Audio, 46, b"\xaf\x01\x21");
-    run.item(Item::End);
-    run.item(Item::Begin);
-    run.give(Kind::AConfig, 80, ASC);
-    run.give(Kind::VConfig, 80, &AVCC[..19]);
-    run.give(Kind::Key, 80, b"\x17\x01\xff\xff\xff\x00\x00\x00\x01\x65");
+    let rows = b"(|C\x00\x00\x00\x00\xaf\x00\x12\x10|A\x00\x00\x00\x00\xaf\x01\x21|\
+V\x00\x00\x00\x00\x17\x00\x00\x00\x00\x01\x64\x00\x1f\xff\xe1\x00\x02\x67\x64\x01\x00\x01\x68|\
+K\x00\x00\x00\x00\x17\x01\x00\x00\x50\x00\x00\x00\x02\x09\xf0\x00\x00\x00\x01\x65|\
+I\x00\x00\x00\x28\x27\x01\x00\x00\x00\x00\x00\x00\x01\x41|A\x00\x00\x00\x2e\xaf\x01\x21|)|(|\
+C\x00\x00\x00\x50\xaf\x00\x12\x10|V\x00\x00\x00\x50\x17\x00\x00\x00\x00\x01\x64\x00\x1f\xff\xe1\x00\x02\x67\x64\x01\x00\x01\x68|\
+K\x00\x00\x00\x50\x17\x01\xff\xff\xff\x00\x00\x00\x01\x65|";
+    let run = run(alloc, rows)?;
     assert_eq!(rt; run.said.as_slice(), b"--u-uuu----u".as_slice());
     let told = b"\x40\x00\x10\x00\x50\x00\x10\x00\x41\x01\x30\x10\
 \x40\x00\x11\x00\x50\x00\x11\x00\x41\x00\x30\x50\x41\x00\x31\x10\x41\x01\x31\x00\
@@ -156,84 +176,68 @@ fn pictures_and_sound_in_packets(rt: HostRuntime) -> Result<(), Fail> {
 
 #[test]
 fn times_at_the_wrap(rt: HostRuntime) -> Result<(), Fail> {
-    let mut run = Run::new(rt.alloc());
-    run.give(Kind::VConfig, 0, &AVCC[..19]);
-    run.give(
-        Kind::Inter,
-        4_294_967_295,
-        b"\x27\x01\xff\xff\xff\x00\x00\x00\x01\x41",
-    );
-    run.give(Kind::Spare, 0, b"\x27\x01\x00\x00\x00\x00\x00\x00\x01\x01");
+    let rows =
+        b"V\x00\x00\x00\x00\x17\x00\x00\x00\x00\x01\x64\x00\x1f\xff\xe1\x00\x02\x67\x64\x01\x00\x01\x68|\
+I\xff\xff\xff\xff\x27\x01\xff\xff\xff\x00\x00\x00\x01\x41|S\x00\x00\x00\x00\x27\x01\x00\x00\x00\x00\x00\x00\x01\x01|";
+    let mut out = run(rt.alloc(), rows)?.out;
     let first = b"\xff\x00\x00\x01\xe0\x00\x00\x80\xc0\x0a\x3f\xff\xff\xfe\x99\x1f\xff\xff\xff\x4d\
 \x00\x00\x00\x01\x09\xf0\x00\x00\x00\x01\x41";
     let second = b"\xff\x00\x00\x01\xe0\x00\x00\x80\x80\x05\x21\x00\x01\x00\x01\
 \x00\x00\x00\x01\x09\xf0\x00\x00\x00\x01\x01";
-    assert!(rt; run.out.as_slice().ends_with(second));
-    run.out.truncate(564);
-    assert!(rt; run.out.as_slice().ends_with(first));
+    assert!(rt; out.as_slice().ends_with(second));
+    out.truncate(564);
+    assert!(rt; out.as_slice().ends_with(first));
     Ok(())
+}
+
+/// How many bytes are written of so many frames of sound.
+fn sound(alloc: Global, frames: u32) -> Result<usize, OutOfMemory> {
+    let mut rows = Bytes::new(alloc);
+    rows.append(b"C\x00\x00\x00\x00\xaf\x00\x12\x10|")?;
+    for _ in 0..frames {
+        rows.append(b"A\x00\x00\x00\x00\xaf\x01\x21|")?;
+    }
+    Ok(run(alloc, rows.as_slice())?.out.len())
 }
 
 #[test]
 fn sound_alone_has_tables_before_each_33rd(rt: HostRuntime) -> Result<(), Fail> {
-    let mut run = Run::new(rt.alloc());
-    run.give(Kind::AConfig, 0, ASC);
-    for _ in 0..32_u8 {
-        run.give(Kind::Audio, 0, b"\xaf\x01\x21");
-    }
-    assert_eq!(rt; run.out.len(), 34 * 188);
-    run.give(Kind::Audio, 0, b"\xaf\x01\x21");
-    assert_eq!(rt; run.out.len(), 37 * 188);
+    assert_eq!(rt; sound(rt.alloc(), 32)?, 34 * 188);
+    assert_eq!(rt; sound(rt.alloc(), 33)?, 37 * 188);
     Ok(())
 }
 
 #[test]
 fn what_is_left_out_and_why(rt: HostRuntime) -> Result<(), Fail> {
-    let mut run = Run::new(rt.alloc());
-    run.give(Kind::Meta, 0, b"\x02\x00\x0aonMetaData");
-    run.give(Kind::Data, 0, b"\x02");
-    run.give(Kind::Key, 0, b"\x17\x01\x00\x00\x00\x00\x00\x00\x01\x65");
-    run.give(Kind::Audio, 0, b"\xaf\x01\x21");
-    run.give(Kind::VConfig, 0, b"\x1c\x00\x00\x00\x00\x01");
-    run.give(Kind::VConfig, 0, &AVCC[..18]);
-    run.give(Kind::VConfig, 0, &AVCC[..19]);
-    run.give(Kind::Key, 0, b"\x12\x01\x00\x00\x00\x00\x00\x00\x01\x65");
-    run.give(Kind::Key, 0, b"\x17");
-    run.give(Kind::Spare, 0, b"\x27\x01\x00\x00");
-    run.give(Kind::Inter, 0, b"\x27\x01\x00\x00\x00\x00\x00\x00\x02\x41");
-    run.give(
-        Kind::Inter,
-        0,
-        b"\x27\x01\x00\x00\x00\x00\x00\x00\x02\x41\x00",
-    );
-    run.give(
-        Kind::Inter,
-        0,
-        b"\x27\x01\x00\x00\x00\x00\x00\x00\x02\x09\xf0",
-    );
-    run.give(Kind::Inter, 0, b"\x27\x01\x00\x00\x00");
-    assert_eq!(rt; run.said.as_slice(), b"--nncs-ccspdee".as_slice());
-    assert!(rt; run.out.is_empty());
+    let alloc = rt.alloc();
+    let rows = b"M\x00\x00\x00\x00\x02\x00\x0aonMetaData|D\x00\x00\x00\x00\x02|\
+K\x00\x00\x00\x00\x17\x01\x00\x00\x00\x00\x00\x00\x01\x65|A\x00\x00\x00\x00\xaf\x01\x21|V\x00\x00\x00\x00\x1c\x00\x00\x00\x00\x01|\
+V\x00\x00\x00\x00\x17\x00\x00\x00\x00\x01\x64\x00\x1f\xff\xe1\x00\x02\x67\x64\x01\x00\x01|\
+V\x00\x00\x00\x00\x17\x00\x00\x00\x00\x01\x64\x00\x1f\xff\xe1\x00\x02\x67\x64\x01\x00\x01\x68|\
+K\x00\x00\x00\x00\x12\x01\x00\x00\x00\x00\x00\x00\x01\x65|K\x00\x00\x00\x00\x17|S\x00\x00\x00\x00\x27\x01\x00\x00|\
+I\x00\x00\x00\x00\x27\x01\x00\x00\x00\x00\x00\x00\x02\x41|I\x00\x00\x00\x00\x27\x01\x00\x00\x00\x00\x00\x00\x02\x41\x00|\
+I\x00\x00\x00\x00\x27\x01\x00\x00\x00\x00\x00\x00\x02\x09\xf0|I\x00\x00\x00\x00\x27\x01\x00\x00\x00|";
+    let told = run(alloc, rows)?;
+    assert_eq!(rt; told.said.as_slice(), b"--nncs-ccspdee".as_slice());
+    assert!(rt; told.out.is_empty());
+    let rows =
+        b"C\x00\x00\x00\x00\xaf\x00\x12|C\x00\x00\x00\x00\xaf\x00\x02\x10|A\x00\x00\x00\x00\xaf\x01\x21|\
+C\x00\x00\x00\x00\xaf\x00\x12\x10|A\x00\x00\x00\x00\x2f\x01\x21|A\x00\x00\x00\x00\xaf\x01|(|\
+A\x00\x00\x00\x00\xaf\x01\x21|K\x00\x00\x00\x00\x17\x01\x00\x00\x00\x00\x00\x00\x01\x65|";
+    let told = run(alloc, rows)?;
+    assert_eq!(rt; told.said.as_slice(), b"SAn-ce-nn".as_slice());
+    assert!(rt; told.out.is_empty());
     Ok(())
 }
 
 #[test]
-fn sound_that_is_left_out_and_why(rt: HostRuntime) -> Result<(), Fail> {
+fn a_frame_of_sound_may_be_too_long(rt: HostRuntime) -> Result<(), Fail> {
     let alloc = rt.alloc();
-    let mut run = Run::new(alloc);
-    run.give(Kind::AConfig, 0, b"\xaf\x00\x12");
-    run.give(Kind::AConfig, 0, b"\xaf\x00\x02\x10");
-    run.give(Kind::Audio, 0, b"\xaf\x01\x21");
-    run.give(Kind::AConfig, 0, ASC);
-    run.give(Kind::Audio, 0, b"\x2f\x01\x21");
-    run.give(Kind::Audio, 0, b"\xaf\x01");
-    let mut long = Vec::from_slice(alloc, b"\xaf\x01")?;
-    long.extend_from_slice(vec![in alloc; 7; 8_185]?.as_slice())?;
-    run.give(Kind::Audio, 0, &long);
-    run.item(Item::Begin);
-    run.give(Kind::Audio, 0, b"\xaf\x01\x21");
-    run.give(Kind::Key, 0, b"\x17\x01\x00\x00\x00\x00\x00\x00\x01\x65");
-    assert_eq!(rt; run.said.as_slice(), b"SAn-ceT-nn".as_slice());
-    assert!(rt; run.out.is_empty());
+    let mut rows = Bytes::new(alloc);
+    rows.append(b"C\x00\x00\x00\x00\xaf\x00\x12\x10|A\x00\x00\x00\x00\xaf\x01")?;
+    rows.append(&[7; 8_185])?;
+    rows.append(b"|")?;
+    let told = run(alloc, rows.as_slice())?;
+    assert_eq!(rt; told.said.as_slice(), b"-T".as_slice());
     Ok(())
 }

@@ -48,28 +48,33 @@ pub(crate) fn guards(alloc: Global) -> Result<Guards, Fail> {
     Ok(Guards::new(plain, digest, named))
 }
 
+// By each mode and each key, whether the grants allow it for `cam`.
+fn told(alloc: Global, guards: &Guards, grants: &Grants) -> Result<Bytes, Fail> {
+    let mut out = Bytes::new(alloc);
+    for mode in [Mode::Plain, Mode::Digest, Mode::Named] {
+        for key in [b"abc".as_slice(), b"abd", b""] {
+            let allowed = guards.allows(mode, grants, b"cam", key);
+            out.append(if allowed { b"+" } else { b"-" })?;
+        }
+    }
+    let named = guards.allows(Mode::Named, grants, b"bob", b"abc");
+    out.append(if named { b"+" } else { b"-" })?;
+    Ok(out)
+}
+
 #[test]
 fn a_guard_answers_what_its_mode_allows(rt: HostRuntime) -> Result<(), Fail> {
     let alloc = rt.alloc();
     let guards = guards(alloc)?;
-    let plain = only(alloc, b"abc")?;
-    let digests = only(alloc, DIGEST_OF_ABC)?;
-    let named = only(alloc, DIGEST_OF_CAM_ABC)?;
+    let mut out = told(alloc, &guards, &Grants::Open)?;
+    out.append(told(alloc, &guards, &only(alloc, b"abc")?)?.as_slice())?;
+    out.append(told(alloc, &guards, &only(alloc, DIGEST_OF_ABC)?)?.as_slice())?;
+    out.append(told(alloc, &guards, &only(alloc, DIGEST_OF_CAM_ABC)?)?.as_slice())?;
     let none = Grants::Keys(KeyList::from_vec(Vec::new(alloc)));
-    assert!(rt; guards.allows(Mode::Plain, &Grants::Open, b"cam", b""));
-    assert!(rt; guards.allows(Mode::Digest, &Grants::Open, b"cam", b"abd"));
-    assert!(rt; guards.allows(Mode::Named, &Grants::Open, b"cam", b"abd"));
-    assert!(rt; !guards.allows(Mode::Plain, &none, b"cam", b""));
-    assert!(rt; guards.allows(Mode::Plain, &plain, b"cam", b"abc"));
-    assert!(rt; !guards.allows(Mode::Plain, &plain, b"cam", b"abd"));
-    assert!(rt; !guards.allows(Mode::Plain, &plain, b"cam", b""));
-    assert!(rt; guards.allows(Mode::Digest, &digests, b"cam", b"abc"));
-    assert!(rt; !guards.allows(Mode::Digest, &digests, b"cam", b"abd"));
-    assert!(rt; !guards.allows(Mode::Digest, &plain, b"cam", b"abc"));
-    assert!(rt; guards.allows(Mode::Named, &named, b"cam", b"abc"));
-    assert!(rt; !guards.allows(Mode::Named, &named, b"bob", b"abc"));
-    assert!(rt; !guards.allows(Mode::Named, &named, b"cam", b"abd"));
-    assert!(rt; !guards.allows(Mode::Named, &digests, b"cam", b"abc"));
-    assert!(rt; !guards.allows(Mode::Digest, &named, b"cam", b"abc"));
+    out.append(told(alloc, &guards, &none)?.as_slice())?;
+    assert_eq!(rt;
+        out.as_slice(),
+        b"+++++++++++------------+------------+-------------".as_slice()
+    );
     Ok(())
 }

@@ -211,6 +211,58 @@ const SCRIPTS: &[u8] = b"
 <item 4 4 key 120 336
 <notyet 5
 
+># a configuration comes before the frames after a skip
+>ring 1000 16 4
+>join 2
+>begin 1
+>push 1 vconfig 0 36
+>push 1 key 0 336
+>push 1 inter 40 336
+>push 1 key 80 336
+>take 2 0 av
+>take 2 0 av
+>take 2 0 av
+>take 2 0 av
+<joined 0 0
+<began 0
+<pushed 1
+<pushed 2
+<pushed 3
+<pushed 4
+<skip 0 4
+<item 4 1 vconfig 0 36
+<item 4 4 key 80 336
+<notyet 5
+
+># without a key in the window there is sound alone
+>ring 1000 16 4
+>begin 1
+>push 1 aconfig 0 2
+>push 1 key 0 336
+>push 1 inter 40 336
+>push 1 inter 80 336
+>join 2
+>push 1 inter 120 336
+>push 1 audio 130 10
+>push 1 key 160 336
+>take 2 0 av
+>take 2 0 av
+>take 2 0 av
+>take 2 0 av
+<began 0
+<pushed 1
+<pushed 2
+<pushed 3
+<pushed 4
+<joined 0 5
+<pushed 5
+<pushed 6
+<pushed 7
+<item 5 1 aconfig 0 2
+<item 5 6 audio 130 10
+<item 7 7 key 160 336
+<notyet 8
+
 ># what is held: the items from the base on and the configuration in effect there
 >ring 1000 16 4
 >held

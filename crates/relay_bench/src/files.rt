@@ -97,18 +97,20 @@ fn tell<R: Print>(
     println!(rt; "{name}: code {code}, {bytes} bytes to {made}, {rate} MB a second")
 }
 
-/// Prints the bytes of a file of FLV that `remux` takes a second, and those of its transport stream that `check` takes.
-pub fn measure<R: Clock + Print>(rt: &R, alloc: Global) -> io::Result<()> {
-    let flv = file(alloc)?;
-    let mut input = source(alloc, flv.as_slice())?;
+// Makes a transport stream of the file.
+fn remuxed<R: Clock + Print>(rt: &R, alloc: Global, flv: &[u8]) -> io::Result<MemSink> {
+    let mut input = source(alloc, flv)?;
     let mut stream = MemSink::new(alloc, Vec::new(alloc));
     let word = words(alloc, b"remux")?;
     let start = Instant::now(rt)?;
     let status = remux(alloc, &word, &mut input, &mut stream);
     let micros = start.elapsed(rt)?.as_micros();
-    let ts = stream.bytes();
-    tell(rt, "remux", status, flv.len(), ts.len(), micros)?;
+    tell(rt, "remux", status, flv.len(), stream.bytes().len(), micros)?;
+    Ok(stream)
+}
 
+// Lists the units of the transport stream.
+fn checked<R: Clock + Print>(rt: &R, alloc: Global, ts: &[u8]) -> io::Result<()> {
     let mut input = source(alloc, ts)?;
     let mut lines = MemSink::new(alloc, Vec::new(alloc));
     let word = words(alloc, b"check")?;
@@ -116,4 +118,11 @@ pub fn measure<R: Clock + Print>(rt: &R, alloc: Global) -> io::Result<()> {
     let status = check(alloc, &word, &mut input, &mut lines);
     let micros = start.elapsed(rt)?.as_micros();
     tell(rt, "check", status, ts.len(), lines.bytes().len(), micros)
+}
+
+/// Prints the bytes of a file of FLV that `remux` takes a second, and those of its transport stream that `check` takes.
+pub fn measure<R: Clock + Print>(rt: &R, alloc: Global) -> io::Result<()> {
+    let flv = file(alloc)?;
+    let stream = remuxed(rt, alloc, flv.as_slice())?;
+    checked(rt, alloc, stream.bytes())
 }

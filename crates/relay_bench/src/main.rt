@@ -12,37 +12,34 @@ mod stream;
 mod ts;
 mod writing;
 
+use std::alloc::Global;
+use std::sync::Wait;
+use std::thread::Threads;
+use std::time::Clock;
 use std::{env, io};
+
+fn measure<R: Threads + Wait + Clock + Print + Sync>(
+    rt: &R,
+    alloc: Global,
+    word: &str,
+) -> io::Result<()> {
+    match word {
+        "gate" => gate::measure(rt, alloc),
+        "chunks" => chunks::measure(rt, alloc),
+        "writer" => writing::measure(rt, alloc),
+        "flv" => flv::measure(rt, alloc),
+        "files" => files::measure(rt, alloc),
+        "ports" => ports::measure(rt, alloc),
+        "stream" => stream::measure(rt, alloc),
+        "session" => session::measure(rt, alloc),
+        "ts" => ts::measure(rt, alloc),
+        _ => Ok(()),
+    }
+}
 
 fn main(rt: HostRuntime) -> io::Result<()> {
     for word in env::args(&rt)?.skip(1) {
-        if word.as_str() == "gate" {
-            gate::measure(&rt, rt.alloc())?;
-        }
-        if word.as_str() == "chunks" {
-            chunks::measure(&rt, rt.alloc())?;
-        }
-        if word.as_str() == "writer" {
-            writing::measure(&rt, rt.alloc())?;
-        }
-        if word.as_str() == "flv" {
-            flv::measure(&rt, rt.alloc())?;
-        }
-        if word.as_str() == "files" {
-            files::measure(&rt, rt.alloc())?;
-        }
-        if word.as_str() == "ports" {
-            ports::measure(&rt, rt.alloc())?;
-        }
-        if word.as_str() == "stream" {
-            stream::measure(&rt, rt.alloc())?;
-        }
-        if word.as_str() == "session" {
-            session::measure(&rt, rt.alloc())?;
-        }
-        if word.as_str() == "ts" {
-            ts::measure(&rt, rt.alloc())?;
-        }
+        measure(&rt, rt.alloc(), word.as_str())?;
     }
     Ok(())
 }

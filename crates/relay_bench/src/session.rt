@@ -143,12 +143,14 @@ fn deliver<W: Wait>(rt: &W, alloc: Global, door: MemDoor) -> Result<MemDoor, Out
     )?;
     worker.run(rt, &At { place });
     let Finished {
-        port: _,
+        port,
         door,
-        recorders: _,
+        recorders,
         refused: _,
         worn: _,
     } = worker.finish();
+    drop(port);
+    drop(recorders);
     Ok(door)
 }
 

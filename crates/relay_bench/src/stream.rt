@@ -54,11 +54,21 @@ impl Busy {
         requires { length (known table).past ≤ 0 }
     {
         let mut busy = Busy { table, calls: 0 };
-        busy.call(PUBLISHER, Call::Begin)?;
-        for player in 0..players {
-            busy.call(player as u64, Call::Join)?;
+        match busy.begin(players) {
+            Ok(()) => Ok(busy),
+            Err(OutOfMemory) => {
+                drop(busy);
+                Err(OutOfMemory)
+            }
         }
-        Ok(busy)
+    }
+
+    fn begin(&mut self, players: u32) -> Result<(), OutOfMemory> {
+        self.call(PUBLISHER, Call::Begin)?;
+        for player in 0..players {
+            self.call(player as u64, Call::Join)?;
+        }
+        Ok(())
     }
 
     pub(crate) fn call(&mut self, who: u64, call: Call) -> Result<Reply, OutOfMemory> {
@@ -120,7 +130,7 @@ fn each(nanos: u128, count: u64) -> u128 {
 }
 
 // Pushes into a full window whose players take nothing.
-fn push_nanos<R: Clock>(rt: &R, unit: &UnitArc, mut busy: Busy, items: u32) -> io::Result<u128> {
+fn push_nanos<R: Clock>(rt: &R, unit: &UnitArc, busy: &mut Busy, items: u32) -> io::Result<u128> {
     busy.push(unit, items as u64).map_err(refused)?;
     let start = Instant::now(rt)?;
     busy.push(unit, PUSHES).map_err(refused)?;
@@ -131,7 +141,7 @@ fn push_nanos<R: Clock>(rt: &R, unit: &UnitArc, mut busy: Busy, items: u32) -> i
 fn round_nanos<R: Clock>(
     rt: &R,
     unit: &UnitArc,
-    mut busy: Busy,
+    busy: &mut Busy,
     limits: StreamLimits,
     rounds: u64,
 ) -> io::Result<(u128, u64)> {
@@ -142,38 +152,70 @@ fn round_nanos<R: Clock>(
     Ok((start.elapsed(rt)?.as_nanos(), sent))
 }
 
-// Of two live streams alike, one for the pushes and one for the rounds.
+// A live stream, or the one slot of a pool.
+fn live(alloc: Global, limits: StreamLimits, slot: bool) -> io::Result<Busy> {
+    let busy = if slot {
+        Busy::pool(alloc, limits)
+    } else {
+        Busy::new(alloc, limits)
+    };
+    Ok(busy.map_err(refused)?)
+}
+
+// The pushes at one of its own.
+fn pushing<R: Clock>(
+    rt: &R,
+    alloc: Global,
+    unit: &UnitArc,
+    limits: StreamLimits,
+    slot: bool,
+) -> io::Result<u128> {
+    let mut busy = live(alloc, limits, slot)?;
+    let nanos = push_nanos(rt, unit, &mut busy, limits.items);
+    drop(busy);
+    nanos
+}
+
+// The rounds at one of its own.
+fn turning<R: Clock>(
+    rt: &R,
+    alloc: Global,
+    unit: &UnitArc,
+    limits: StreamLimits,
+    slot: bool,
+) -> io::Result<(u128, u64)> {
+    let mut busy = live(alloc, limits, slot)?;
+    let rounds = rounds_of(limits);
+    let nanos = round_nanos(rt, unit, &mut busy, limits, rounds);
+    drop(busy);
+    nanos
+}
+
+fn rounds_of(limits: StreamLimits) -> u64 {
+    TAKES.checked_div(limits.players as u64).unwrap_or(0)
+}
+
 fn measure_one<R: Clock + Print>(
     rt: &R,
     alloc: Global,
     limits: StreamLimits,
-    pair: (Busy, Busy),
-    place: &str,
+    slot: bool,
 ) -> io::Result<()> {
-    let StreamLimits { items, players, .. } = limits;
     let unit = sound(alloc).map_err(refused)?;
-    let pushing = push_nanos(rt, &unit, pair.0, items)?;
-    let rounds = TAKES.checked_div(players as u64).unwrap_or(0);
-    let (nanos, sent) = round_nanos(rt, &unit, pair.1, limits, rounds)?;
-    let pushes = u128::from(rounds).saturating_mul(pushing) / u128::from(PUSHES);
+    let pushing = pushing(rt, alloc, &unit, limits, slot)?;
+    let (nanos, sent) = turning(rt, alloc, &unit, limits, slot)?;
+    let pushes = u128::from(rounds_of(limits)).saturating_mul(pushing) / u128::from(PUSHES);
     let push = each(pushing.saturating_mul(10), PUSHES);
     let take = each(nanos.saturating_sub(pushes).saturating_mul(10), sent);
+    let StreamLimits { items, players, .. } = limits;
+    let place = if slot {
+        "a pool of one slot"
+    } else {
+        "a stream"
+    };
     println!(rt;
         "{place}, window {items}, {players} players: a push {push}, a Take {take} tenths of a nanosecond; {sent} items sent"
     )
-}
-
-fn measure_both<R: Clock + Print>(rt: &R, alloc: Global, limits: StreamLimits) -> io::Result<()> {
-    let streams = (
-        Busy::new(alloc, limits).map_err(refused)?,
-        Busy::new(alloc, limits).map_err(refused)?,
-    );
-    measure_one(rt, alloc, limits, streams, "a stream")?;
-    let pools = (
-        Busy::pool(alloc, limits).map_err(refused)?,
-        Busy::pool(alloc, limits).map_err(refused)?,
-    );
-    measure_one(rt, alloc, limits, pools, "a pool of one slot")
 }
 
 /// Prints the time of a push and of a Take at a stream and at a pool of one slot, with windows of 16, 1,024 and 65,536 items and
@@ -186,7 +228,8 @@ pub fn measure<R: Clock + Print>(rt: &R, alloc: Global) -> io::Result<()> {
                 items,
                 players,
             };
-            measure_both(rt, alloc, limits)?;
+            measure_one(rt, alloc, limits, false)?;
+            measure_one(rt, alloc, limits, true)?;
         }
     }
     Ok(())

@@ -3,7 +3,6 @@ ghost use Rattle.std.specs.Prelude.{◌≡◌, IfOk};
 ghost use Rattle.key_guard.specs.Allowed.{is_allowed};
 ghost use Rattle.relay_outside.specs.MemDoors.{IsNewMemLink};
 
-use crate::waiting::WaitingHouse;
 use key_guard::{Grants, Guard, Guards, Mode, by_digest, by_name, by_named};
 use relay_outside::{House, MemDoor, MemHouse, MemLink, MemSink, MemSource};
 use relay_serve::serve;
@@ -18,19 +17,8 @@ const RECORDS: &[u8] =
 const IS_OPEN: &[u8] =
     b"[relay]\nlisten = \"127.0.0.1:1935\"\nworkers = 2\naccept = 1\n[[stream]]\napp = \"live\"\nname = \"two\"\n[[open]]\napp = \"live\"\nnames = 2\n";
 
-const KEEPS_NOTHING: &[u8] =
-    b"[relay]\nlisten = \"127.0.0.1:1935\"\nworkers = 2\n[[stream]]\napp = \"live\"\nname = \"one\"\n";
-
 const SPEAKS_HTTP: &[u8] =
     b"[relay]\nlisten = \"127.0.0.1:1935\"\nhttp = \"127.0.0.1:8080\"\nworkers = 2\n[[stream]]\napp = \"live\"\nname = \"one\"\nplay = [\"key\"]\n";
-
-// What an HTTP player is sent at once, also where nobody publishes: the answer and the header of an FLV.
-const PLAYED: &[u8] =
-    b"HTTP/1.1 200 OK\r\nContent-Type: video/x-flv\r\nConnection: close\r\n\r\nFLV\x01\x05\x00\x00\x00\x09\x00\x00\x00\x00";
-
-// And one whose key is wrong.
-const FORBIDDEN: &[u8] =
-    b"HTTP/1.1 403 Forbidden\r\nContent-Length: 0\r\nConnection: close\r\n\r\n";
 
 // What a client sends after its handshake to connect to an app.
 const CONNECTS: &[u8] =
@@ -79,7 +67,22 @@ fn source(alloc: Global, text: &[u8]) -> Result<MemSource, AllocError> {
     Ok(MemSource::new(pieces, Vec::new(alloc)))
 }
 
-// Serves by that configuration, and tells the code.
+// Serves by that configuration with these guards, and tells the code.
+fn served_by<T: Threads + Wait + Sync, H: House>(
+    rt: &T,
+    alloc: Global,
+    config: &[u8],
+    guards: &Guards,
+    house: &mut H,
+    report: &mut MemSink,
+) -> Result<u8, AllocError> {
+    let words = words(alloc)?;
+    let mut config = source(alloc, config)?;
+    let status = serve(rt, alloc, &words, guards, &mut config, house, report);
+    Ok(status.code)
+}
+
+// The same with guards of its own.
 fn served<T: Threads + Wait + Sync, H: House>(
     rt: &T,
     alloc: Global,
@@ -92,10 +95,9 @@ fn served<T: Threads + Wait + Sync, H: House>(
         Guard::new(Mode::Digest, Box::new(alloc, is_digested)?),
         Guard::new(Mode::Named, Box::new(alloc, is_named)?),
     );
-    let words = words(alloc)?;
-    let mut config = source(alloc, config)?;
-    let status = serve(rt, alloc, &words, &guards, &mut config, house, report);
-    Ok(status.code)
+    let code = served_by(rt, alloc, config, &guards, house, report);
+    drop(guards);
+    code
 }
 
 // The handshake of a client.
@@ -150,39 +152,36 @@ fn told<T: Threads + Wait + Sync>(
     let doors = vec![in alloc; MemDoor::new(alloc, links, door_fails)]?;
     let mut house = MemHouse::new(alloc, doors, fails);
     let mut report = MemSink::new(alloc, Vec::new(alloc));
-    let code = served(rt, alloc, config, &mut house, &mut report)?;
-    let sent = house.link_sent(0, 0).is_some_and(|sent| sent.len() > 3_073);
-    let mut told = Vec::new(alloc);
-    told.push(b'0'.saturating_add(code))?;
-    told.push(front(house.file_bytes(b"one.flv")))?;
-    told.push(front(house.file_bytes(b"one.ts")))?;
-    told.push(if sent { b'+' } else { b'-' })?;
-    told.extend_from_slice(report.bytes())?;
-    Ok(told)
+    let code = served(rt, alloc, config, &mut house, &mut report);
+    let front = marks(&house);
+    drop(house);
+    let told = text(alloc, code, &front, &report);
+    drop(report);
+    told
 }
 
-#[test]
-fn serves_until_the_last_link_is_gone(rt: HostRuntime) -> Result<(), Fail> {
-    let alloc = rt.alloc();
-    let none = Vec::new(alloc);
-    let whole = told(&rt, alloc, RECORDS, false, none, Vec::new(alloc))?;
-    assert_eq!(rt;
-        whole.as_slice(),
-        b"0F0+stream 0 began 1 pushed 1 ended 1 joined 2 skips 0\n".as_slice()
-    );
-    let recorded = told(
-        &rt,
-        alloc,
-        RECORDS,
-        true,
-        Vec::new(alloc),
-        vec![in alloc; 0]?,
-    )?;
-    assert_eq!(rt;
-        recorded.as_slice(),
-        b"0FG+stream 0 began 1 pushed 2 ended 1 joined 2 skips 0\n".as_slice()
-    );
-    Ok(())
+// How the files begin, and whether the link was sent more than the handshake's answer.
+fn marks(house: &MemHouse) -> [u8; 3] {
+    let sent = house.link_sent(0, 0).is_some_and(|sent| sent.len() > 3_073);
+    [
+        front(house.file_bytes(b"one.flv")),
+        front(house.file_bytes(b"one.ts")),
+        if sent { b'+' } else { b'-' },
+    ]
+}
+
+// The code, these bytes, and the report.
+fn text(
+    alloc: Global,
+    code: Result<u8, AllocError>,
+    bytes: &[u8],
+    report: &MemSink,
+) -> Result<Vec<u8>, AllocError> {
+    let mut told = Vec::new(alloc);
+    told.push(b'0'.saturating_add(code?))?;
+    told.extend_from_slice(bytes)?;
+    told.extend_from_slice(report.bytes())?;
+    Ok(told)
 }
 
 // The link of a client that asks for a stream over HTTP and ends.
@@ -209,42 +208,42 @@ fn answered<T: Threads + Wait + Sync>(
     ]?;
     let mut house = MemHouse::new(alloc, doors, Vec::new(alloc));
     let mut report = MemSink::new(alloc, Vec::new(alloc));
-    let code = served(rt, alloc, SPEAKS_HTTP, &mut house, &mut report)?;
-    let mut told = Vec::new(alloc);
-    told.push(b'0'.saturating_add(code))?;
-    if let Some(sent) = house.link_sent(2, 0) {
-        told.extend_from_slice(sent)?;
-    }
-    told.extend_from_slice(report.bytes())?;
-    Ok(told)
+    let code = served(rt, alloc, SPEAKS_HTTP, &mut house, &mut report);
+    let told = text(alloc, code, house.link_sent(2, 0).unwrap_or(b""), &report);
+    drop(house);
+    drop(report);
+    told
 }
 
-#[test]
-fn players_that_speak_http_come_by_a_door_of_their_own(rt: HostRuntime) -> Result<(), Fail> {
-    let alloc = rt.alloc();
-    let played = answered(&rt, alloc, b"GET /live/one.flv?key HTTP/1.1\r\n\r\n")?;
-    let denied = answered(&rt, alloc, b"GET /live/one.flv?kez HTTP/1.1\r\n\r\n")?;
-    let mut wanted = b"0".to_vec(alloc)?;
-    wanted.extend_from_slice(PLAYED)?;
-    wanted.extend_from_slice(b"stream 0 began 0 pushed 0 ended 0 joined 1 skips 0\n")?;
-    assert_eq!(rt; played.as_slice(), wanted.as_slice());
-    let mut wanted = b"0".to_vec(alloc)?;
-    wanted.extend_from_slice(FORBIDDEN)?;
-    wanted.extend_from_slice(b"stream 0 began 0 pushed 0 ended 0 joined 0 skips 0\n")?;
-    assert_eq!(rt; denied.as_slice(), wanted.as_slice());
-    Ok(())
-}
-
-// The name that is published was listed by nobody.
-#[test]
-fn an_open_table_has_its_line_behind_the_streams(rt: HostRuntime) -> Result<(), Fail> {
-    let alloc = rt.alloc();
+// A row of the test: two recordings, of which one has a frame and a door that fails, an open table, and two players over HTTP.
+fn row<T: Threads + Wait + Sync>(rt: &T, alloc: Global, row: u8) -> Result<Vec<u8>, AllocError> {
     let none = Vec::new(alloc);
-    let open = told(&rt, alloc, IS_OPEN, true, none, Vec::new(alloc))?;
-    assert_eq!(rt;
-        open.as_slice(),
-        b"0--+stream 0 began 0 pushed 0 ended 0 joined 0 skips 0\nopen 0 began 1 pushed 2 ended 1 joined 0 skips 0\n".as_slice()
-    );
+    match row {
+        b'a' => told(rt, alloc, RECORDS, false, none, Vec::new(alloc)),
+        b'b' => told(rt, alloc, RECORDS, true, none, vec![in alloc; 0]?),
+        b'c' => told(rt, alloc, IS_OPEN, true, none, Vec::new(alloc)),
+        b'd' => answered(rt, alloc, b"GET /live/one.flv?key HTTP/1.1\r\n\r\n"),
+        _ => answered(rt, alloc, b"GET /live/one.flv?kez HTTP/1.1\r\n\r\n"),
+    }
+}
+
+// The name that is published at the open table was listed by nobody. An HTTP player is sent the header of an FLV at once, also where
+// nobody publishes, and is refused where its key is wrong.
+const TOLD: &[u8] = b"0F0+stream 0 began 1 pushed 1 ended 1 joined 2 skips 0\n\
+0FG+stream 0 began 1 pushed 2 ended 1 joined 2 skips 0\n\
+0--+stream 0 began 0 pushed 0 ended 0 joined 0 skips 0\nopen 0 began 1 pushed 2 ended 1 joined 0 skips 0\n\
+0HTTP/1.1 200 OK\r\nContent-Type: video/x-flv\r\nConnection: close\r\n\r\nFLV\x01\x05\x00\x00\x00\x09\x00\x00\x00\x00\
+stream 0 began 0 pushed 0 ended 0 joined 1 skips 0\n\
+0HTTP/1.1 403 Forbidden\r\nContent-Length: 0\r\nConnection: close\r\n\r\nstream 0 began 0 pushed 0 ended 0 joined 0 skips 0\n";
+
+#[test]
+fn serves_until_the_last_link_is_gone(rt: HostRuntime) -> Result<(), Fail> {
+    let alloc = rt.alloc();
+    let mut text = Vec::new(alloc);
+    for letter in b"abcde" {
+        text.extend_from_slice(&row(&rt, alloc, *letter)?)?;
+    }
+    assert_eq!(rt; text.as_slice(), TOLD);
     Ok(())
 }
 
@@ -253,30 +252,9 @@ fn an_open_table_has_its_line_behind_the_streams(rt: HostRuntime) -> Result<(), 
 fn nobody_is_served_where_the_house_fails(rt: HostRuntime) -> Result<(), Fail> {
     let alloc = rt.alloc();
     for number in 0..6 {
-        let failed = told(
-            &rt,
-            alloc,
-            RECORDS,
-            true,
-            vec![in alloc; number]?,
-            Vec::new(alloc),
-        )?;
+        let fails = vec![in alloc; number]?;
+        let failed = told(&rt, alloc, RECORDS, true, fails, Vec::new(alloc))?;
         assert_eq!(rt; failed.as_slice(), b"7---".as_slice());
-    }
-    Ok(())
-}
-
-// Either link ends only once the other's client was answered, and then has been sent more than the handshake's answer.
-#[test]
-fn two_links_at_once(rt: HostRuntime) -> Result<(), Fail> {
-    let alloc = rt.alloc();
-    let mut house = WaitingHouse::new(alloc, &handshake(alloc)?, CONNECTS)?;
-    let mut report = MemSink::new(alloc, Vec::new(alloc));
-    let code = served(&rt, alloc, KEEPS_NOTHING, &mut house, &mut report)?;
-    assert!(rt; code == 0);
-    assert!(rt; house.took().len() == 2);
-    for took in house.took() {
-        assert!(rt; *took > 3_073);
     }
     Ok(())
 }

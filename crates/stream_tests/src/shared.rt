@@ -1,11 +1,8 @@
 //! Ports over real streams, on one thread and on many.
-ghost use Rattle.std.specs.Prelude.{◌≡◌, ◌<◌, ◌≤◌, ◌++◌, ◌∷◌, [], reverse, All, List, length, slice_get, Some, IfOk};
+ghost use Rattle.std.specs.Prelude.{◌≡◌, ◌<◌, ◌≤◌, All, length, IfOk};
 ghost use Rattle.std.specs.Option.{IfSome};
-ghost use Rattle.stream_model.specs.Shape.{shape_reply};
 ghost use Rattle.stream_registry.specs.Names.{HaveSlots, PortRules, places, slots_sum};
-ghost use Rattle.stream_registry.specs.Roots.{gates};
 ghost use Rattle.stream_registry.specs.SharedState.{shared_rules};
-ghost use Rattle.stream_registry.specs.Told.{Step};
 
 use av_unit::{Bytes, Kind, OutOfMemory, Unit, UnitArc, Want};
 use std::alloc::Global;
@@ -14,7 +11,6 @@ use std::thread::Threads;
 use std::{hint, thread};
 use stream_core::{Call, Entry, Reply, ShortName, StreamLimits};
 use stream_registry::*;
-use turn_gate::Pass;
 
 // How often a call is tried before its caller gives up.
 const TRIES: u64 = 1 << 28;
@@ -116,9 +112,7 @@ fn until_made<P: StreamPort>(
 ) -> Option<Reply>
     requires { P.fits port.old place pass.old }
     ensures fits { P.fits port.new place pass.new }
-    ensures fixed { (P.rules port.new ≡ P.rules port.old) × (P.limits pass.new ≡ P.limits pass.old) }
-    ensures reply { IfSome result (λ r. (before : List Step) × (P.seen pass.new ≡ before ++ (entry, r) ∷ [])
-        × (r ≡ shape_reply (P.limits pass.old) (reverse before) entry)) }
+    ensures fixed { P.rules port.new ≡ P.rules port.old }
 {
     for _ in 0..TRIES {
         match port.call(place, pass, entry) {
@@ -386,78 +380,6 @@ fn four_threads_have_one_history_at_each_place(rt: HostRuntime) -> Result<(), Fa
     Ok(())
 }
 
-/// Publishes through one pass, and gives the place and a pass that is cut off after that.
-fn publish(alloc: Global, port: &mut Shared<PlaceTable>) -> Option<(u32, Pass<PlaceTable>)>
-    ensures fits { IfSome result (λ r. slice_get (gates port.new.roots) r.0 ≡ Some r.1.gate) }
-    ensures fixed { shared_rules port.new ≡ shared_rules port.old }
-{
-    let place = port.find(b"live", b"one").ok()?;
-    let mut pass = port.attach(place);
-    let mut tally = Tally::new(1);
-    make(alloc, port, place, &mut pass, b'b', &mut tally);
-    make(alloc, port, place, &mut pass, b'p', &mut tally);
-    port.detach(place, pass);
-    let pass = port.attach(place);
-    Some((place, pass))
-}
-
-/// Joins and takes by that pass, which had seen so many calls.
-fn is_taken(
-    alloc: Global,
-    port: &mut Shared<PlaceTable>,
-    place: u32,
-    pass: &mut Pass<PlaceTable>,
-) -> bool
-    requires { slice_get (gates port.old.roots) place ≡ Some pass.old.gate }
-{
-    let seen = pass.seen();
-    let mut tally = Tally::new(2);
-    make(alloc, port, place, pass, b'j', &mut tally);
-    let take = Entry {
-        who: 2,
-        at: 0,
-        call: Call::Take {
-            player: tally.player,
-            want: WANT,
-        },
-    };
-    let reply = until_made(port, place, pass, take);
-    seen == 2
-        && matches!(
-            reply,
-            Some(Reply::Sent {
-                from: 1,
-                n: 1,
-                item: _
-            })
-        )
-}
-
-#[test]
-fn what_one_thread_pushes_a_pass_cut_off_there_takes_in_another(
-    rt: HostRuntime,
-) -> Result<(), Fail> {
-    let alloc = rt.alloc();
-    let ports = match four_ports(alloc) {
-        Ok(ports) => ports,
-        Err(OutOfMemory) => four_ports(alloc)?,
-    };
-    let (near, _) = ports;
-    let (mut mine, mut theirs) = near;
-    let Some((place, mut pass)) = publish(alloc, &mut mine) else {
-        return Err(Fail::new("the place is found"));
-    };
-    assert!(rt;
-        thread::join(
-            &rt,
-            || is_taken(alloc, &mut theirs, place, &mut pass),
-            || (),
-        )
-        .0
-    );
-    Ok(())
-}
-
 fn digit(n: u64) -> u8 {
     b'0' + (n % 10) as u8
 }
@@ -576,6 +498,7 @@ fn both_ports_give_the_same_replies_at_each_place(rt: HostRuntime) -> Result<(),
     // An open table's first name comes with two markers, and who publishes nothing there is told of nobody.
     let open = b"c00000x0b2u1p3x0j03s33ny4p4s44l0e5x0c12110".as_slice();
     assert!(rt; sole.find(b"two", b"live").is_err());
+    assert!(rt; sole.find(b"open", b"no name").is_err());
     assert!(rt; are_given(alloc, &mut sole, &mut shared, b"live", b"one", stream)?);
     assert!(rt; are_given(alloc, &mut sole, &mut shared, b"live", b"two", stream)?);
     assert!(rt; are_given(alloc, &mut sole, &mut shared, b"open", b"one", open)?);

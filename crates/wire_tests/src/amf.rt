@@ -1,258 +1,202 @@
+ghost use Rattle.std.specs.Prelude.{◌<◌, ◌^◌};
+
+use crate::rows::{digit, first_row};
 use amf0_value::walk::{Brief, glance, pair, skip, skip_all};
-use amf0_value::{Amf, AmfFail, Cause, Stop, bits_of, decode, decode_all, encode, whole_of};
-use av_unit::Bytes;
+use amf0_value::{AmfFail, bits_of, decode, decode_all, encode, whole_of};
+use av_unit::{Bytes, OutOfMemory};
 use std::alloc::Global;
 use std::test::Fail;
 
-/// What `encode` makes of the value that is read, and how many bytes that value has.
-fn read_and_written(alloc: Global, bytes: &[u8]) -> Result<(Vec<u8>, usize), AmfFail> {
+/// One value of each marker, of booleans both, and an object with a class's name that has no pairs.
+const EACH_MARKER: &[u8] =
+    b"\x00\x7F\xF8\x00\x00\x00\x00\x00\x01\x01\x00\x01\x01\x02\x00\x02\xFF\x00\
+\x03\x00\x01a\x05\x00\x00\x09\x05\x06\x07\x01\x02\x08\x00\x00\x00\x00\x00\x01a\x06\x00\x00\x09\
+\x0A\x00\x00\x00\x02\x05\x06\x0B\x01\x02\x03\x04\x05\x06\x07\x08\x09\x0A\x0C\x00\x00\x00\x01b\x0D\
+\x0F\x00\x00\x00\x01<\x10\x00\x01N\x00\x01k\x0D\x00\x00\x09\x10\x00\x00\x00\x00\x09";
+
+/// Writes the value at the front again, and gives what is behind it.
+fn front_again<'a>(alloc: Global, bytes: &'a [u8], out: &mut Bytes) -> Result<&'a [u8], AmfFail> {
     let (value, used) = decode(alloc, bytes)?;
-    let mut out = Bytes::new(alloc);
-    match encode(&value, &mut out) {
-        Ok(()) => Ok((out.into_vec(), used)),
+    match encode(&value, out) {
+        Ok(()) => Ok(&bytes[used..]),
         Err(_) => Err(AmfFail::OutOfMemory),
     }
 }
 
-/// One value of each marker.
-const EACH_MARKER: [&[u8]; 16] = [
-    &[0x00, 0x7F, 0xF8, 0, 0, 0, 0, 0, 1],
-    &[0x01, 0x00],
-    &[0x01, 0x01],
-    &[0x02, 0x00, 0x02, 0xFF, 0x00],
-    &[0x03, 0x00, 0x01, 0x61, 0x05, 0x00, 0x00, 0x09],
-    &[0x05],
-    &[0x06],
-    &[0x07, 0x01, 0x02],
-    &[0x08, 0, 0, 0, 0, 0x00, 0x01, 0x61, 0x06, 0x00, 0x00, 0x09],
-    &[0x0A, 0, 0, 0, 2, 0x05, 0x06],
-    &[0x0B, 1, 2, 3, 4, 5, 6, 7, 8, 9, 10],
-    &[0x0C, 0, 0, 0, 1, 0x62],
-    &[0x0D],
-    &[0x0F, 0, 0, 0, 1, 0x3C],
-    &[
-        0x10, 0x00, 0x01, 0x4E, 0x00, 0x01, 0x6B, 0x0D, 0x00, 0x00, 0x09,
-    ],
-    &[0x10, 0x00, 0x00, 0x00, 0x00, 0x09],
-];
+/// The values that are read, one after the other, as `encode` writes them.
+fn again(alloc: Global, bytes: &[u8]) -> Result<Bytes, AmfFail> {
+    let mut out = Bytes::new(alloc);
+    let mut left = bytes;
+    for _ in 0..bytes.len() {
+        if left.is_empty() {
+            break;
+        }
+        left = front_again(alloc, left, &mut out)?;
+    }
+    Ok(out)
+}
 
 #[test]
 fn each_marker_is_read_and_written_again(rt: HostRuntime) -> Result<(), Fail> {
     let alloc = rt.alloc();
-    for bytes in EACH_MARKER {
-        let (written, used) = read_and_written(alloc, bytes)?;
-        assert_eq!(rt; used, bytes.len());
-        assert_eq!(rt; written.as_slice(), bytes);
-    }
+    assert_eq!(rt; again(alloc, EACH_MARKER)?.as_slice(), EACH_MARKER);
+    assert_eq!(rt; decode_all(alloc, EACH_MARKER)?.len(), 16);
+    assert!(rt; skip_all(EACH_MARKER).is_ok());
     Ok(())
 }
 
-#[test]
-fn true_is_written_as_one(rt: HostRuntime) -> Result<(), Fail> {
-    let (written, used) = read_and_written(rt.alloc(), &[0x01, 0x05, 0x77])?;
-    assert_eq!(rt; used, 2);
-    assert_eq!(rt; written.as_slice(), [0x01, 0x01].as_slice());
-    Ok(())
+/// Values that are cut off, have no end or no marker.
+const REFUSED: &[u8] =
+    b"|\x03\x00\x00\x08|\x02\x00\x05a|\x0A\xFF\xFF\xFF\xFF|\x0A\x00\x00\x00\x02\x04|\x0A\x00\x00\x00\x01\x04|\
+\x11|\x0C\x00\x01\x00\x00a|\x03\x00\x00|\x03\x00\x01a|\x08\x00\x00\x00\x09\x00\x01a\x0E|\x00\x01\x02\x03\x04\x05\x06\x07|";
+
+/// The letter of a refusal, and its place as a digit.
+fn refusal(alloc: Global, bytes: &[u8]) -> [u8; 2] {
+    let (letter, at) = match decode(alloc, bytes) {
+        Ok(_) => (b'-', 0),
+        Err(AmfFail::Truncated { at }) => (b't', at),
+        Err(AmfFail::BadMarker { at, byte: _ }) => (b'm', at),
+        Err(AmfFail::TooDeep { at }) => (b'd', at),
+        Err(AmfFail::BadEnd { at }) => (b'e', at),
+        Err(AmfFail::OutOfMemory) => (b'!', 0),
+    };
+    [letter, digit(at)]
 }
 
-#[test]
-fn refusals_have_their_places(rt: HostRuntime) {
-    let alloc = rt.alloc();
-    let table: [(&[u8], AmfFail); 12] = [
-        (&[], AmfFail::Truncated { at: 0 }),
-        (&[0x03, 0x00, 0x00, 0x08], AmfFail::BadEnd { at: 3 }),
-        (&[0x02, 0x00, 0x05, 0x61], AmfFail::Truncated { at: 4 }),
-        (
-            &[0x0A, 0xFF, 0xFF, 0xFF, 0xFF],
-            AmfFail::Truncated { at: 5 },
-        ),
-        (&[0x0A, 0, 0, 0, 2, 0x04], AmfFail::Truncated { at: 6 }),
-        (
-            &[0x0A, 0, 0, 0, 1, 0x04],
-            AmfFail::BadMarker { at: 5, byte: 4 },
-        ),
-        (&[0x11], AmfFail::BadMarker { at: 0, byte: 0x11 }),
-        (&[0x0C, 0, 1, 0, 0, 0x61], AmfFail::Truncated { at: 6 }),
-        (&[0x03, 0x00, 0x00], AmfFail::Truncated { at: 3 }),
-        (&[0x03, 0x00, 0x01, 0x61], AmfFail::Truncated { at: 4 }),
-        (
-            &[0x08, 0, 0, 0, 9, 0x00, 0x01, 0x61, 0x0E],
-            AmfFail::BadMarker { at: 8, byte: 0x0E },
-        ),
-        (&[0x00, 1, 2, 3, 4, 5, 6, 7], AmfFail::Truncated { at: 8 }),
-    ];
-    for (bytes, want) in table {
-        match decode(alloc, bytes) {
-            Ok(_) => assert!(rt; false),
-            Err(fail) => assert_eq!(rt; fail, want),
-        }
+fn refusals(alloc: Global, rows: &[u8]) -> Result<Bytes, OutOfMemory> {
+    let mut out = Bytes::new(alloc);
+    let mut left = rows;
+    for _ in 0..rows.len() {
+        let Some((row, rest)) = first_row(left) else {
+            break;
+        };
+        out.append(&refusal(alloc, row))?;
+        left = rest;
     }
+    Ok(out)
 }
 
 /// So many strict arrays of one value, each inside the one before, and a null.
-fn nested(alloc: Global, count: u32) -> Result<Vec<u8>, AmfFail> {
+fn nested(alloc: Global, count: u32) -> Result<Bytes, OutOfMemory> {
     let mut bytes = Bytes::new(alloc);
     for _ in 0..count {
-        let Ok(()) = bytes.append(&[0x0A, 0, 0, 0, 1]) else {
-            return Err(AmfFail::OutOfMemory);
-        };
+        bytes.append(b"\x0A\x00\x00\x00\x01")?;
     }
-    match bytes.append(&[0x05]) {
-        Ok(()) => Ok(bytes.into_vec()),
-        Err(_) => Err(AmfFail::OutOfMemory),
-    }
+    bytes.append(b"\x05")?;
+    Ok(bytes)
 }
 
 #[test]
-fn thirty_two_containers_are_read_and_the_next_is_refused(rt: HostRuntime) -> Result<(), Fail> {
+fn refusals_have_their_places(rt: HostRuntime) -> Result<(), Fail> {
     let alloc = rt.alloc();
+    assert_eq!(rt;
+        refusals(alloc, REFUSED)?.as_slice(),
+        b"t0e3t4t5t6m5m0t6t3t4m8t8".as_slice()
+    );
     let deep = nested(alloc, 32)?;
-    let (written, used) = read_and_written(alloc, &deep)?;
-    assert_eq!(rt; used, 161);
-    assert_eq!(rt; written.as_slice(), deep.as_slice());
+    assert_eq!(rt; again(alloc, deep.as_slice())?.as_slice(), deep.as_slice());
     let deeper = nested(alloc, 33)?;
-    match decode(alloc, &deeper) {
-        Ok(_) => assert!(rt; false),
-        Err(fail) => assert_eq!(rt; fail, AmfFail::TooDeep { at: 160 }),
-    }
+    assert_eq!(rt;
+        refusal(alloc, deeper.as_slice()).as_slice(),
+        b"d\xD0".as_slice()
+    );
     Ok(())
+}
+
+/// Whether a number has that pattern and no other.
+fn has_pattern(number: u64, bits: u64) -> bool
+    requires { number < 2 ^ 53 }
+{
+    bits_of(number) == bits && whole_of(bits) == Some(number)
 }
 
 #[test]
 fn whole_numbers_have_their_patterns(rt: HostRuntime) {
-    let table: [(u64, u64); 6] = [
-        (0, 0),
-        (1, 0x3FF0_0000_0000_0000),
-        (2, 0x4000_0000_0000_0000),
-        (31, 0x403F_0000_0000_0000),
-        (1_000_000, 0x412E_8480_0000_0000),
-        (9_007_199_254_740_991, 0x433F_FFFF_FFFF_FFFF),
-    ];
-    for (number, bits) in table {
-        assert_eq!(rt; bits_of(number), bits);
-        assert_eq!(rt; whole_of(bits), Some(number));
-    }
-    for bits in [
-        0x8000_0000_0000_0000,
-        0x3FE0_0000_0000_0000,
-        0x4340_0000_0000_0000,
-    ] {
-        assert_eq!(rt; whole_of(bits), None);
+    assert!(rt; has_pattern(0, 0));
+    assert!(rt; has_pattern(1, 0x3FF0_0000_0000_0000));
+    assert!(rt; has_pattern(31, 0x403F_0000_0000_0000));
+    assert!(rt; has_pattern(1_000_000, 0x412E_8480_0000_0000));
+    assert!(rt; has_pattern(9_007_199_254_740_991, 0x433F_FFFF_FFFF_FFFF));
+    assert!(rt; whole_of(0x8000_0000_0000_0000).is_none());
+    assert!(rt; whole_of(0x3FE0_0000_0000_0000).is_none());
+    assert!(rt; whole_of(0x4340_0000_0000_0000).is_none());
+}
+
+/// Adds what is kept of a value.
+pub fn add_brief(brief: &Brief, out: &mut Bytes) -> Result<(), OutOfMemory> {
+    match brief {
+        Brief::Number(bits) => out.append(&bits.to_be_bytes()),
+        Brief::Boolean(true) => out.append(b"+"),
+        Brief::Boolean(false) => out.append(b"-"),
+        Brief::Text(text) => out.append(text.as_slice()),
+        Brief::Other => out.append(b"?"),
     }
 }
 
+/// Adds what a glance keeps of the value at the front, and how many bytes are behind it.
+fn add_glance(alloc: Global, bytes: &[u8], out: &mut Bytes) -> Result<(), OutOfMemory> {
+    match glance(alloc, bytes, 0) {
+        Ok((brief, rest)) => {
+            add_brief(&brief, out)?;
+            out.append(&[digit(rest.len())])
+        }
+        Err(_) => out.append(b"!"),
+    }
+}
+
+/// Adds what is found of a key: `-` where there is no object, and `.` where it has no such key.
+fn add_found(found: &Option<Option<Brief>>, out: &mut Bytes) -> Result<(), OutOfMemory> {
+    match found {
+        None => out.append(b"-"),
+        Some(None) => out.append(b"."),
+        Some(Some(brief)) => add_brief(brief, out),
+    }
+}
+
+/// Adds what is kept of the first pair of a key, and how many bytes are behind the object.
+fn add_pair(alloc: Global, bytes: &[u8], key: &[u8], out: &mut Bytes) -> Result<(), OutOfMemory> {
+    match pair(alloc, bytes, key) {
+        Ok((found, rest)) => {
+            add_found(&found, out)?;
+            out.append(&[digit(rest.len())])
+        }
+        Err(_) => out.append(b"!"),
+    }
+}
+
+/// How many bytes are behind the value at the front.
+fn behind(bytes: &[u8]) -> usize {
+    match skip(bytes, 32) {
+        Ok(rest) => rest.len(),
+        Err(_) => bytes.len(),
+    }
+}
+
+/// The value at the front of each row, and the pair of `app` where it is an object.
+fn kept(alloc: Global, rows: &[u8]) -> Result<Bytes, OutOfMemory> {
+    let mut out = Bytes::new(alloc);
+    let mut left = rows;
+    for _ in 0..rows.len() {
+        let Some((row, rest)) = first_row(left) else {
+            break;
+        };
+        add_glance(alloc, row, &mut out)?;
+        add_pair(alloc, row, b"app", &mut out)?;
+        out.append(b" ")?;
+        left = rest;
+    }
+    Ok(out)
+}
+
 #[test]
-fn the_values_of_a_connect_are_read(rt: HostRuntime) -> Result<(), Fail> {
-    let alloc = rt.alloc();
-    let body: [u8; 49] = [
-        0x02, 0x00, 0x07, 0x63, 0x6F, 0x6E, 0x6E, 0x65, 0x63, 0x74, // connect
-        0x00, 0x3F, 0xF0, 0, 0, 0, 0, 0, 0, // 1
-        0x03, 0x00, 0x03, 0x61, 0x70, 0x70, 0x02, 0x00, 0x01, 0x78, // app x
-        0x00, 0x04, 0x66, 0x70, 0x61, 0x64, 0x01, 0x00, // fpad
-        0x00, 0x01, 0x66, 0x0A, 0, 0, 0, 0, 0x00, // f, an empty list, and the end's first byte
-        0x00, 0x09, 0x05,
-    ];
-    let list = decode_all(alloc, &body)?;
-    assert_eq!(rt; list.len(), 4);
-    let [
-        Amf::Text(name),
-        Amf::Number(bits),
-        Amf::Object(pairs),
-        Amf::Null,
-    ] = list.as_slice()
-    else {
-        assert!(rt; false);
-        return Ok(());
-    };
-    assert_eq!(rt; name.as_slice(), b"connect".as_slice());
-    assert_eq!(rt; whole_of(*bits), Some(1));
-    assert_eq!(rt; pairs.len(), 3);
+fn numbers_booleans_and_texts_are_kept(rt: HostRuntime) -> Result<(), Fail> {
+    let rows =
+        b"\x00?\xF0\x00\x00\x00\x00\x00\x00|\x01\x01\x05|\x02\x00\x04live|\x0C\x00\x00\x00\x01a\x06|\
+\x03\x00\x01a\x05\x00\x03app\x02\x00\x04live\x00\x03app\x05\x00\x00\x09\x06|\x03\x00\x02ap\x05\x00\x00\x09|";
+    assert_eq!(rt;
+        kept(rt.alloc(), rows)?.as_slice(),
+        b"?\xF0\x00\x00\x00\x00\x00\x000-0 +1-1 live0-0 ?1-1 ?1live1 ?0.0 ".as_slice()
+    );
+    assert_eq!(rt; behind(b"\x05\x77"), 1);
     Ok(())
-}
-
-/// The first bytes, and then so many times a thousand bytes.
-fn filled(alloc: Global, first: &[u8], byte: u8, thousands: u32) -> Result<Vec<u8>, AmfFail> {
-    let mut bytes = Bytes::new(alloc);
-    let mut whole = bytes.append(first).is_ok();
-    for _ in 0..thousands {
-        whole = whole && bytes.append(&[byte; 1000]).is_ok();
-    }
-    if whole {
-        Ok(bytes.into_vec())
-    } else {
-        Err(AmfFail::OutOfMemory)
-    }
-}
-
-#[test]
-fn more_than_65_536_bytes_are_read(rt: HostRuntime) -> Result<(), Fail> {
-    let alloc = rt.alloc();
-    let long = filled(alloc, b"\x0C\x00\x01\x11\x70", b'a', 70)?;
-    let (written, used) = read_and_written(alloc, &long)?;
-    assert_eq!(rt; used, 70_005);
-    assert_eq!(rt; written.as_slice(), long.as_slice());
-    assert_eq!(rt; decode_all(alloc, &long)?.len(), 1);
-    let list = filled(alloc, b"\x0A\x00\x01\x11\x70", 0x05, 70)?;
-    let (written, used) = read_and_written(alloc, &list)?;
-    assert_eq!(rt; used, 70_005);
-    assert_eq!(rt; written.as_slice(), list.as_slice());
-    let nulls = filled(alloc, b"\x05", 0x05, 70)?;
-    assert_eq!(rt; decode_all(alloc, &nulls)?.len(), 70_001);
-    Ok(())
-}
-
-#[test]
-fn each_marker_is_passed_over(rt: HostRuntime) {
-    for bytes in EACH_MARKER {
-        assert_eq!(rt; skip(bytes, 0), Ok(b"".as_slice()));
-        assert_eq!(rt; skip_all(bytes), Ok(()));
-    }
-    assert_eq!(rt; skip(b"\x05\x77", 32), Ok(b"\x77".as_slice()));
-    let cause = Cause::TooDeep;
-    assert_eq!(rt;
-        skip(b"\x0A\x00\x00\x00\x00\x77", 32),
-        Err(Stop::Refused { cause, left: 6 })
-    );
-    let cause = Cause::BadMarker(0x77);
-    assert_eq!(rt;
-        skip_all(b"\x05\x77"),
-        Err(Stop::Refused { cause, left: 1 })
-    );
-}
-
-#[test]
-fn a_glance_keeps_numbers_booleans_and_texts(rt: HostRuntime) {
-    let alloc = rt.alloc();
-    let one = 0x3FF0_0000_0000_0000;
-    let number = glance(alloc, b"\x00\x3F\xF0\x00\x00\x00\x00\x00\x00", 0);
-    assert_eq!(rt; number, Ok((Brief::Number(one), b"".as_slice())));
-    let flag = glance(alloc, b"\x01\x01\x05", 0);
-    assert_eq!(rt; flag, Ok((Brief::Boolean(true), b"\x05".as_slice())));
-    let mut live = Bytes::new(alloc);
-    assert_eq!(rt; live.append(b"live"), Ok(()));
-    let text = glance(alloc, b"\x02\x00\x04live", 0);
-    assert_eq!(rt; text, Ok((Brief::Text(live), b"".as_slice())));
-    let long = glance(alloc, b"\x0C\x00\x00\x00\x01a\x06", 0);
-    assert_eq!(rt; long, Ok((Brief::Other, b"\x06".as_slice())));
-}
-
-#[test]
-fn the_first_pair_of_a_key_is_kept(rt: HostRuntime) {
-    let alloc = rt.alloc();
-    let mut live = Bytes::new(alloc);
-    assert_eq!(rt; live.append(b"live"), Ok(()));
-    let object = b"\x03\x00\x01a\x05\x00\x03app\x02\x00\x04live\x00\x03app\x05\x00\x00\x09\x06";
-    let found = pair(alloc, object.as_slice(), b"app");
-    assert_eq!(rt;
-        found,
-        Ok((Some(Some(Brief::Text(live))), b"\x06".as_slice()))
-    );
-    let found = pair(alloc, object.as_slice(), b"ap");
-    assert_eq!(rt; found, Ok((Some(None), b"\x06".as_slice())));
-    let found = pair(
-        alloc,
-        b"\x08\x00\x00\x00\x00\x00\x01a\x05\x00\x00\x09",
-        b"a",
-    );
-    assert_eq!(rt; found, Ok((None, b"".as_slice())));
 }

@@ -28,12 +28,11 @@ fn answer_at(i: usize) -> u8 {
 }
 
 /// Whether these bytes are the whole answer.
-fn is_answer(out: &Bytes) -> bool {
-    let bytes = out.as_slice();
-    if bytes.len() != 3_073 {
+fn is_answer(out: &[u8]) -> bool {
+    if out.len() != 3_073 {
         return false;
     }
-    for (i, byte) in bytes.iter().enumerate() {
+    for (i, byte) in out.iter().enumerate() {
         if *byte != answer_at(i) {
             return false;
         }
@@ -41,103 +40,69 @@ fn is_answer(out: &Bytes) -> bool {
     true
 }
 
-#[test]
-fn the_answer_comes_with_byte_1_537_wherever_the_client_is_cut(
-    rt: HostRuntime,
+/// What is answered to a piece: `.` that it goes on, `!` that it is done and left so many bytes, and a letter that it is refused.
+fn add_fed(
+    hand: &mut Hand,
+    alloc: Global,
+    piece: &[u8],
+    out: &mut Bytes,
+    marks: &mut Bytes,
 ) -> Result<(), Fail> {
-    let alloc = rt.alloc();
-    let bytes = client(alloc)?;
-    for cut in 0..=bytes.len() {
-        let mut hand = Hand::new(alloc);
-        let front = hand.feed(alloc, &bytes[..cut])?;
-        assert_eq!(rt;
-            (front.used, front.done),
-            (cut, cut == 3_073),
-            "cut at {cut}"
-        );
-        let back = hand.feed(alloc, &bytes[cut..])?;
-        assert_eq!(rt; (back.used, back.done), (3_073 - cut, true), "cut at {cut}");
-        let (with, without) = if cut < 1_537 {
-            (back.out, front.out)
-        } else {
-            (front.out, back.out)
-        };
-        assert!(rt; is_answer(&with), "cut at {cut}");
-        assert!(rt; without.is_empty(), "cut at {cut}");
+    match hand.feed(alloc, piece) {
+        Ok(fed) => {
+            out.append(fed.out.as_slice())?;
+            marks.append(if fed.done { b"!" } else { b"." })?;
+            let left = piece.len().saturating_sub(fed.used);
+            marks.append(format!(in alloc; "{left}")?.as_str().as_bytes())?;
+        }
+        Err(fail) => marks.append(format!(in alloc; "{fail}; ")?.as_str().as_bytes())?,
     }
     Ok(())
 }
 
-#[test]
-fn bytes_fed_one_by_one_are_answered_at_the_1_537th(rt: HostRuntime) -> Result<(), Fail> {
-    let alloc = rt.alloc();
-    let mut hand = Hand::new(alloc);
-    for (i, byte) in client(alloc)?.iter().enumerate() {
-        let fed = hand.feed(alloc, &[*byte])?;
-        assert_eq!(rt; (fed.used, fed.done), (1, i == 3_072), "byte {i}");
-        assert_eq!(rt; is_answer(&fed.out), i == 1_536, "byte {i}");
-        assert_eq!(rt; fed.out.is_empty(), i != 1_536, "byte {i}");
+/// Feeds the bytes in pieces of so many.
+fn feed_parts(
+    hand: &mut Hand,
+    alloc: Global,
+    bytes: &[u8],
+    piece: usize,
+    out: &mut Bytes,
+    marks: &mut Bytes,
+) -> Result<(), Fail> {
+    for part in bytes.chunks(piece.max(1)) {
+        add_fed(hand, alloc, part, out, marks)?;
     }
     Ok(())
 }
 
-#[test]
-fn what_follows_c2_is_left(rt: HostRuntime) -> Result<(), Fail> {
-    let alloc = rt.alloc();
+/// What is told of the pieces, and behind that `=` where the whole answer was sent.
+fn told(alloc: Global, bytes: &[u8], piece: usize) -> Result<Bytes, Fail> {
     let mut hand = Hand::new(alloc);
-    let nothing = hand.feed(alloc, b"")?;
-    assert!(rt; nothing.used == 0 && nothing.out.is_empty() && !nothing.done);
+    let mut out = Bytes::new(alloc);
+    let mut marks = Bytes::new(alloc);
+    let fed = feed_parts(&mut hand, alloc, bytes, piece, &mut out, &mut marks);
+    drop(hand);
+    fed?;
+    if is_answer(out.as_slice()) {
+        marks.append(b"=")?;
+    }
+    Ok(marks)
+}
+
+#[test]
+fn a_client_is_answered(rt: HostRuntime) -> Result<(), Fail> {
+    let alloc = rt.alloc();
     let mut bytes = client(alloc)?;
     bytes.extend_from_slice(b"\x02\x00\x00")?;
-    let fed = hand.feed(alloc, bytes.as_slice())?;
-    assert!(rt; fed.used == 3_073 && is_answer(&fed.out) && fed.done);
-    for piece in [b"\x02\x00\x00".as_slice(), b"", b"\x06"] {
-        let later = hand.feed(alloc, piece)?;
-        assert!(rt; later.used == 0 && later.out.is_empty() && later.done);
-    }
+    assert!(rt; told(alloc, &bytes, 1_000)?.as_slice() == b".0.0.0!3=".as_slice());
+    assert!(rt; told(alloc, &bytes, 1)?.as_slice().ends_with(b".0!0!1!1!1="));
     Ok(())
 }
 
 #[test]
 fn another_version_is_refused_and_refused_again(rt: HostRuntime) -> Result<(), Fail> {
-    let alloc = rt.alloc();
-    for byte in [0, 2, 4, 6, 131, 255] {
-        let mut hand = Hand::new(alloc);
-        for piece in [[byte, 3].as_slice(), b"\x03", b""] {
-            assert_eq!(rt; hand.feed(alloc, piece), Err(HandFail::BadVersion { byte }));
-        }
-    }
-    assert_eq!(rt;
-        format!(in alloc;
-            "{}; {}",
-            HandFail::BadVersion { byte: 6 },
-            HandFail::OutOfMemory
-        )?
-        .as_str(),
-        "version 6 of RTMP, where 3 is spoken; out of memory"
-    );
-    Ok(())
-}
-
-/// With memory it answers; with each allocation refused in turn, it answers want of memory again.
-#[test]
-fn a_handshake_that_lacked_memory_has_ended(rt: HostRuntime) -> Result<(), Fail> {
-    let alloc = rt.alloc();
-    let bytes = client(alloc)?;
-    let mut hand = Hand::new(alloc);
-    let mut answered = false;
-    for piece in bytes.chunks(512) {
-        match hand.feed(alloc, piece) {
-            Ok(fed) if is_answer(&fed.out) => answered = true,
-            Ok(fed) => assert!(rt; fed.out.is_empty()),
-            Err(fail) => {
-                assert_eq!(rt; fail, HandFail::OutOfMemory);
-                assert_eq!(rt; hand.feed(alloc, piece), Err(HandFail::OutOfMemory));
-                assert_eq!(rt; hand.feed(alloc, b"\x06"), Err(HandFail::OutOfMemory));
-                return Ok(());
-            }
-        }
-    }
-    assert!(rt; answered);
+    let marks = told(rt.alloc(), b"\x06\x03\x03", 2)?;
+    let text = b"version 6 of RTMP, where 3 is spoken; version 6 of RTMP, where 3 is spoken; ";
+    assert!(rt; marks.as_slice() == text.as_slice());
     Ok(())
 }

@@ -12,9 +12,9 @@ mod dialog;
 #[cfg(test)]
 mod handshake;
 #[cfg(test)]
-mod joined;
-#[cfg(test)]
 mod reading;
+#[cfg(test)]
+mod rows;
 #[cfg(test)]
 mod units;
 #[cfg(test)]

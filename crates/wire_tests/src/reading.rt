@@ -4,57 +4,33 @@ use chunk_wire::Message;
 use std::alloc::{AllocError, Global};
 use std::test::Fail;
 
-// A video message of 200 bytes on id 6 at 40 ms, a Set Chunk Size of 4,096, and an Abort of id 6.
-const VIDEO: &[u8; 12] = b"\x06\x00\x00\x28\x00\x00\xc8\x09\x01\x00\x00\x00";
+/// Payload.
+const RUN: &[u8; 4_095] = &[0x5A; 4_095];
 
-const SIZE: &[u8; 16] = b"\x02\x00\x00\x00\x00\x00\x04\x01\x00\x00\x00\x00\x00\x00\x10\x00";
+/// A video message of 200 bytes on id 6 at 40 ms, a Set Chunk Size of 4,096, and an Abort of id 6.
+const VIDEO: &[u8] = b"\x06\x00\x00\x28\x00\x00\xc8\x09\x01\x00\x00\x00";
 
-const ABORT: &[u8; 16] = b"\x02\x00\x00\x00\x00\x00\x04\x02\x00\x00\x00\x00\x00\x00\x00\x06";
+const SIZE: &[u8] = b"\x02\x00\x00\x00\x00\x00\x04\x01\x00\x00\x00\x00\x00\x00\x10\x00";
 
-// A header of type 8 and no payload, after its id.
-const EMPTY: &[u8; 11] = b"\x00\x00\x00\x00\x00\x00\x08\x00\x00\x00\x00";
+const ABORT: &[u8] = b"\x02\x00\x00\x00\x00\x00\x04\x02\x00\x00\x00\x00\x00\x00\x00\x06";
 
-// Appends a header and so many bytes of payload.
-fn add(bytes: &mut Vec<u8>, head: &[u8], payload: usize) -> Result<(), AllocError> {
-    bytes.extend_from_slice(head)?;
-    for _ in 0..payload {
-        bytes.push(0x5A)?;
-    }
-    Ok(())
-}
+/// A Set Chunk Size of 4,095, and the header of a message of 4,096 bytes on id 20.
+const FULL: &[u8] = b"\x02\x00\x00\x00\x00\x00\x04\x01\x00\x00\x00\x00\x00\x00\x0f\xff";
 
-fn chunk(alloc: Global, head: &[u8], payload: usize) -> Result<Vec<u8>, AllocError> {
-    let mut bytes = Vec::new(alloc);
-    add(&mut bytes, head, payload)?;
-    Ok(bytes)
-}
+const MORE: &[u8] = b"\x14\x00\x00\x00\x00\x10\x00\x09\x00\x00\x00\x00";
 
-// An audio message of 200 bytes at 16,777,216 ms, in two chunks.
-fn far_audio(alloc: Global) -> Result<Vec<u8>, AllocError> {
-    let first = b"\x04\xff\xff\xff\x00\x00\xc8\x08\x01\x00\x00\x00\x01\x00\x00\x00";
-    let mut bytes = chunk(alloc, first, 128)?;
-    add(&mut bytes, b"\xc4\x01\x00\x00\x00", 72)?;
-    Ok(bytes)
-}
-
-// The most memory of a message that ends in a piece.
-fn memory_of(reader: &mut Reader, alloc: Global, piece: &[u8]) -> usize {
-    let mut most = 0;
-    let mut rest = piece;
-    for _ in 0..piece.len() {
-        let Ok(Fed { used, message }) = reader.feed(alloc, rest) else {
-            return most;
-        };
-        if let Some(whole) = message {
-            most = most.max(whole.body.into_vec().capacity());
-        }
-        if used >= rest.len() {
-            return most;
-        }
-        rest = &rest[used..];
-    }
-    most
-}
+/// All that ffmpeg 5.1.9 sends after its handshake to play a stream, up to its deleteStream.
+const PLAY: &[u8] = b"\x03\x00\x00\x00\x00\x00\xc5\x14\x00\x00\x00\x00\x02\x00\x07connect\
+\x00?\xf0\x00\x00\x00\x00\x00\x00\x03\x00\x03app\x02\x00\x04live\x00\x08flashVer\x02\x00\x0dLNX 9,0,124,2\
+\x00\x05tcUrl\x02\x00\x1brtmp://127.0.0.1:19510/live\x00\x04fpad\x01\x00\x00\x0ccapabilities\x00@.\x00\x00\x00\x00\x00\x00\x00\x0b\
+\xc3audioCodecs\x00@\xaf\xce\x00\x00\x00\x00\x00\x00\x0bvideoCodecs\
+\x00@o\x80\x00\x00\x00\x00\x00\x00\x0dvideoFunction\x00?\xf0\x00\x00\x00\x00\x00\x00\x00\x00\x09\
+\x02\x00\x00\x00\x00\x00\x04\x05\x00\x00\x00\x00\x00&%\xa0\
+C\x00\x00\x00\x00\x00\x19\x14\x02\x00\x0ccreateStream\x00@\x00\x00\x00\x00\x00\x00\x00\x05\
+\x08\x00\x00\x00\x00\x00#\x14\x00\x00\x00\x00\x02\x00\x0fgetStreamLength\x00@\x08\x00\x00\x00\x00\x00\x00\x05\x02\x00\x04long\
+\x08\x00\x00\x00\x00\x00!\x14\x01\x00\x00\x00\x02\x00\x04play\x00@\x10\x00\x00\x00\x00\x00\x00\x05\x02\x00\x04long\x00\xc0\x9f@\x00\x00\x00\x00\x00\
+B\x00\x00\x01\x00\x00\x0a\x04\x00\x03\x00\x00\x00\x01\x00\x00\x0b\xb8\
+C\x00\x00\x00\x00\x00\x22\x14\x02\x00\x0cdeleteStream\x00@\x14\x00\x00\x00\x00\x00\x00\x05\x00?\xf0\x00\x00\x00\x00\x00\x00";
 
 // What one call answers to a piece, and how many bytes it used.
 fn answer(reader: &mut Reader, alloc: Global, piece: &[u8]) -> Result<(String, usize), AllocError> {
@@ -109,266 +85,187 @@ fn feed_all(
     Ok(())
 }
 
-// What a reader of messages up to 4,096 bytes gives of these pieces: type, message stream, time and length of each
-// message, or the refusal, and then the bytes that it holds.
-fn given(alloc: Global, pieces: &[&[u8]]) -> Result<String, AllocError> {
-    given_by(alloc, Reader::new(alloc, 4_096), pieces)
+fn held(reader: &Reader, alloc: Global) -> Result<String, AllocError> {
+    let held = reader.held();
+    format!(in alloc; "held {held}\n")
 }
 
-// The same by any reader.
-fn given_by(alloc: Global, mut reader: Reader, pieces: &[&[u8]]) -> Result<String, AllocError> {
-    let mut text = String::new(alloc);
+// Feeds pieces, one after the other.
+fn feed_pieces(
+    reader: &mut Reader,
+    alloc: Global,
+    pieces: &[&[u8]],
+    text: &mut String,
+) -> Result<(), AllocError> {
     for piece in pieces {
-        feed_all(&mut reader, alloc, piece, &mut text)?;
+        feed_all(reader, alloc, piece, text)?;
     }
-    let held = reader.held();
-    let end = format!(in alloc; "held {held}")?;
-    text.push_str(end.as_str())?;
+    Ok(())
+}
+
+// What a reader gives of these pieces: type, message stream, time and length of each message, or the refusal, and then the bytes
+// that it holds.
+fn given_by(mut reader: Reader, alloc: Global, pieces: &[&[u8]]) -> Result<String, AllocError> {
+    let mut text = String::new(alloc);
+    let fed = feed_pieces(&mut reader, alloc, pieces, &mut text);
+    let held = held(&reader, alloc);
+    drop(reader);
+    fed?;
+    text.push_str(held?.as_str())?;
     Ok(text)
 }
 
-#[test]
-fn extended_time_is_read_in_any_cutting(rt: HostRuntime) -> Result<(), Fail> {
-    let alloc = rt.alloc();
-    let bytes = far_audio(alloc)?;
-    for cut in 0..bytes.len() {
-        let (early, late) = bytes.as_slice().split_at(cut);
-        let text = given(alloc, &[early, late])?;
-        assert_eq!(rt; text.as_str(), "8 1 16777216 200, held 0");
-    }
-    Ok(())
+// What one of messages up to 4,096 bytes gives.
+fn given(alloc: Global, pieces: &[&[u8]]) -> Result<String, AllocError> {
+    given_by(Reader::new(alloc, 4_096), alloc, pieces)
 }
 
-#[test]
-fn a_fresh_id_wants_a_header(rt: HostRuntime) -> Result<(), Fail> {
-    let text = given(rt.alloc(), &[b"\xc4", b"\x04"])?;
-    assert_eq!(rt;
-        text.as_str(),
-        "NoHead { id: 4 } at 0, NoHead { id: 4 } at 0, held 0"
-    );
-    let text = given(rt.alloc(), &[b"\x81\xff\xff"])?;
-    assert_eq!(rt; text.as_str(), "NoHead { id: 65599 } at 2, held 0");
-    Ok(())
-}
-
-#[test]
-fn lengths_and_chunk_sizes_have_bounds(rt: HostRuntime) -> Result<(), Fail> {
-    let alloc = rt.alloc();
-    let text = given(
-        alloc,
-        &[b"\x03\x00\x00\x00\x00\x10\x01\x08\x00\x00\x00\x00"],
-    )?;
-    assert_eq!(rt; text.as_str(), "TooLong { length: 4097 } at 11, held 0");
-    let text = given(
-        alloc,
-        &[b"\x02\x00\x00\x00\x00\x00\x04\x01\x00\x00\x00\x00\x80\x00\x00\x80"],
-    )?;
-    assert_eq!(rt;
-        text.as_str(),
-        "BadChunkSize { value: 2147483776 } at 15, held 0"
-    );
-    Ok(())
-}
-
-#[test]
-fn sixty_four_ids_are_kept(rt: HostRuntime) -> Result<(), Fail> {
-    let alloc = rt.alloc();
-    let mut bytes = Vec::new(alloc);
-    for id in 0..64u8 {
-        bytes.extend_from_slice(&[0x40, id])?;
-        add(&mut bytes, b"\x00\x00\x00\x00\x00\x81\x08", 128)?;
-    }
-    let text = given(alloc, &[bytes.as_slice()])?;
-    assert_eq!(rt; text.as_str(), "held 8192");
-    let text = given(alloc, &[bytes.as_slice(), b"\x00\x40"])?;
-    assert_eq!(rt; text.as_str(), "TooManyIds at 8769, held 0");
-    Ok(())
-}
-
-#[test]
-fn parts_have_a_bound_together(rt: HostRuntime) -> Result<(), Fail> {
-    let alloc = rt.alloc();
-    let size = b"\x02\x00\x00\x00\x00\x00\x04\x01\x00\x00\x00\x00\x00\x00\x0f\xff";
-    let mut bytes = chunk(alloc, size, 0)?;
-    for id in 3..20u8 {
-        bytes.extend_from_slice(&[id])?;
-        add(
-            &mut bytes,
-            b"\x00\x00\x00\x00\x10\x00\x09\x00\x00\x00\x00",
-            4095,
-        )?;
-    }
-    let text = given(alloc, &[bytes.as_slice()])?;
-    assert_eq!(rt; text.as_str(), "1 0 0 4, held 69615");
-    add(
-        &mut bytes,
-        b"\x14\x00\x00\x00\x00\x10\x00\x09\x00\x00\x00\x00",
-        18,
-    )?;
-    let text = given(alloc, &[bytes.as_slice()])?;
-    assert_eq!(rt; text.as_str(), "1 0 0 4, TooMuch at 69864, held 0");
-    Ok(())
-}
-
-#[test]
-fn a_chunk_size_applies_from_the_end_of_its_message(rt: HostRuntime) -> Result<(), Fail> {
-    let alloc = rt.alloc();
-    let video = chunk(alloc, VIDEO, 128)?;
-    let rest = chunk(alloc, b"\xc6", 72)?;
-    for cut in 0..16 {
-        let (early, late) = SIZE.as_slice().split_at(cut);
-        let text = given(alloc, &[video.as_slice(), early, late, rest.as_slice()])?;
-        assert_eq!(rt; text.as_str(), "1 0 0 4, 9 1 40 200, held 0");
-    }
-    Ok(())
-}
-
-#[test]
-fn an_abort_drops_the_part_and_keeps_the_header(rt: HostRuntime) -> Result<(), Fail> {
-    let alloc = rt.alloc();
-    let video = chunk(alloc, VIDEO, 128)?;
-    let again = chunk(alloc, b"\xc6", 128)?;
-    let rest = chunk(alloc, b"\xc6", 72)?;
-    let text = given(alloc, &[video.as_slice(), ABORT.as_slice()])?;
-    assert_eq!(rt; text.as_str(), "2 0 0 4, held 0");
-    for cut in 0..16 {
-        let (early, late) = ABORT.as_slice().split_at(cut);
-        let text = given(
+// What it gives of a row.
+fn row(alloc: Global, letter: u8) -> Result<String, AllocError> {
+    match letter {
+        // A message at 16,777,216 ms in two chunks.
+        b'a' => given(
             alloc,
             &[
-                video.as_slice(),
-                early,
-                late,
-                again.as_slice(),
-                rest.as_slice(),
+                b"\x04\xff\xff\xff\x00\x00\xc8\x08\x01\x00\x00\x00\x01\x00\x00\x00",
+                &RUN[..128],
+                b"\xc4\x01\x00\x00\x00",
+                &RUN[..72],
             ],
-        )?;
-        assert_eq!(rt; text.as_str(), "2 0 0 4, 9 1 80 200, held 0");
+        ),
+        // A fresh id wants a header.
+        b'b' => given(alloc, &[b"\xc4", b"\x04"]),
+        b'c' => given(alloc, &[b"\x81\xff\xff"]),
+        // A message of 4,097 bytes, and a chunk size of 2^31 and more.
+        b'd' => given(
+            alloc,
+            &[b"\x03\x00\x00\x00\x00\x10\x01\x08\x00\x00\x00\x00"],
+        ),
+        b'e' => given(
+            alloc,
+            &[b"\x02\x00\x00\x00\x00\x00\x04\x01\x00\x00\x00\x00\x80\x00\x00\x80"],
+        ),
+        // A chunk size that comes within a message, an Abort of it, and one after which it begins again.
+        b'f' => given(alloc, &[VIDEO, &RUN[..128], SIZE, b"\xc6", &RUN[..72]]),
+        b'g' => given(alloc, &[VIDEO, &RUN[..128], ABORT]),
+        b'h' => given(
+            alloc,
+            &[
+                VIDEO,
+                &RUN[..128],
+                ABORT,
+                b"\xc6",
+                &RUN[..128],
+                b"\xc6",
+                &RUN[..72],
+            ],
+        ),
+        // A ping answer in format 1 on a fresh id, and audio of each length around the chunk size.
+        b'i' => given(
+            alloc,
+            &[
+                b"\x42\x00\x00\x00\x00\x00\x06\x04\x00\x07\x00\x00\x00\x05\x04\x00\x00\x0a\x00\x00\x00\x08\x01\x00\x00\x00",
+                b"\x44\x00\x00\x05\x00\x00\x7f\x08",
+                &RUN[..127],
+                b"\x44\x00\x00\x05\x00\x00\x80\x08",
+                &RUN[..128],
+                b"\x44\x00\x00\x05\x00\x00\x81\x08",
+                &RUN[..128],
+                b"\xc4\x5a",
+            ],
+        ),
+        // Format 2, a message begun by format 3, and an extended delta that format 3 repeats.
+        b'j' => given(
+            alloc,
+            &[
+                b"\x04\x00\x00\x0a\x00\x00\x02\x08\x01\x00\x00\x00ab\x84\x00\x00\x07ab\xc4ab",
+                b"\x44\xff\xff\xff\x00\x00\x82\x09\x01\x00\x00\x00",
+                &RUN[..128],
+                b"\xc4\x01\x00\x00\x00ab",
+            ],
+        ),
+        // One id with messages of each type, and a chunk size that goes up and down.
+        b'k' => given(
+            alloc,
+            &[
+                b"\x04\x00\x00\x00\x00\x00\x01\x14\x00\x00\x00\x00a\x04\x00\x00\x28\x00\x00\xc8\x09\x01\x00\x00\x00",
+                &RUN[..128],
+                b"\xc4",
+                &RUN[..72],
+                b"\x44\x00\x00\x05\x00\x00\x0a\x080123456789",
+                SIZE,
+                b"\x44\x00\x00\x23\x00\x00\xc8\x09",
+                &RUN[..200],
+                b"\x02\x00\x00\x00\x00\x00\x04\x01\x00\x00\x00\x00\x00\x00\x00\x80\x84\x00\x00\x28",
+                &RUN[..128],
+                b"\xc4",
+                &RUN[..72],
+            ],
+        ),
+        _ => given(alloc, &[PLAY]),
     }
-    Ok(())
 }
 
-// A ping answer in format 1 on a fresh id, and audio of each length around the chunk size.
 #[test]
-fn lengths_around_the_chunk_size_are_read(rt: HostRuntime) -> Result<(), Fail> {
+fn messages_are_read(rt: HostRuntime) -> Result<(), Fail> {
     let alloc = rt.alloc();
-    let ping = b"\x42\x00\x00\x00\x00\x00\x06\x04\x00\x07\x00\x00\x00\x05";
-    let mut bytes = chunk(alloc, ping, 0)?;
-    add(
-        &mut bytes,
-        b"\x04\x00\x00\x0a\x00\x00\x00\x08\x01\x00\x00\x00",
-        0,
-    )?;
-    add(&mut bytes, b"\x44\x00\x00\x05\x00\x00\x7f\x08", 127)?;
-    add(&mut bytes, b"\x44\x00\x00\x05\x00\x00\x80\x08", 128)?;
-    add(&mut bytes, b"\x44\x00\x00\x05\x00\x00\x81\x08", 128)?;
-    add(&mut bytes, b"\xc4", 1)?;
-    let text = given(alloc, &[bytes.as_slice()])?;
+    let mut text = String::new(alloc);
+    for letter in b"abcdefghijkl" {
+        text.push_str(row(alloc, *letter)?.as_str())?;
+    }
     assert_eq!(rt;
         text.as_str(),
-        "4 0 0 6, 8 1 10 0, 8 1 15 127, 8 1 20 128, 8 1 25 129, held 0"
+        "8 1 16777216 200, held 0\n\
+NoHead { id: 4 } at 0, NoHead { id: 4 } at 0, held 0\n\
+NoHead { id: 65599 } at 2, held 0\n\
+TooLong { length: 4097 } at 11, held 0\n\
+BadChunkSize { value: 2147483776 } at 15, held 0\n\
+1 0 0 4, 9 1 40 200, held 0\n\
+2 0 0 4, held 0\n\
+2 0 0 4, 9 1 80 200, held 0\n\
+4 0 0 6, 8 1 10 0, 8 1 15 127, 8 1 20 128, 8 1 25 129, held 0\n\
+8 1 10 2, 8 1 17 2, 8 1 24 2, 9 1 16777240 130, held 0\n\
+20 0 0 1, 9 1 40 200, 8 1 45 10, 1 0 0 4, 9 1 80 200, 1 0 0 4, 9 1 120 200, held 0\n\
+20 0 0 197, 5 0 0 4, 20 0 0 25, 20 0 0 35, 20 1 0 33, 4 0 1 10, 20 0 0 34, held 0\n"
     );
     Ok(())
 }
 
-// Format 2, a message begun by format 3, and an extended delta that format 3 repeats.
-#[test]
-fn short_headers_go_on_from_the_last(rt: HostRuntime) -> Result<(), Fail> {
-    let alloc = rt.alloc();
-    let mut bytes = chunk(
-        alloc,
-        b"\x04\x00\x00\x0a\x00\x00\x02\x08\x01\x00\x00\x00",
-        2,
-    )?;
-    add(&mut bytes, b"\x84\x00\x00\x07", 2)?;
-    add(&mut bytes, b"\xc4", 2)?;
-    add(
-        &mut bytes,
-        b"\x44\xff\xff\xff\x00\x00\x82\x09\x01\x00\x00\x00",
-        128,
-    )?;
-    add(&mut bytes, b"\xc4\x01\x00\x00\x00", 2)?;
-    let text = given(alloc, &[bytes.as_slice()])?;
-    assert_eq!(rt;
-        text.as_str(),
-        "8 1 10 2, 8 1 17 2, 8 1 24 2, 9 1 16777240 130, held 0"
-    );
-    Ok(())
+// Messages that are begun on ids whose last byte is below that, each with some payload.
+fn begun(
+    alloc: Global,
+    front: &[u8],
+    below: u8,
+    head: &[u8],
+    payload: &[u8],
+) -> Result<Vec<u8>, AllocError> {
+    let mut bytes = Vec::new(alloc);
+    for id in 3..below {
+        bytes.extend_from_slice(front)?;
+        bytes.push(id)?;
+        bytes.extend_from_slice(head)?;
+        bytes.extend_from_slice(payload)?;
+    }
+    Ok(bytes)
 }
 
 #[test]
-fn one_id_carries_all_types_and_the_chunk_size_goes_up_and_down(
-    rt: HostRuntime,
-) -> Result<(), Fail> {
+fn ids_and_parts_have_bounds_together(rt: HostRuntime) -> Result<(), Fail> {
     let alloc = rt.alloc();
-    let command = b"\x04\x00\x00\x00\x00\x00\x01\x14\x00\x00\x00\x00";
-    let video = b"\x04\x00\x00\x28\x00\x00\xc8\x09\x01\x00\x00\x00";
-    let mut bytes = chunk(alloc, command, 1)?;
-    add(&mut bytes, video, 128)?;
-    add(&mut bytes, b"\xc4", 72)?;
-    add(&mut bytes, b"\x44\x00\x00\x05\x00\x00\x0a\x08", 10)?;
-    add(&mut bytes, SIZE, 0)?;
-    add(&mut bytes, b"\x44\x00\x00\x23\x00\x00\xc8\x09", 200)?;
-    let small = b"\x02\x00\x00\x00\x00\x00\x04\x01\x00\x00\x00\x00\x00\x00\x00\x80";
-    add(&mut bytes, small, 0)?;
-    add(&mut bytes, b"\x84\x00\x00\x28", 128)?;
-    add(&mut bytes, b"\xc4", 72)?;
-    let text = given(alloc, &[bytes.as_slice()])?;
+    let head = b"\x00\x00\x00\x00\x00\x81\x08";
+    let ids = begun(alloc, b"\x40", 67, head, &RUN[..128])?;
     assert_eq!(rt;
-        text.as_str(),
-        "20 0 0 1, 9 1 40 200, 8 1 45 10, 1 0 0 4, 9 1 80 200, 1 0 0 4, 9 1 120 200, held 0"
+        given(alloc, &[ids.as_slice(), b"\x00\x00"])?.as_str(),
+        "TooManyIds at 8769, held 0\n"
     );
-    Ok(())
-}
-
-// All that ffmpeg 5.1.9 sends after its handshake to play a stream, up to its deleteStream.
-#[test]
-fn what_ffmpeg_sends_to_play_is_read(rt: HostRuntime) -> Result<(), Fail> {
-    let alloc = rt.alloc();
-    let mut bytes = Vec::from_slice(
-        alloc,
-        b"\x03\x00\x00\x00\x00\x00\xc5\x14\x00\x00\x00\x00\x02\x00\x07connect\
-\x00?\xf0\x00\x00\x00\x00\x00\x00\x03\x00\x03app\x02\x00\x04live\x00\x08flashVer\x02\x00\x0dLNX 9,0,124,2\
-\x00\x05tcUrl\x02\x00\x1brtmp://127.0.0.1:19510/live\x00\x04fpad\x01\x00\x00\x0ccapabilities\x00@.\x00\x00\x00\x00\x00\x00\x00\x0b",
-    )?;
-    bytes.extend_from_slice(
-        b"\xc3audioCodecs\x00@\xaf\xce\x00\x00\x00\x00\x00\x00\x0bvideoCodecs\
-\x00@o\x80\x00\x00\x00\x00\x00\x00\x0dvideoFunction\x00?\xf0\x00\x00\x00\x00\x00\x00\x00\x00\x09",
-    )?;
-    add(
-        &mut bytes,
-        b"\x02\x00\x00\x00\x00\x00\x04\x05\x00\x00\x00\x00\x00&%\xa0",
-        0,
-    )?;
-    add(
-        &mut bytes,
-        b"C\x00\x00\x00\x00\x00\x19\x14\x02\x00\x0ccreateStream\x00@\x00\x00\x00\x00\x00\x00\x00\x05",
-        0,
-    )?;
-    add(
-        &mut bytes,
-        b"\x08\x00\x00\x00\x00\x00#\x14\x00\x00\x00\x00\x02\x00\x0fgetStreamLength\x00@\x08\x00\x00\x00\x00\x00\x00\x05\x02\x00\x04long",
-        0,
-    )?;
-    add(
-        &mut bytes,
-        b"\x08\x00\x00\x00\x00\x00!\x14\x01\x00\x00\x00\x02\x00\x04play\x00@\x10\x00\x00\x00\x00\x00\x00\x05\x02\x00\x04long\x00\xc0\x9f@\x00\x00\x00\x00\x00",
-        0,
-    )?;
-    add(
-        &mut bytes,
-        b"B\x00\x00\x01\x00\x00\x0a\x04\x00\x03\x00\x00\x00\x01\x00\x00\x0b\xb8",
-        0,
-    )?;
-    add(
-        &mut bytes,
-        b"C\x00\x00\x00\x00\x00\x22\x14\x02\x00\x0cdeleteStream\x00@\x14\x00\x00\x00\x00\x00\x00\x05\x00?\xf0\x00\x00\x00\x00\x00\x00",
-        0,
-    )?;
-    let text = given(alloc, &[bytes.as_slice()])?;
+    let head = b"\x00\x00\x00\x00\x10\x00\x09\x00\x00\x00\x00";
+    let mut parts = FULL.to_vec(alloc)?;
+    parts.extend_from_slice(&begun(alloc, b"", 20, head, RUN)?)?;
+    parts.extend_from_slice(MORE)?;
+    parts.extend_from_slice(&RUN[..18])?;
     assert_eq!(rt;
-        text.as_str(),
-        "20 0 0 197, 5 0 0 4, 20 0 0 25, 20 0 0 35, 20 1 0 33, 4 0 1 10, 20 0 0 34, held 0"
+        given(alloc, &[parts.as_slice()])?.as_str(),
+        "1 0 0 4, TooMuch at 69864, held 0\n"
     );
     Ok(())
 }
@@ -378,7 +275,7 @@ fn what_ffmpeg_sends_to_play_is_read(rt: HostRuntime) -> Result<(), Fail> {
 #[test]
 fn what_ffmpeg_sends_to_publish_is_read(rt: HostRuntime) -> Result<(), Fail> {
     let alloc = rt.alloc();
-    let text = given_by(alloc, Reader::new(alloc, 65_536), &[PUBLISH.as_slice()])?;
+    let text = given_by(Reader::new(alloc, 65_536), alloc, &[PUBLISH.as_slice()])?;
     assert_eq!(rt;
         text.as_str(),
         "20 0 0 140, 1 0 0 4, 20 0 0 53, 20 0 0 49, 20 0 0 25, 20 1 0 54, 18 1 0 200, 9 1 0 45, \
@@ -390,70 +287,43 @@ fn what_ffmpeg_sends_to_publish_is_read(rt: HostRuntime) -> Result<(), Fail> {
 9 1 1240 1081, 9 1 1280 787, 9 1 1320 1019, 9 1 1360 1807, 9 1 1400 1131, 9 1 1440 875, \
 9 1 1480 1130, 9 1 1520 2318, 9 1 1560 1235, 9 1 1600 907, 9 1 1640 1148, 9 1 1680 2132, \
 9 1 1720 1255, 9 1 1760 860, 9 1 1800 921, 9 1 1840 1999, 9 1 1880 1073, 9 1 1920 1170, \
-9 1 1960 1121, 9 1 1960 5, 20 0 0 51, 20 0 0 34, held 0"
+9 1 1960 1121, 9 1 1960 5, 20 0 0 51, 20 0 0 34, held 0\n"
     );
     Ok(())
 }
 
-// A row of chunks with no payload on ids 3 to 66, and a header for one more id.
-#[test]
-fn a_65th_id_is_refused(rt: HostRuntime) -> Result<(), Fail> {
-    let alloc = rt.alloc();
-    let mut bytes = Vec::new(alloc);
-    for id in 3..64u8 {
-        bytes.push(id)?;
-        add(&mut bytes, EMPTY, 0)?;
+// The most memory of a message that ends in a piece.
+fn memory_of(reader: &mut Reader, alloc: Global, piece: &[u8]) -> usize {
+    match reader.feed(alloc, piece) {
+        Ok(
+            Fed {
+                used: _,
+                message: Some(whole),
+            },
+        ) => whole.body.into_vec().capacity(),
+        _ => 0,
     }
-    for above in 0..3u8 {
-        bytes.extend_from_slice(&[0, above])?;
-        add(&mut bytes, EMPTY, 0)?;
-    }
-    assert_eq!(rt; bytes.len(), 771);
-    let mut reader = Reader::new(alloc, 4096);
-    feed_all(
-        &mut reader,
-        alloc,
-        bytes.as_slice(),
-        &mut String::new(alloc),
-    )?;
-    let (text, _) = answer(&mut reader, alloc, b"\x00\x03")?;
-    assert_eq!(rt; text.as_str(), "TooManyIds at 772, ");
-    Ok(())
 }
 
-#[test]
-fn beginnings_of_a_message_are_read_byte_by_byte(rt: HostRuntime) -> Result<(), Fail> {
-    let alloc = rt.alloc();
-    let bytes = far_audio(alloc)?;
-    for end in 0..bytes.len() {
-        let mut reader = Reader::new(alloc, 4096);
-        let mut text = String::new(alloc);
-        for byte in bytes.as_slice()[..end].chunks(1) {
-            feed_all(&mut reader, alloc, byte, &mut text)?;
-        }
-        assert_eq!(rt; text.as_str(), "");
+// The most of a message of 70,000 bytes in pieces of 1,000, which come behind these.
+fn memory_behind(reader: &mut Reader, alloc: Global, front: &[u8]) -> usize {
+    let mut most = memory_of(reader, alloc, front);
+    for _ in 0..70 {
+        most = most.max(memory_of(reader, alloc, &RUN[..1_000]));
     }
-    Ok(())
+    most
 }
 
-// A message longer than 65,536 bytes, in pieces of 1,000: it keeps no more memory than it has bytes.
+// A message longer than 65,536 bytes keeps no more memory than it has bytes.
 #[test]
 fn a_body_has_the_memory_of_its_length(rt: HostRuntime) -> Result<(), Fail> {
     let alloc = rt.alloc();
-    let size = b"\x02\x00\x00\x00\x00\x00\x04\x01\x00\x00\x00\x00\x00\x01\x11\x70";
-    let mut bytes = chunk(alloc, size, 0)?;
-    add(
-        &mut bytes,
-        b"\x06\x00\x00\x28\x01\x11\x71\x09\x01\x00\x00\x00",
-        70_000,
-    )?;
-    add(&mut bytes, b"\xc6", 1)?;
     let mut reader = Reader::new(alloc, 4_194_304);
-    let mut memory = 0;
-    for piece in bytes.as_slice().chunks(1_000) {
-        memory = memory.max(memory_of(&mut reader, alloc, piece));
-    }
-    assert_eq!(rt; memory, 70_001);
-    assert_eq!(rt; reader.held(), 0);
+    let size = b"\x02\x00\x00\x00\x00\x00\x04\x01\x00\x00\x00\x00\x00\x01\x11\x70";
+    let small = memory_of(&mut reader, alloc, size);
+    let head = b"\x06\x00\x00\x28\x01\x11\x70\x09\x01\x00\x00\x00";
+    let most = memory_behind(&mut reader, alloc, head);
+    drop(reader);
+    assert!(rt; small == 4 && most == 70_000);
     Ok(())
 }

@@ -1,10 +1,7 @@
+use crate::rows::first_row;
 use av_unit::*;
 use std::alloc::Global;
 use std::test::Fail;
-
-fn some(kind: Kind, from: usize) -> Option<Class> {
-    Some(Class { kind, from })
-}
 
 // A row is a message with `|` behind it: a letter for its type, a digit for how many bytes the lengths of NAL units have, and its
 // body. The AVC bodies and the metadata are the first bytes of those that ffmpeg 5.1.9 publishes; `12 10` is the
@@ -93,21 +90,33 @@ fn told(row: &[u8]) -> u8 {
     }
 }
 
-// What is told of each row; with `begins` of each beginning of its body, the empty one first, in a line for each row.
-fn told_rows(alloc: Global, rows: &[u8], begins: bool) -> Result<Bytes, OutOfMemory> {
+// What is told of each row.
+fn told_rows(alloc: Global, rows: &[u8]) -> Result<Bytes, OutOfMemory> {
     let mut text = Bytes::new(alloc);
-    let mut row = Bytes::new(alloc);
-    for byte in rows {
-        if *byte == b'|' {
-            let last = if begins { b'\n' } else { told(row.as_slice()) };
-            text.append(&[last])?;
-            row = Bytes::new(alloc);
-        } else {
-            row.append(&[*byte])?;
-            if begins && row.len() > 1 {
-                text.append(&[told(row.as_slice())])?;
-            }
+    let mut left = rows;
+    for _ in 0..rows.len() {
+        let Some((row, rest)) = first_row(left) else {
+            break;
+        };
+        text.append(&[told(row)])?;
+        left = rest;
+    }
+    Ok(text)
+}
+
+// The same of each beginning of a row's body, the empty one first, in a line for each row.
+fn told_beginnings(alloc: Global, rows: &[u8]) -> Result<Bytes, OutOfMemory> {
+    let mut text = Bytes::new(alloc);
+    let mut left = rows;
+    for _ in 0..rows.len() {
+        let Some((row, rest)) = first_row(left) else {
+            break;
+        };
+        for end in 2..=row.len() {
+            text.append(&[told(&row[..end])])?;
         }
+        text.append(b"\n")?;
+        left = rest;
     }
     Ok(text)
 }
@@ -115,14 +124,11 @@ fn told_rows(alloc: Global, rows: &[u8], begins: bool) -> Result<Bytes, OutOfMem
 #[test]
 fn a_message_has_the_class_of_the_first_row_that_fits(rt: HostRuntime) -> Result<(), Fail> {
     let alloc = rt.alloc();
-    assert_eq!(rt;
-        told_rows(alloc, SOUND, false)?.as_slice(),
-        b"-CCAAAA".as_slice()
-    );
-    let video = told_rows(alloc, VIDEO, false)?;
+    assert_eq!(rt; told_rows(alloc, SOUND)?.as_slice(), b"-CCAAAA".as_slice());
+    let video = told_rows(alloc, VIDEO)?;
     assert_eq!(rt; video.as_slice(), b"------VVKKII--KKKII".as_slice());
     assert_eq!(rt;
-        told_rows(alloc, DATA, false)?.as_slice(),
+        told_rows(alloc, DATA)?.as_slice(),
         b"-md-dDMDDD----".as_slice()
     );
     Ok(())
@@ -134,13 +140,13 @@ fn a_picture_that_no_other_needs_is_told_apart(rt: HostRuntime) -> Result<(), Fa
     let slices = b"--IIIIIIIIIS\n--IIIIIIIS\n--IIIIIIS\n--IIIIIIII\n--IIIIIIIIII\n--IIIIIIIIII\n\
 --IIIIIIIISIIIIS\n--IIIIIIIIIIIIIIIIIIIIISIIIII\n--IIIIIIIISIIII\n";
     assert_eq!(rt;
-        told_rows(alloc, SLICES, true)?.as_slice(),
+        told_beginnings(alloc, SLICES)?.as_slice(),
         slices.as_slice()
     );
     let others = b"--IIIIISISISISIS\n--IIIIIIII\n--IIIIIIII\n--IIIIIIII\n--IIIIIIIIIIIIII\n\
 --IIIIIIIII\n--IIIIIIIIS\n--KKKKKKKKK\n-IIIIIIIIII\n";
     assert_eq!(rt;
-        told_rows(alloc, OTHERS, true)?.as_slice(),
+        told_beginnings(alloc, OTHERS)?.as_slice(),
         others.as_slice()
     );
     Ok(())
@@ -148,87 +154,75 @@ fn a_picture_that_no_other_needs_is_told_apart(rt: HostRuntime) -> Result<(), Fa
 
 #[test]
 fn a_configuration_tells_the_size_of_lengths(rt: HostRuntime) -> Result<(), Fail> {
-    let told = told_rows(rt.alloc(), HEADERS, false)?;
+    let told = told_rows(rt.alloc(), HEADERS)?;
     assert_eq!(rt; told.as_slice(), b"44021000".as_slice());
     Ok(())
+}
+
+// What is told of each row with so many bytes of body, of which those that the row hasn't are zero.
+fn told_filled(alloc: Global, rows: &[u8], len: usize) -> Result<Bytes, OutOfMemory> {
+    let mut text = Bytes::new(alloc);
+    let mut left = rows;
+    for _ in 0..rows.len() {
+        let Some((row, rest)) = first_row(left) else {
+            break;
+        };
+        let mut whole = row.to_vec(alloc)?;
+        whole.resize(len.saturating_add(2), 0)?;
+        text.append(&[told(&whole)])?;
+        left = rest;
+    }
+    Ok(text)
 }
 
 #[test]
 fn a_configuration_has_at_most_65_536_bytes(rt: HostRuntime) -> Result<(), Fail> {
     let alloc = rt.alloc();
-    let set_data_frame: &[u8] = b"\x02\x00\x0d@setDataFrame";
-    let table: [(u8, &[u8], &[u8], usize, Option<Class>); 11] = [
-        (8, b"", b"\xaf\x00", 65_534, some(Kind::AConfig, 0)),
-        (8, b"", b"\xaf\x00", 65_535, None),
-        (8, b"", b"\xaf\x01", 65_535, some(Kind::Audio, 0)),
-        (9, b"", b"\x17\x00", 65_534, some(Kind::VConfig, 0)),
-        (9, b"", b"\x17\x00", 65_535, None),
-        (9, b"", b"\x17\x01", 65_535, some(Kind::Key, 0)),
-        (
-            18,
-            b"",
-            b"\x02\x00\x0aonMetaData",
-            65_523,
-            some(Kind::Meta, 0),
-        ),
-        (18, b"", b"\x02\x00\x0aonMetaData", 65_524, None),
-        (
-            18,
-            set_data_frame,
-            b"\x02\x00\x0aonMetaData",
-            65_523,
-            some(Kind::Meta, 16),
-        ),
-        (18, set_data_frame, b"\x02\x00\x0aonMetaData", 65_524, None),
-        (
-            18,
-            set_data_frame,
-            b"\x02\x00\x0aonTextData",
-            65_524,
-            some(Kind::Data, 16),
-        ),
-    ];
-    for (message, front, begin, more, want) in table {
-        let mut body = Bytes::new(alloc);
-        body.append(front)?;
-        body.append(begin)?;
-        body.append(vec![in alloc; 0; more]?.as_slice())?;
-        assert_eq!(rt;
-            class(message, body.as_slice(), 4),
-            want,
-            "type {message}, {more} more"
-        );
-    }
+    let rows =
+        b"a4\xaf\x00|a4\xaf\x01|v4\x17\x00|v4\x17\x01|d4\x02\x00\x0aonMetaData|d4\x02\x00\x0aonTextData|";
+    assert_eq!(rt;
+        told_filled(alloc, rows, 65_536)?.as_slice(),
+        b"CAVKMD".as_slice()
+    );
+    assert_eq!(rt;
+        told_filled(alloc, rows, 65_537)?.as_slice(),
+        b"-A-K-D".as_slice()
+    );
+    let rows = b"d4\x02\x00\x0d@setDataFrame\x02\x00\x0aonMetaData|";
+    assert_eq!(rt;
+        told_filled(alloc, rows, 65_552)?.as_slice(),
+        b"m".as_slice()
+    );
+    assert_eq!(rt;
+        told_filled(alloc, rows, 65_553)?.as_slice(),
+        b"-".as_slice()
+    );
     Ok(())
+}
+
+// The type, the time and the body of the unit that a message is.
+fn unit_text(alloc: Global, message: u8, body: &[u8]) -> Result<Bytes, OutOfMemory> {
+    let mut out = Bytes::new(alloc);
+    let mut given = Bytes::new(alloc);
+    given.append(body)?;
+    if given.len() > 1_000 {
+        return Ok(out);
+    }
+    if let Some(unit) = unit_of(message, 0x0102_0304, given, 4) {
+        out.append(&[message_kind(unit.kind)])?;
+        out.append(&unit.time.to_be_bytes())?;
+        out.append(unit.body.as_slice())?;
+    }
+    Ok(out)
 }
 
 #[test]
 fn a_unit_is_what_follows_set_data_frame(rt: HostRuntime) -> Result<(), Fail> {
     let alloc = rt.alloc();
-    let table: [(u8, &[u8], Option<(Kind, &[u8])>); 3] = [
-        (
-            18,
-            b"\x02\x00\x0d@setDataFrame\x02\x00\x0aonMetaData\x08",
-            Some((Kind::Meta, b"\x02\x00\x0aonMetaData\x08")),
-        ),
-        (
-            9,
-            b"\x27\x01\x00\x00\xc8",
-            Some((Kind::Inter, b"\x27\x01\x00\x00\xc8")),
-        ),
-        (9, b"\x17\x02\x00\x00\x00", None),
-    ];
-    for (message, body, want) in table {
-        let mut given = Bytes::new(alloc);
-        given.append(body)?;
-        let Some(unit) = unit_of(message, 4_294_967_295, given, 4) else {
-            assert!(rt; want.is_none());
-            continue;
-        };
-        assert_eq!(rt; Some((unit.kind, unit.body.as_slice())), want);
-        assert_eq!(rt; unit.time, 4_294_967_295);
-        assert_eq!(rt; message_kind(unit.kind), message);
-    }
+    let data = b"\x02\x00\x0d@setDataFrame\x02\x00\x0aonMetaData\x08";
+    let text = b"\x12\x01\x02\x03\x04\x02\x00\x0aonMetaData\x08";
+    assert_eq!(rt; unit_text(alloc, 18, data)?.as_slice(), text.as_slice());
+    assert!(rt; unit_text(alloc, 9, b"\x17\x02\x00\x00\x00")?.is_empty());
     Ok(())
 }
 
@@ -246,35 +240,8 @@ fn bytes_grow_at_their_end_and_are_cut_there(rt: HostRuntime) -> Result<(), Fail
 }
 
 #[test]
-fn an_item_costs_its_body_and_64(rt: HostRuntime) -> Result<(), Fail> {
-    let body = Bytes::from_vec(vec![in rt.alloc(); 0; 1_000]?);
-    let unit = Unit {
-        kind: Kind::Key,
-        time: 7,
-        body,
-    };
-    assert_eq!(rt; cost(&Item::Unit(UnitArc::new(rt.alloc(), unit)?)), 1_064);
-    assert_eq!(rt; cost(&Item::Begin), 64);
-    assert_eq!(rt; cost(&Item::End), 64);
-    Ok(())
-}
-
-#[test]
-fn lists_are_made_from_vectors_and_give_them_back(rt: HostRuntime) -> Result<(), Fail> {
-    let alloc = rt.alloc();
-    let bytes = Bytes::from_vec(vec![in alloc; 5, 6]?);
-    assert!(rt; bytes.len() == 2 && !bytes.is_empty());
-    let keys = KeyList::from_vec(vec![in alloc; bytes]?);
-    assert!(rt; keys.len() == 1 && !keys.is_empty());
-    for key in keys.as_slice() {
-        assert_eq!(rt; key.as_slice(), [5, 6].as_slice());
-    }
-    for key in keys.into_vec() {
-        assert_eq!(rt; key.into_vec().as_slice(), [5, 6].as_slice());
-    }
-    assert_eq!(rt;
-        format!(in alloc; "{OutOfMemory}")?.as_str(),
-        "out of memory"
-    );
+fn want_of_memory_has_a_text(rt: HostRuntime) -> Result<(), Fail> {
+    let text = format!(in rt.alloc(); "{OutOfMemory}")?;
+    assert!(rt; text.as_str() == "out of memory");
     Ok(())
 }

@@ -1,6 +1,7 @@
 //! Workers that run until their doors have closed and no session lives.
 ghost use Rattle.std.specs.Prelude.{◌≡◌, ◌≤◌, ◌<◌, ℕ, length, IfOk};
 ghost use Rattle.relay_session.specs.Places.{IsGrantThere};
+ghost use Rattle.stream_registry.specs.Names.{places};
 ghost use Rattle.relay_outside.specs.Doors.{IsNewDoor};
 ghost use Rattle.relay_outside.specs.MemDoors.{IsNewMemLink, door_told};
 
@@ -14,21 +15,21 @@ use relay_worker::{Finished, Recorder, Worker};
 use std::alloc::{AllocError, Global};
 use std::sync::Wait;
 use std::test::Fail;
-use stream_core::{Entry, Reply, ShortName};
+use stream_core::ShortName;
 use stream_model::StreamLimits;
-use stream_registry::{Name, NameList, NotFound, OpenList, PortFail, Sole, StreamPort};
+use stream_registry::{Name, NameList, OpenList, Sole, StreamPort};
 
 const STREAM: StreamLimits = StreamLimits {
     bytes: 100_000,
     items: 256,
-    players: 4,
+    players: 3,
 };
 
 const LIMITS: Limits = Limits {
     max_message: 4_096,
     ring_bytes: 100_000,
     ring_items: 256,
-    players: 4,
+    players: 3,
     window: 2_500_000,
 };
 
@@ -64,75 +65,6 @@ impl Desk for Always {
     fn grant(&self, _: &Ask) -> Grant {
         self.grant
     }
-}
-
-/// A port that is busy at four of five calls.
-#[derive(Drop)]
-struct Balky<P: StreamPort> {
-    port: P,
-    number: u8,
-    refused: u64,
-}
-
-impl<P: StreamPort> StreamPort for Balky<P> {
-    type Pass = P::Pass;
-
-    ghost busies = { λ s. s.refused };
-
-    ghost rules = { λ s. P.rules s.port };
-
-    ghost root = { λ s. P.root s.port };
-
-    ghost fits = { λ s place p. P.fits s.port place p };
-
-    ghost limits = { P.limits };
-
-    ghost seen = { P.seen };
-
-    ghost mine = { P.mine };
-
-    ghost count = { P.count };
-
-    ghost kin = { λ s. P.kin s.port };
-
-    ghost branches = { P.branches };
-
-    ghost adds = { P.adds };
-
-    ghost adds_none = { P.adds_none };
-
-    ghost adds_both = { P.adds_both };
-
-    ghost wants = { P.wants };
-
-    fn find(&self, app: &[u8], name: &[u8]) -> Result<u32, NotFound> {
-        self.port.find(app, name)
-    }
-
-    fn attach(&mut self, place: u32) -> P::Pass {
-        self.port.attach(place)
-    }
-
-    fn detach(&mut self, place: u32, pass: P::Pass) {
-        self.port.detach(place, pass);
-    }
-
-    fn call(&mut self, place: u32, pass: &mut P::Pass, entry: Entry) -> Result<Reply, PortFail> {
-        self.number = (self.number % 5) + 1;
-        if self.number < 5 {
-            self.refused = self.refused.saturating_add(1);
-            return Err(PortFail::Busy(entry));
-        }
-        match self.port.call(place, pass, entry) {
-            Err(PortFail::Busy(entry)) => {
-                self.refused = self.refused.saturating_add(1);
-                Err(PortFail::Busy(entry))
-            }
-            answer => answer,
-        }
-    }
-
-    ghost ruled = { λ x q p f. P.ruled x.port q p f };
 }
 
 fn bytes(alloc: Global, text: &[u8]) -> Result<Bytes, OutOfMemory>
@@ -236,97 +168,6 @@ fn from(number: Option<u64>) -> u8 {
     }
 }
 
-// Runs a worker over a door with two such links, with a recorder that writes FLV and one that writes a transport stream. What
-// its links took as they came back, whether something was refused for want of memory, from where its recorders joined and how their
-// files begin.
-fn ran<W: Wait, P: StreamPort>(
-    rt: &W,
-    alloc: Global,
-    port: P,
-    one: &[u8],
-    other: &[u8],
-    fails: u8,
-) -> Result<Vec<u8>, OutOfMemory>
-    requires { 0 < length (P.rules port).names }
-{
-    let Ok(place) = port.find(b"live", b"one") else {
-        return Err(OutOfMemory);
-    };
-    let flv = FlvRecorder::new(alloc, 0, 1 << 60, LIMITS.max_message)?;
-    let ts = TsRecorder::new(alloc, 0, (1 << 60) + 1, LIMITS.max_message)?;
-    let door = door(alloc, one, other, fails)?;
-    let mut worker = Worker::new(alloc, 0, 2, LIMITS, port, door, MemRest)?;
-    worker.enlist(Recorder::Flv(flv, MemSink::new(alloc, Vec::new(alloc))))?;
-    worker.enlist(Recorder::Ts(ts, MemSink::new(alloc, Vec::new(alloc))))?;
-    worker.ready(rt);
-    worker.run(
-        rt,
-        &Always {
-            grant: Grant::Place(place),
-        },
-    );
-    let Finished {
-        port: _,
-        door,
-        recorders,
-        refused,
-        worn: _,
-    } = worker.finish();
-    let mut seen = Vec::new(alloc);
-    seen.push(took(&door, 0))?;
-    seen.push(took(&door, 1))?;
-    seen.push(if refused { b'!' } else { b'.' })?;
-    for recorder in recorders {
-        seen.push(from(recorder.joined_from()))?;
-        seen.push(front(&recorder.into_file()))?;
-    }
-    Ok(seen)
-}
-
-// The same over a port of its own.
-fn alone<W: Wait>(
-    rt: &W,
-    alloc: Global,
-    one: &[u8],
-    other: &[u8],
-    fails: u8,
-) -> Result<Vec<u8>, OutOfMemory> {
-    let port = Sole::new(alloc, names(alloc)?, OpenList::new(alloc), STREAM)?;
-    ran(rt, alloc, port, one, other, fails)
-}
-
-// A port that is busy at most calls.
-fn a_balky_port(alloc: Global) -> Result<Balky<Sole>, OutOfMemory>
-    ensures { IfOk result (λ b. 0 < length b.port.rules.names) }
-{
-    Ok(Balky {
-        port: Sole::new(alloc, names(alloc)?, OpenList::new(alloc), STREAM)?,
-        number: 0,
-        refused: 0,
-    })
-}
-
-// The same over a port that is busy at most calls, which are made again: also a session's last, by which it is closed.
-fn balked<W: Wait>(
-    rt: &W,
-    alloc: Global,
-    one: &[u8],
-    other: &[u8],
-    fails: u8,
-) -> Result<Vec<u8>, OutOfMemory> {
-    ran(rt, alloc, a_balky_port(alloc)?, one, other, fails)
-}
-
-#[test]
-fn each_link_comes_back(rt: HostRuntime) -> Result<(), Fail> {
-    let alloc = rt.alloc();
-    assert!(rt; alone(&rt, alloc, b"h", b"v", 0)?.as_slice() == b"h0.0F0-".as_slice());
-    assert!(rt; alone(&rt, alloc, b"h", b"v", 1)?.as_slice() == b"h0.0F0-".as_slice());
-    assert!(rt; alone(&rt, alloc, b"hcspa", b"hcspa", 0)?.as_slice() == b"++.0F0G".as_slice());
-    assert!(rt; balked(&rt, alloc, b"hcspa", b"h", 100)?.as_slice() == b"+h.0F0G".as_slice());
-    Ok(())
-}
-
 /// A door in memory that takes from each link that comes back what it was told.
 #[derive(Drop)]
 struct Listening {
@@ -362,104 +203,202 @@ fn granted(letter: u8, place: u32) -> Grant
     }
 }
 
-// Runs a worker over two such links, the one a round after the other, before a desk that grants so, at a stream for one player. What the
-// links were told, by the order in which they came back.
-fn heard<W: Wait, P: StreamPort>(
+// Enlists a recorder that writes FLV and one that writes a transport stream.
+fn enlist<P: StreamPort>(
+    alloc: Global,
+    worker: &mut Worker<P, Listening, MemRest, MemSink>,
+) -> Result<(), OutOfMemory>
+    requires { 0 < length (P.rules worker.old.bench.port).names }
+    ensures { worker.new.bench.port ≡ worker.old.bench.port }
+{
+    let flv = FlvRecorder::new(alloc, 0, 1 << 60, LIMITS.max_message)?;
+    worker.enlist(Recorder::Flv(flv, MemSink::new(alloc, Vec::new(alloc))))?;
+    let ts = TsRecorder::new(alloc, 0, (1 << 60) + 1, LIMITS.max_message)?;
+    worker.enlist(Recorder::Ts(ts, MemSink::new(alloc, Vec::new(alloc))))
+}
+
+// A worker of that door, with a recorder that writes FLV and one that writes a transport stream.
+fn worker<P: StreamPort>(
+    alloc: Global,
+    port: P,
+    door: Listening,
+) -> Result<Worker<P, Listening, MemRest, MemSink>, OutOfMemory>
+    requires there { 0 < length (P.rules port).names }
+    requires door { IsNewDoor (door_told door.door) }
+    ensures { IfOk result (λ w. w.bench.port ≡ port) }
+{
+    let mut worker = Worker::new(alloc, 0, 2, LIMITS, port, door, MemRest)?;
+    match enlist(alloc, &mut worker) {
+        Ok(()) => Ok(worker),
+        Err(_) => {
+            drop(worker);
+            Err(OutOfMemory)
+        }
+    }
+}
+
+// Runs it, before a desk that grants always the same.
+fn finished<W: Wait, P: StreamPort>(
+    rt: &W,
+    mut worker: Worker<P, Listening, MemRest, MemSink>,
+    grant: Grant,
+) -> Finished<P, Listening, MemSink>
+    requires { IsGrantThere (places (P.rules worker.bench.port)) grant }
+{
+    worker.ready(rt);
+    worker.run(rt, &Always { grant });
+    worker.finish()
+}
+
+// Adds the marks, and from where each recorder joined and how its file begins.
+fn add_files<P: StreamPort>(
+    recorders: Vec<Recorder<P, MemSink>>,
+    seen: &mut Vec<u8>,
+    marks: &[u8],
+) -> Result<(), AllocError> {
+    seen.extend_from_slice(marks)?;
+    for recorder in recorders {
+        let joined = from(recorder.joined_from());
+        seen.extend_from_slice(&[joined, front(&recorder.into_file())])?;
+    }
+    Ok(())
+}
+
+// What its links were told, in the order in which they came back, what they took, whether something was refused for want of memory,
+// from where its recorders joined and how their files begin.
+fn seen<P: StreamPort>(
+    alloc: Global,
+    finished: Finished<P, Listening, MemSink>,
+) -> Result<Vec<u8>, OutOfMemory> {
+    let Finished {
+        port: _,
+        door,
+        recorders,
+        refused,
+        worn: _,
+    } = finished;
+    let marks = [
+        took(&door.door, 0),
+        took(&door.door, 1),
+        if refused { b'!' } else { b'.' },
+    ];
+    let mut seen = Vec::new(alloc);
+    let told = seen.extend_from_slice(&door.told);
+    drop(door);
+    let files = add_files(recorders, &mut seen, &marks);
+    told?;
+    files?;
+    Ok(seen)
+}
+
+// The same of a worker over two such links, the one a round after the other, before a desk that grants so, at a stream for one
+// player and two recorders.
+fn ran<W: Wait, P: StreamPort>(
     rt: &W,
     alloc: Global,
     port: P,
     letter: u8,
-    one: &[u8],
-    other: &[u8],
-) -> Result<Vec<u8>, OutOfMemory> {
+    door: Listening,
+) -> Result<Vec<u8>, OutOfMemory>
+    requires there { 0 < length (P.rules port).names }
+    requires door { IsNewDoor (door_told door.door) }
+{
     let Ok(place) = port.find(b"live", b"one") else {
         return Err(OutOfMemory);
     };
-    let door = Listening {
-        door: door(alloc, one, other, 0)?,
-        told: Vec::new(alloc),
-    };
-    let mut worker: Worker<P, Listening, MemRest, MemSink> = Worker::new(
-        alloc, 0, 2, LIMITS, port, door, MemRest,
-    )?;
-    worker.run(
-        rt,
-        &Always {
-            grant: granted(letter, place),
-        },
-    );
-    let Finished {
-        port: _,
-        door,
-        recorders: _,
-        refused: _,
-        worn: _,
-    } = worker.finish();
-    let Listening { door: _, told } = door;
-    Ok(told)
+    let worker = worker(alloc, port, door)?;
+    seen(alloc, finished(rt, worker, granted(letter, place)))
 }
 
-fn news<W: Wait>(
+// The same over a port of its own, by the door that fails so often.
+fn told<W: Wait>(
     rt: &W,
     alloc: Global,
     letter: u8,
     one: &[u8],
     other: &[u8],
+    fails: u8,
 ) -> Result<Vec<u8>, OutOfMemory> {
-    let limits = StreamLimits {
-        players: 1,
-        ..STREAM
+    let door = Listening {
+        door: door(alloc, one, other, fails)?,
+        told: Vec::new(alloc),
     };
-    let port = Sole::new(alloc, names(alloc)?, OpenList::new(alloc), limits)?;
-    heard(rt, alloc, port, letter, one, other)
+    let port = Sole::new(alloc, names(alloc)?, OpenList::new(alloc), STREAM)?;
+    ran(rt, alloc, port, letter, door)
 }
 
-#[test]
-fn links_are_told_what_is_done_over_them(rt: HostRuntime) -> Result<(), Fail> {
-    let alloc = rt.alloc();
-    assert_eq!(rt;
-        news(&rt, alloc, b'.', b"hcspadcsy", b"v")?.as_slice(),
-        b"ended: asked for another version of RTMP, at byte 0 /\n\
-connected to live/\npublishes live/one\nleft live/one\nplays live/one\nended: the peer closed the link live/one\n"
-            .as_slice()
-    );
-    assert_eq!(rt;
-        news(&rt, alloc, b'n', b"hcspspy", b"h")?.as_slice(),
-        b"ended: the peer closed the link /\n\
-connected to live/\nrefused: no such stream, live/one\nrefused: no such stream, live/one\nrefused: no such stream, live/one\n\
-ended: the peer closed the link live/\n"
-            .as_slice()
-    );
-    assert_eq!(rt;
-        news(&rt, alloc, b'k', b"hcspy", b"h")?.as_slice(),
-        b"ended: the peer closed the link /\n\
-connected to live/\nrefused: wrong key for live/one\nrefused: wrong key for live/one\nended: the peer closed the link live/\n"
-            .as_slice()
-    );
-    assert_eq!(rt;
-        news(&rt, alloc, b'.', b"hcspaa", b"hcsp")?.as_slice(),
-        b"connected to live/\nrefused: somebody publishes live/one\nended: the peer closed the link live/\n\
-connected to live/\npublishes live/one\nended: the peer closed the link live/one\n"
-            .as_slice()
-    );
-    assert_eq!(rt;
-        news(&rt, alloc, b'.', b"hcsyyy", b"hcsy")?.as_slice(),
-        b"connected to live/\nrefused: no place is left at live/one\nended: the peer closed the link live/\n\
-connected to live/\nplays live/one\nended: the peer closed the link live/one\n"
-            .as_slice()
-    );
-    Ok(())
+// A row of the test.
+fn row<W: Wait>(rt: &W, alloc: Global, row: u8) -> Result<Vec<u8>, OutOfMemory> {
+    match row {
+        // Links that only shake hands, over a door that fails and one that doesn't, and over one that fails often.
+        b'a' => told(rt, alloc, b'.', b"h", b"v", 0),
+        b'b' => told(rt, alloc, b'.', b"h", b"v", 1),
+        b'c' => told(rt, alloc, b'.', b"hcspa", b"h", 100),
+        // A publisher that goes on as a player, one that is refused, by its name and by its key.
+        b'd' => told(rt, alloc, b'.', b"hcspadcsy", b"v", 0),
+        b'e' => told(rt, alloc, b'n', b"hcspspy", b"h", 0),
+        b'f' => told(rt, alloc, b'k', b"hcspy", b"h", 0),
+        // Two publishers, and two players.
+        b'g' => told(rt, alloc, b'.', b"hcspaa", b"hcsp", 0),
+        _ => told(rt, alloc, b'.', b"hcsyyy", b"hcsy", 0),
+    }
 }
 
+const TOLD: &[u8] = b"ended: the peer closed the link /
+ended: asked for another version of RTMP, at byte 0 /
+h0.0F0-
+ended: the peer closed the link /
+ended: asked for another version of RTMP, at byte 0 /
+h0.0F0-
+connected to live/
+publishes live/one
+ended: the peer closed the link live/one
+ended: the peer closed the link /
++h.0F0G
+ended: asked for another version of RTMP, at byte 0 /
+connected to live/
+publishes live/one
+left live/one
+plays live/one
+ended: the peer closed the link live/one
+0+.0F0G
+ended: the peer closed the link /
+connected to live/
+refused: no such stream, live/one
+refused: no such stream, live/one
+refused: no such stream, live/one
+ended: the peer closed the link live/
+h+.0F0-
+ended: the peer closed the link /
+connected to live/
+refused: wrong key for live/one
+refused: wrong key for live/one
+ended: the peer closed the link live/
+h+.0F0-
+connected to live/
+refused: somebody publishes live/one
+ended: the peer closed the link live/
+connected to live/
+publishes live/one
+ended: the peer closed the link live/one
+++.0F0G
+connected to live/
+refused: no place is left at live/one
+ended: the peer closed the link live/
+connected to live/
+plays live/one
+ended: the peer closed the link live/one
+++.0F0-
+";
+
 #[test]
-fn what_waited_is_told_once_it_is_done(rt: HostRuntime) -> Result<(), Fail> {
+fn links_come_back_and_are_told_what_is_done_over_them(rt: HostRuntime) -> Result<(), Fail> {
     let alloc = rt.alloc();
-    let port = a_balky_port(alloc)?;
-    assert_eq!(rt;
-        heard(&rt, alloc, port, b'.', b"hcspa", b"h")?.as_slice(),
-        b"ended: the peer closed the link /\n\
-connected to live/\npublishes live/one\nended: the peer closed the link live/one\n"
-            .as_slice()
-    );
+    let mut text = Vec::new(alloc);
+    for letter in b"abcdefgh" {
+        text.extend_from_slice(&row(&rt, alloc, *letter)?)?;
+        text.push(b'\n')?;
+    }
+    assert_eq!(rt; text.as_slice(), TOLD);
     Ok(())
 }

@@ -5,6 +5,4 @@ abbrev pub invariant-loop : goal.invariant-loop
 invariant-loop g l = record {
   fits : g.P.StreamPort.fits l.port l.place l.pass;
   rules : g.P.StreamPort.rules l.port ≡ g.P.StreamPort.rules l.initial.port;
-  limits : g.P.StreamPort.limits l.pass ≡ g.P.StreamPort.limits l.initial.pass;
-  same : l.entry ≡ l.initial.entry;
 }
