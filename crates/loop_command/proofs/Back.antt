@@ -125,7 +125,7 @@ room_join : (max : ℕ) (a b : List Own) → HaveRoom max a → HaveRoom max b �
 room_join max [] b x y = y
 room_join max (c ∷ a) b x y = (x.0, room_join max a b x.1 y)
 
-reversed : (c : Own) (C : List Own) → reverse (c ∷ C) ≡ reverse C ++ c ∷ []
+pub reversed : (c : Own) (C : List Own) → reverse (c ∷ C) ≡ reverse C ++ c ∷ []
 reversed c C = reverse-append (c ∷ []) C
 
 room_reversed : (max : ℕ) (C : List Own) → HaveRoom max C → HaveRoom max (reverse C)

@@ -15,14 +15,16 @@ use Rattle.stream_registry.specs.Books.{SeenState, SoleRules, SoleState, journal
 use Rattle.stream_registry.specs.Names.{AreFew as AreFewNames}
 use Rattle.stream_registry.specs.declared.names.Name.{Name}
 use Rattle.stream_registry.specs.declared.names.OpenName.{OpenName}
+use Rattle.relay_session.specs.SeatVisits.{Visit}
 use Rattle.relay_session.specs.SessionState.{SessionState}
+use Rattle.stream_model.specs.Counts.{how_many}
 use Rattle.client_command.specs.Film.{tags_given}
 use Rattle.client_command.specs.Turned.{IsLive, IsNew}
 use Rattle.client_command.proofs.Pushed.{new_open}
 use Rattle.client_command.proofs.Writing.{append_known_nil}
 use Rattle.loop_command.specs.Course.{IsFirst, IsFirstLine, new_link}
 use Rattle.loop_command.specs.Desk.{asked_by, limits, one_name, player, publisher}
-use Rattle.loop_command.specs.Lines.{AreFew, ArePassed, IsPassed, Serves, Works}
+use Rattle.loop_command.specs.Lines.{AreFew, ArePassed, IsPassed, Serves, Works, steps_of}
 use Rattle.loop_command.specs.Newly.{IsNewLine, IsNewPort, IsNewSession, fresh_line}
 use Rattle.loop_command.specs.Rounds.{AreWritable, CanPush, IsNewRun, IsRun, IsSound, IsTold, PushesOf}
 use Rattle.loop_command.specs.declared.line.Line.{Line}
@@ -133,6 +135,12 @@ begins_run r held b =
         b.push.runs,
         ap (λ (k : Keeps). k.finished) b.push.first.client.keeps,
         none_given r.push.client.parts.gave r.tags.items (ap (λ (p : Past). p.gave) b.push.first.client.past),
+      );
+      mixed = λ f. omega (
+        arith,
+        ap (how_many f) (b.port.none 0),
+        ap (λ (l : List Visit). how_many f (steps_of l)) b.pull.first.visits,
+        ap (λ (l : List Visit). how_many f (steps_of l)) b.push.first.visits,
       );
     }
 

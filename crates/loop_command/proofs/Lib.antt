@@ -5,6 +5,8 @@ pub mod Ties
 pub mod Home
 pub mod Sessions
 pub mod Serving
+pub mod Granted
+pub mod Mixing
 pub mod Laws
 pub mod Counting
 pub mod Beginning

@@ -1,13 +1,13 @@
 -- How the command ends, by what its steps came to
-use Rattle.std.proofs.Common.{◌≡◌, ◌⊎◌, ℕ, ◌<◌, ◌≤◌, List, length, Option, Result, Ok, Err, refl, sym, ap, subst, arith}
+use Rattle.std.proofs.Common.{◌≡◌, ◌∙◌, ℕ, ◌≤◌, List, length, Option, Result, Ok, Err, refl, sym, ap, subst, arith}
 use Rattle.std.specs.Prelude.{IfErr, OnOk}
 use Rattle.file_commands.specs.Outcome.{seen}
 use Rattle.flv_tags.specs.declared.tag.Tag.{Tag}
-use Rattle.loop_command.specs.Course.{CameNot, IsFirst, RoundFails, rounds_of, text_of}
+use Rattle.loop_command.specs.Course.{CameNot, IsFirst, rounds_of, text_of}
 use Rattle.loop_command.specs.Films.{WasWhole, most_bytes}
 use Rattle.loop_command.specs.Looped.{IsLooped}
 use Rattle.loop_command.specs.Outcome.{Ends, HasCome}
-use Rattle.loop_command.specs.Rounds.{EndsWith, FailsWithin, Goes, HasSettled, IsRun, ReadStops, ReadsWhole, RunsBy, SinkCause, how_of}
+use Rattle.loop_command.specs.Rounds.{EndsWith, Goes, HasSettled, IsRun, IsUnsettled, ReadStops, ReadsWhole, RunsBy, SinkCause, how_of}
 use Rattle.loop_command.specs.declared.film.Reading.{Reading}
 use Rattle.loop_command.specs.declared.rounds.Run.{Run}
 use Rattle.loop_command.specs.declared.stop.Stop.{Stop}
@@ -36,20 +36,17 @@ pub memory_ends : (stop : Stop) (r : Reading) (left left' held held' : Option (L
 memory_ends stop r left left' held held' n n' f f' e h s = subst (λ (x : Stop). Ends (how_of (Err x)) (seen left held n f) (seen left' held' n' f'))
     (sym e) (h.faults, s)
 
-not_back : (r : Reading) (left left' : Option (List ℕ)) (n n' : ℕ) (first : Run) (h : ReadsWhole r left left' n n') (at : Run)
-    → IsFirst r.tags.items first → FailsWithin first (rounds_of r.bytes) at → CameNot r.tags.items (length h.read) (text_of at)
-not_back r left left' n n' first h at fresh e =
-    let rounds : rounds_of r.bytes ≡ rounds_of (length h.read) = ap rounds_of h.count in
-    record {
-      first = first;
-      fresh = fresh;
-      states = e.states;
-      last = e.last;
-      course = e.course;
-      reached = at;
-      ends = subst (λ (k : ℕ). ((length e.states ≡ k) × (at ≡ e.last)) ⊎ ((length e.states < k) × RoundFails e.last at)) rounds e.ends;
-      text_is = refl;
-    }
+not_back : (r : Reading) (left left' held now : Option (List ℕ)) (n n' : ℕ) (first last : Run) (h : ReadsWhole r left left' n n')
+    → IsFirst r.tags.items first → IsUnsettled first last (rounds_of r.bytes) held now → CameNot r.tags.items (length h.read) (text_of last)
+not_back r left left' held now n n' first last h fresh e = record {
+  first = first;
+  fresh = fresh;
+  states = e.states;
+  last = last;
+  course = e.course;
+  count = e.count ∙ ap rounds_of h.count;
+  text_is = refl;
+}
 
 -- the run doesn't come to its end
 pub run_ends : (stop : Stop) (r : Reading) (left left' held held' : Option (List ℕ)) (n n' f f' : ℕ) (first last : Run) → ReadsWhole r left left' n n'
@@ -63,8 +60,8 @@ run_ends Memory r left left' held held' n n' f f' first last h fresh e s = (h.fa
 run_ends Unfinished r left left' held held' n n' f f' first last h fresh e s = record {
   tags = r.tags.items;
   film = whole r left left' held held' n n' f f' h;
-  text = text_of e.at;
-  back = not_back r left left' n n' first h e.at fresh e.fails;
+  text = text_of last;
+  back = not_back r left left' held held' n n' first last h fresh e;
   held = e.written;
   faults = s;
 }

@@ -1,5 +1,6 @@
--- No session of a run ends but for want of memory, and a client only where its session refuses it
-use Rattle.std.proofs.Common.{◌≡◌, ◌⊎◌, inl, inr, ℕ, ◌+◌, ◌≤◌, ◌^◌, Bool, true, false, List, [], ◌∷◌, ◌++◌, length, take, drop, Option, Some, None, Result}
+-- No session of a run ends but for want of memory, and no client but for this, or since it is done
+use Rattle.std.proofs.Common.{◌≡◌, ◌⊎◌, inl, inr, ℕ, ◌+◌, ◌≤◌, ◌^◌, Bool, true, false, List, [], ◌∷◌, ◌++◌, length, take, drop, reverse, Option, Some, None}
+use Rattle.std.proofs.Common.{Result}
 use Rattle.std.proofs.Common.{Ok, Err, refl, sym, ap, ◌∙◌, subst, arith, append_assoc, append-nil, length-append}
 use Rattle.std.specs.List.{concat}
 use Rattle.chunk_reader.specs.Sound.{IsRead}
@@ -20,7 +21,8 @@ use Rattle.flv_tags.specs.declared.tag.Tag.{Tag}
 use Rattle.command_dialog.specs.State.{State}
 use Rattle.command_dialog.specs.declared.types.Ask.{Ask}
 use Rattle.command_dialog.specs.declared.types.Grant.{Grant}
-use Rattle.refusal_law.specs.Refusals.{Begins, HaveTalked, IsRefusal, IsWant}
+use Rattle.command_dialog.specs.declared.types.Grant.TheVariants as grant
+use Rattle.refusal_law.specs.Refusals.{AreGranted, AreOpened, Begins, ClientWants, HaveTalked, IsWant, asking_of}
 use Rattle.relay_outside.specs.Heard.{Came, CameBytes, CameEnd, CameFailed, CameNotYet}
 use Rattle.relay_outside.specs.MemLinkLaws.{mem_hears_mean, mem_says_mean}
 use Rattle.relay_outside.specs.MemLinks.{MemHears, MemLinkState, MemSays, mem_told}
@@ -29,6 +31,7 @@ use Rattle.relay_outside.specs.declared.link.Said.TheVariants as said
 use Rattle.relay_session.specs.Decided.{IsDecided}
 use Rattle.relay_session.specs.Feeding.{Fixed as SessionFixed, IsStopped}
 use Rattle.relay_session.specs.Keeping.{IsOver}
+use Rattle.relay_session.specs.SeatVisits.{StandIn as SeatStandIn, Visit, calls_of}
 use Rattle.relay_session.specs.Session.{session}
 use Rattle.relay_session.specs.SessionState.{IsWhole, Lasting as SessionLasting, SessionState, StandsBy, StandsFor, life_at}
 use Rattle.relay_session.specs.Turns.{Gone, gone_of}
@@ -46,12 +49,15 @@ use Rattle.rtmp_client.specs.declared.core_fields.Core.{Core}
 use Rattle.relay_session.specs.declared.turn.Turn.TheVariants as session_turn
 use Rattle.session_owed.specs.Dialogue.{Dialogue}
 use Rattle.session_owed.specs.Owed as owing
-use Rattle.session_owed.specs.Talk.{Own, hand_bytes}
-use Rattle.session_owed.specs.Talks.{Talks}
+use Rattle.session_owed.specs.Talk.{Own, hand_bytes, makes}
+use Rattle.session_owed.specs.Talks.{Talks, entries_of}
+use Rattle.stream_model.specs.Counts.{how_many}
+use Rattle.stream_model.specs.declared.calls.Entry.{Entry}
+use Rattle.stream_model.specs.declared.replies.Reply.{Reply}
 use Rattle.stream_registry.specs.Books.{SeenState, SoleState, journal_at, sole_rules}
-use Rattle.loop_command.specs.Course.{Asks, ClientRefused, is_done as has_sent}
+use Rattle.loop_command.specs.Course.{Asks, is_done as has_sent}
 use Rattle.loop_command.specs.Desk.{asked_by, dialogue, granted, max_message, player, publisher, puller, pusher, rules, shape, window}
-use Rattle.loop_command.specs.Lines.{ArePassed, ClientGoes, ClientRuns, ClientSide, Serves, StaysHome, Works, most_passed}
+use Rattle.loop_command.specs.Lines.{ArePassed, ClientGoes, ClientRuns, ClientSide, Serves, StaysHome, Works, most_passed, steps_of}
 use Rattle.loop_command.specs.Rounds.{ClientEnds, IsRun, PushesOf, SessionEnds, is_failure, is_session_cause}
 use Rattle.loop_command.specs.declared.line.Line.{Line}
 use Rattle.loop_command.specs.declared.rounds.Run.{Run}
@@ -59,6 +65,7 @@ use Rattle.loop_command.specs.declared.rounds.Stage.{Stage}
 use Rattle.loop_command.specs.declared.rounds.Stage.TheVariants.{Giving, Finishing, Done}
 use Rattle.loop_command.proofs.Back.{calls_room}
 use Rattle.loop_command.proofs.Clients.{side_of, start_of, to_runs, turn_keeps}
+use Rattle.loop_command.proofs.Granted.{many_reverse, pull_granted, push_granted}
 use Rattle.loop_command.proofs.Home.{asked_home, heard_home}
 use Rattle.loop_command.proofs.Laws.{passed_all}
 use Rattle.loop_command.proofs.Links.{said_keeps}
@@ -140,12 +147,18 @@ turn_not : (o : Option ClientEnd) (v w : Life) (l m : MemLinkState) (a : Result 
 turn_not (Some e) v w l m a n k f = absurd (let g : Some e ≡ None = n in cc)
 turn_not None v w l m a n k f = send_not (is_nil v.parts.outgoing.pending) v w l m a k f
 
--- ---- a client that has ended
+-- ---- what was said
 
 abbrev pub ClientLaw : Type 0
-ClientLaw = (k : Asked) (who window max n : ℕ) (desk : Ask → Grant) (x y more : List ℕ) (ms ns : List (ℕ × Message)) (T : List Gave) (C : List Own)
-    (e : ClientEnd) → (h : HaveTalked k (session who window desk) max x y ms ns T C) → HaveRoom max C → Begins more h.left → length (y ++ more) ≤ 2 ^ 61
-    → Decides max ns (y ++ more) n e → IsRefusal e
+ClientLaw = (k : Asked) (who window max n place : ℕ) (desk : Ask → Grant) (x y more : List ℕ) (ms ns : List (ℕ × Message)) (T : List Gave) (C : List Own)
+    (e : ClientEnd) → (h : HaveTalked k (session who window desk) max x y ms ns T C) → HaveRoom max C → desk (asking_of k) ≡ grant.Place place
+    → AreGranted C → Begins more h.left → length (y ++ more) ≤ 2 ^ 61
+    → Decides max ns (y ++ more) n e → ClientWants e
+
+abbrev pub OnceLaw : Type 0
+OnceLaw = (k : Asked) (who window max place : ℕ) (desk : Ask → Grant) (x y : List ℕ) (ms ns : List (ℕ × Message)) (T : List Gave) (C : List Own)
+    → (h : HaveTalked k (session who window desk) max x y ms ns T C) → HaveRoom max C → desk (asking_of k) ≡ grant.Place place
+    → AreOpened k.wish (makes C ++ entries_of h.kept)
 
 abbrev pub SessionLaw : Type 0
 SessionLaw = (k : Asked) (who window max n : ℕ) (desk : Ask → Grant) (x y more : List ℕ) (ms ns : List (ℕ × Message)) (T : List Gave) (C : List Own) (e : End)
@@ -155,6 +168,11 @@ SessionLaw = (k : Asked) (who window max n : ℕ) (desk : Ask → Grant) (x y mo
 abbrev pub DecidedLaw : Type 0
 DecidedLaw = (desk : Ask → Grant) (old stopped left : SessionCore) (input : List ℕ) (e : End) → IsStopped old input e stopped → gone_of left ≡ gone_of stopped
     → (over : IsOver desk e left) → IsDecided left.who left.window desk over.ms left.calls left.reader.max (old.x ++ input) (length left.x) e
+
+-- its first call begins what is wished, if it has made one, and no other begins anything
+pub record Opens (w : Wish) (C : List Own) : Type 0 where
+  pub rest : List Entry
+  pub opened : AreOpened w (makes C ++ rest)
 
 is_none : (m : MemLinkState) → m.sent ≡ [] → m.handed ++ m.sent ≡ m.handed
 is_none m e = ap (λ (l : List ℕ). m.handed ++ l) e ∙ append-nil m.handed
@@ -169,16 +187,75 @@ front_few a b all e l = omega (arith, length-append a b, ap length e, l)
 the_end : (a b : ClientEnd) → Some a ≡ Some b → a ≡ b
 the_end a b e = cc
 
-module _ (law : ClientLaw) (who : ℕ) (k : Asked) (named : IsNamed k) (p : SoleState) (l : Line) (runs : ClientRuns k l.client l.near) (passed : ArePassed l)
-    (serves : Serves who p l.session l.far) (whole : IsWhole granted l.session.parts) (room : HaveRoom max_message l.session.parts.calls) where
+module _ (who : ℕ) (k : Asked) (named : IsNamed k) (p : SoleState) (l : Line) (passed : ArePassed l) (serves : Serves who p l.session l.far)
+    (whole : IsWhole granted l.session.parts) (room : HaveRoom max_message l.session.parts.calls) (desk_is : granted (asking_of k) ≡ grant.Place 0) where
   abbrev s : SessionCore
   s = l.session.parts
 
   is : session s.who s.window granted ≡ dialogue who
   is = ap (λ (a : ℕ). session a s.window granted) serves.who_is ∙ ap (λ (b : ℕ). session who b granted) serves.window_is
 
-  -- what it says of the client that has ended
-  module _ (e : ClientEnd) (ends : ClientEnds l e) where
+  sent : l.far.handed ≡ s.sent
+  sent = sym (is_none l.far passed.back.none) ∙ serves.took
+
+  owes : l.far.handed ++ whole.more ≡ owing.out (dialogue who) s.x whole.ms s.calls
+  owes = ap (λ (b : List ℕ). b ++ whole.more) sent ∙ whole.owes ∙ ap (λ (d : Dialogue State). owing.out d s.x whole.ms s.calls) is
+
+  -- what came to the session by it
+  forth : s.x ++ (l.session.input ++ concat l.far.pieces) ≡ l.near.handed
+  forth = passed_all s.x l.session.input (concat l.far.pieces) l.near.handed l.far.gave passed.forth.came serves.gave
+
+  few_forth : length l.near.handed ≤ most_passed
+  few_forth = omega (arith, passed.forth.total_is, passed.forth.few)
+
+  few_back : length l.far.handed ≤ most_passed
+  few_back = omega (arith, passed.back.total_is, passed.back.few)
+
+  session_reads : IsRead max_message (drop hand_bytes s.x) whole.ms
+  session_reads = subst (λ (j : ℕ). IsRead j (drop hand_bytes s.x) whole.ms) serves.max whole.read
+
+  few_x : length s.x ≤ 2 ^ 61
+  few_x = front_few s.x (l.session.input ++ concat l.far.pieces) l.near.handed forth few_forth
+
+  session_talks : Talks (dialogue who) (owing.count_of (dialogue who) s.x) whole.ms s.calls s.kept
+  session_talks = subst (λ (d : Dialogue State). Talks d (owing.count_of d s.x) whole.ms s.calls s.kept) is whole.talks
+
+  -- ---- which calls its session has made
+
+  module _ (once : OnceLaw) (T : List Gave) (gifts : List Gift) (more : List ℕ) (side : ClientSide k l.near T gifts more) where
+    all_asked : l.near.handed ++ more ≡ client.out k side.y side.ms T
+    all_asked = ap (λ (b : List ℕ). b ++ more) (sym (is_none l.near passed.forth.none)) ∙ side.took
+
+    all_told : side.y ++ (side.rest ++ concat l.near.pieces) ≡ l.far.handed
+    all_told = passed_all side.y side.rest (concat l.near.pieces) l.far.handed l.near.gave passed.back.came side.gave
+
+    line_talked : HaveTalked k (dialogue who) max_message s.x side.y whole.ms side.ms T s.calls
+    line_talked = record {
+      named = named;
+      least = omega arith;
+      most = omega arith;
+      given = side.given;
+      rest = (l.session.input ++ concat l.far.pieces) ++ more;
+      sent = owes_more s.x (l.session.input ++ concat l.far.pieces) l.near.handed more (client.out k side.y side.ms T) forth all_asked;
+      left = (side.rest ++ concat l.near.pieces) ++ whole.more;
+      told = owes_more side.y (side.rest ++ concat l.near.pieces) l.far.handed whole.more (owing.out (dialogue who) s.x whole.ms s.calls) all_told owes;
+      session_read = session_reads;
+      client_read = side.read;
+      few = few_x;
+      kept = s.kept;
+      talks = session_talks;
+    }
+
+    -- IT BEGINS ONE ROLE
+    pub line_opens : Opens k.wish s.calls
+    line_opens = record {
+      rest = entries_of line_talked.kept;
+      opened = once k who window max_message 0 granted s.x side.y whole.ms side.ms T s.calls line_talked room desk_is;
+    }
+
+  -- ---- a client that has ended
+
+  module _ (law : ClientLaw) (runs : ClientRuns k l.client l.near) (grants : AreGranted s.calls) (e : ClientEnd) (ends : ClientEnds l e) where
     abbrev m : MemLinkState
     m = ends.link
 
@@ -206,26 +283,10 @@ module _ (law : ClientLaw) (who : ℕ) (k : Asked) (named : IsNamed k) (p : Sole
         passed_all c.y rest (concat m.pieces) l.far.handed m.gave
         ((turn_keeps l.client ends.new l.near m client_turn.Ended ends.turn).stream ∙ passed.back.came) gave
 
-    sent : l.far.handed ≡ s.sent
-    sent = sym (is_none l.far passed.back.none) ∙ serves.took
-
-    owes : l.far.handed ++ whole.more ≡ owing.out (dialogue who) s.x whole.ms s.calls
-    owes = ap (λ (b : List ℕ). b ++ whole.more) sent ∙ whole.owes ∙ ap (λ (d : Dialogue State). owing.out d s.x whole.ms s.calls) is
-
-    -- and what came to the session by it
-    forth : s.x ++ (l.session.input ++ concat l.far.pieces) ≡ l.near.handed
-    forth = passed_all s.x l.session.input (concat l.far.pieces) l.near.handed l.far.gave passed.forth.came serves.gave
-
     asks : l.near.handed ++ c.outgoing.pending ≡ client.out k c.y c.reader.given c.gave
     asks =
         ap (λ (b : List ℕ). b ++ c.outgoing.pending) (sym (is_none l.near passed.forth.none) ∙ runs.took) ∙ runs.live.stands.stands.owes
         ∙ ap (λ (x : Asked). client.out x c.y c.reader.given c.gave) runs.asked
-
-    few_forth : length l.near.handed ≤ most_passed
-    few_forth = omega (arith, passed.forth.total_is, passed.forth.few)
-
-    few_back : length l.far.handed ≤ most_passed
-    few_back = omega (arith, passed.back.total_is, passed.back.few)
 
     talked : HaveTalked k (dialogue who) max_message s.x c.y whole.ms c.reader.given c.gave s.calls
     talked = record {
@@ -237,24 +298,21 @@ module _ (law : ClientLaw) (who : ℕ) (k : Asked) (named : IsNamed k) (p : Sole
       sent = owes_more s.x (l.session.input ++ concat l.far.pieces) l.near.handed c.outgoing.pending (client.out k c.y c.reader.given c.gave) forth asks;
       left = (rest ++ concat m.pieces) ++ whole.more;
       told = owes_more c.y (rest ++ concat m.pieces) l.far.handed whole.more (owing.out (dialogue who) s.x whole.ms s.calls) came owes;
-      session_read = subst (λ (j : ℕ). IsRead j (drop hand_bytes s.x) whole.ms) serves.max whole.read;
+      session_read = session_reads;
       client_read = stopped.2.run.read;
-      few = front_few s.x (l.session.input ++ concat l.far.pieces) l.near.handed forth few_forth;
+      few = few_x;
       kept = s.kept;
-      talks = subst (λ (d : Dialogue State). Talks d (owing.count_of d s.x) whole.ms s.calls s.kept) is whole.talks;
+      talks = session_talks;
     }
 
     few_came : length (c.y ++ rest) ≤ 2 ^ 61
     few_came = front_few (c.y ++ rest) (concat m.pieces) l.far.handed (append_assoc c.y rest (concat m.pieces) ∙ came) few_back
 
-    by_byte : (n : ℕ) (x : ClientEnd) → Decides most_message c.reader.given (c.y ++ rest) n x → IsRefusal x
+    by_byte : (n : ℕ) (x : ClientEnd) → Decides most_message c.reader.given (c.y ++ rest) n x → ClientWants x
     unfolding talked stopped
     by_byte n x d =
-        law k who window max_message n granted s.x c.y rest whole.ms c.reader.given c.gave s.calls x talked room
+        law k who window max_message n 0 granted s.x c.y rest whole.ms c.reader.given c.gave s.calls x talked room desk_is grants
         (concat m.pieces ++ whole.more, sym (append_assoc rest (concat m.pieces) whole.more)) few_came d
-
-    abbrev Found : ClientEnd → Type 0
-    Found x = (code : List ℕ) × (x ≡ end.Refused code)
 
     not_link : ByLink (Err e) → ⊥
     not_link b = by_comes ends.turn.comes ends.turn.ended (turn_not l.client.ended (life_of l.client) (life_of ends.new) l.near m ends.turn.comes
@@ -265,29 +323,25 @@ module _ (law : ClientLaw) (who : ℕ) (k : Asked) (named : IsNamed k) (p : Sole
         by_comes (Err x) f n = n (subst (λ (z : ClientEnd). ByLink (Err z)) (sym (the_end x e (sym f ∙ ends.ended))) b)
 
     by_cause : (x : ClientEnd) → x ≡ e → is_failure x ≡ true → (IsDone x c stopped.2.more l.near.counts m.counts
-        ⊎ Causes x c.reader.given (c.y ++ rest) l.near.counts m.counts) → Found x
-    by_cause end.PeerClosed q f w = absurd (not_link (subst (λ (z : ClientEnd). ByLink (Err z)) q tt))
-    by_cause end.LinkFault q f w = absurd (not_link (subst (λ (z : ClientEnd). ByLink (Err z)) q tt))
-    by_cause (end.Refused code) q f w = (code, refl)
+        ⊎ Causes x c.reader.given (c.y ++ rest) l.near.counts m.counts) → ⊥
+    by_cause end.PeerClosed q f w = not_link (subst (λ (z : ClientEnd). ByLink (Err z)) q tt)
+    by_cause end.LinkFault q f w = not_link (subst (λ (z : ClientEnd). ByLink (Err z)) q tt)
+    by_cause (end.Refused code) q f (inl w) = absurd (let g : end.Refused code ≡ end.Done = w.is_done in cc)
+    by_cause (end.Refused code) q f (inr w) = by_byte w.0.0 (end.Refused code) w.0.1
     by_cause (end.BadVersion at) q f (inl w) = absurd (let g : end.BadVersion at ≡ end.Done = w.is_done in cc)
-    by_cause (end.BadVersion at) q f (inr w) = absurd (by_byte w.0.0 (end.BadVersion at) w.0.1)
+    by_cause (end.BadVersion at) q f (inr w) = by_byte w.0.0 (end.BadVersion at) w.0.1
     by_cause (end.BadChunk cause at) q f (inl w) = absurd (let g : end.BadChunk cause at ≡ end.Done = w.is_done in cc)
-    by_cause (end.BadChunk cause at) q f (inr w) = absurd (by_byte w.0.0 (end.BadChunk cause at) w.0.1)
+    by_cause (end.BadChunk cause at) q f (inr w) = by_byte w.0.0 (end.BadChunk cause at) w.0.1
     by_cause (end.BadControl at) q f (inl w) = absurd (let g : end.BadControl at ≡ end.Done = w.is_done in cc)
-    by_cause (end.BadControl at) q f (inr w) = absurd (by_byte w.0.0 (end.BadControl at) w.0.1)
+    by_cause (end.BadControl at) q f (inr w) = by_byte w.0.0 (end.BadControl at) w.0.1
     by_cause (end.BadCommand at) q f (inl w) = absurd (let g : end.BadCommand at ≡ end.Done = w.is_done in cc)
-    by_cause (end.BadCommand at) q f (inr w) = absurd (by_byte w.0.0 (end.BadCommand at) w.0.1)
+    by_cause (end.BadCommand at) q f (inr w) = by_byte w.0.0 (end.BadCommand at) w.0.1
     by_cause end.Done q f w = absurd cc
     by_cause end.OutOfMemory q f w = absurd cc
 
-    found : is_failure e ≡ true → Found e
-    found f = subst Found same (by_cause stopped.0 same (subst (λ (z : ClientEnd). is_failure z ≡ true) (sym same) f) stopped.2.why)
-
-  -- A CLIENT THAT HAS ENDED WAS REFUSED
-  pub was_refused : (e : ClientEnd) → is_failure e ≡ true → ClientEnds l e → ClientRefused l
-  was_refused e f ends =
-      let r = found e ends f in
-      record { code = r.0; new = ends.new; link = ends.link; turn = ends.turn; ended = ends.ended ∙ ap (λ (x : ClientEnd). Some x) r.1 }
+    -- NO CLIENT HAS, but done or for want of memory
+    pub never_failed : is_failure e ≡ true → ⊥
+    never_failed f = by_cause stopped.0 same (subst (λ (z : ClientEnd). is_failure z ≡ true) (sym same) f) stopped.2.why
 
 -- ---- a session that has ended
 
@@ -415,20 +469,6 @@ room_of : (who : ℕ) (p : SoleState) (s : SessionState SeenState) (m : MemLinkS
 room_of who p s m v r room =
     calls_room max_message shape s.parts.calls (journal_at p.books 0) (one_place s.seat p s.parts.calls v.home.none r v.at.calls v.visits v.at.fit) room
 
-pub pull_refused : ClientLaw → (file : List Tag) (old now : Option (List ℕ)) (r : Run) → sole_rules r.port.rules ≡ rules → IsRun file r old now
-    → IsWhole granted r.pull.session.parts → HaveRoom max_message (journal_at r.port.books 0) → (e : ClientEnd) → is_failure e ≡ true → ClientEnds r.pull e
-    → ClientRefused r.pull
-pull_refused law file old now r rule h whole room =
-    was_refused law player puller (named Pull) r.port r.pull h.pulls h.pull_passed h.plays whole
-    (room_of player r.port r.pull.session r.pull.far h.plays rule room)
-
-pub push_refused : ClientLaw → (file : List Tag) (old now : Option (List ℕ)) (r : Run) → sole_rules r.port.rules ≡ rules → has_sent r.stage ≡ false
-    → IsRun file r old now → IsWhole granted r.push.session.parts → HaveRoom max_message (journal_at r.port.books 0) → (e : ClientEnd)
-    → is_failure e ≡ true → ClientEnds r.push e → ClientRefused r.push
-push_refused law file old now r rule lives h whole room =
-    was_refused law publisher pusher (named Push) r.port r.push (pushes_runs r.stage file r.tags.items r.push.client r.push.near lives h.pushes)
-    h.push_passed h.publishes whole (room_of publisher r.port r.push.session r.push.far h.publishes rule room)
-
 pub player_lasts : SessionLaw → DecidedLaw → (file : List Tag) (old now : Option (List ℕ)) (r : Run) → IsRun file r old now → SessionEnds r.port r.pull → ⊥
 player_lasts law decided file old now r h =
     never_ends law decided player puller (named Pull) r.pull.client.parts.gave (gifts_of r.pull.client.parts) r.pull.client.parts.outgoing.pending r.port r.pull
@@ -448,6 +488,71 @@ pushes_side : (stage : Stage) (file queue : List Tag) (c : ClientState) (m : Mem
 pushes_side Giving file queue c m h = runs_side c m h.0
 pushes_side Finishing file queue c m h = runs_side c m h.0
 pushes_side Done file queue c m h = record { given = h.0; gifts = h.1; more = []; side = h.2 }
+
+-- what each client asks is granted by the desk
+grants_to : (w : Wish) → granted (asking_of (asked_by w)) ≡ grant.Place 0
+grants_to w = refl
+
+-- the calls of both sessions, where both have said what they owe
+module _ (once : OnceLaw) (file : List Tag) (old now : Option (List ℕ)) (r : Run) (rule : sole_rules r.port.rules ≡ rules) (h : IsRun file r old now)
+    (plays : IsWhole granted r.pull.session.parts) (publishes : IsWhole granted r.push.session.parts) (room : HaveRoom max_message (journal_at r.port.books 0))
+  where
+    abbrev C : List Own
+    C = r.pull.session.parts.calls
+
+    abbrev D : List Own
+    D = r.push.session.parts.calls
+
+    plays_room : HaveRoom max_message C
+    plays_room = room_of player r.port r.pull.session r.pull.far h.plays rule room
+
+    publishes_room : HaveRoom max_message D
+    publishes_room = room_of publisher r.port r.push.session r.push.far h.publishes rule room
+
+    pull_opens : Opens Pull C
+    pull_opens =
+        line_opens player puller (named Pull) r.port r.pull h.pull_passed h.plays plays plays_room (grants_to Pull) once r.pull.client.parts.gave
+        (gifts_of r.pull.client.parts) r.pull.client.parts.outgoing.pending (side_of puller r.pull.client r.pull.near h.pulls)
+
+    push_opens : Opens Push D
+    push_opens =
+        let d = pushes_side r.stage file r.tags.items r.push.client r.push.near h.pushes in
+        line_opens publisher pusher (named Push) r.port r.push h.push_passed h.publishes publishes publishes_room (grants_to Push) once d.given d.gifts
+        d.more d.side
+
+    played : SeatStandIn shape (reverse C) (reverse (journal_at r.port.books 0))
+    played = one_place r.pull.session.seat r.port C h.plays.home.none rule h.plays.at.calls h.plays.visits h.plays.at.fit
+
+    published : SeatStandIn shape (reverse D) (reverse (journal_at r.port.books 0))
+    published = one_place r.push.session.seat r.port D h.publishes.home.none rule h.publishes.at.calls h.publishes.visits h.publishes.at.fit
+
+    calls_count : (f : Reply → Bool) (E : List Own) (visits : List Visit) → E ≡ calls_of visits → how_many f E ≡ how_many f (steps_of visits)
+    calls_count f E visits e = ap (how_many f) e ∙ many_reverse f (steps_of visits)
+
+    counted : (f : Reply → Bool) → how_many f (journal_at r.port.books 0) ≡ how_many f C + how_many f D
+    counted f = omega (
+      arith,
+      h.mixed f,
+      calls_count f C r.pull.session.seat.visits h.plays.at.calls,
+      calls_count f D r.push.session.seat.visits h.publishes.at.calls,
+    )
+
+    player_granted : AreGranted C
+    player_granted = pull_granted (journal_at r.port.books 0) C D played published counted pull_opens.rest push_opens.rest pull_opens.opened push_opens.opened
+
+    publisher_granted : AreGranted D
+    publisher_granted =
+        push_granted (journal_at r.port.books 0) D C published played (λ f. omega (arith, counted f)) push_opens.rest pull_opens.rest push_opens.opened
+        pull_opens.opened
+
+    pub pull_lasts : ClientLaw → (e : ClientEnd) → is_failure e ≡ true → ClientEnds r.pull e → ⊥
+    pull_lasts law e f ends =
+        never_failed player puller (named Pull) r.port r.pull h.pull_passed h.plays plays plays_room (grants_to Pull) law h.pulls player_granted e ends f
+
+    pub push_lasts : ClientLaw → has_sent r.stage ≡ false → (e : ClientEnd) → is_failure e ≡ true → ClientEnds r.push e → ⊥
+    push_lasts law lives e f ends =
+        never_failed publisher pusher (named Push) r.port r.push h.push_passed h.publishes publishes publishes_room (grants_to Push) law
+        (pushes_runs r.stage file r.tags.items r.push.client r.push.near lives h.pushes) publisher_granted e ends f
 
 pub publisher_lasts : SessionLaw → DecidedLaw → (file : List Tag) (old now : Option (List ℕ)) (r : Run) → IsRun file r old now → SessionEnds r.port r.push → ⊥
 publisher_lasts law decided file old now r h =

@@ -1,14 +1,13 @@
 -- How the steps of a round make a round, and rounds a run
-use Rattle.std.proofs.Common.{◌≡◌, inl, inr, ℕ, ◌+◌, Bool, true, false, List, [], ◌∷◌, Option, Result, Ok, Err, refl, sym, subst, arith}
+use Rattle.std.proofs.Common.{◌≡◌, ℕ, ◌+◌, Bool, true, false, List, [], ◌∷◌, Option, Result, Ok, Err, refl, sym, subst, arith}
 use Rattle.std.specs.Prelude.{IfErr, MatchResult, OnOk}
 use Rattle.flv_tags.specs.declared.tag.Tag.{Tag}
 use Rattle.rtmp_client.specs.ClientState.{has_started}
-use Rattle.loop_command.specs.Course.{ClientRefused, GivesWhere, PlayerServed, Plays, PublisherServed, Publishes, Pulled, PushFails, PushesOnce, PushesWhere}
-use Rattle.loop_command.specs.Course.{Round, RoundFails, SessionTurned, TakesGift, can_give, is_settled}
+use Rattle.loop_command.specs.Course.{GivesWhere, PlayerServed, Plays, PublisherServed, Publishes, Pulled, PushesOnce, PushesWhere, Round, SessionTurned}
+use Rattle.loop_command.specs.Course.{TakesGift, can_give, is_settled}
 use Rattle.loop_command.specs.declared.line.Line.{Line}
-use Rattle.loop_command.specs.Rounds.{ClientEnds, FailsWithin, Goes, HasSettled, IsOwn, IsRun, IsWanting, PlaysBy, PublishesBy, RoundBy, RunsBy, RunsOn}
-use Rattle.loop_command.specs.Rounds.{SinkCause, StepBy}
-use Rattle.loop_command.specs.Rounds.{PlayFails, SessionEnds, Stuck, TurnsClient, TurnsSession, is_failure}
+use Rattle.loop_command.specs.Rounds.{ClientEnds, Goes, HasSettled, IsOwn, IsRun, IsUnsettled, IsWanting, PlaysBy, PublishesBy, RoundBy, RunsBy, RunsOn}
+use Rattle.loop_command.specs.Rounds.{SessionEnds, SinkCause, StepBy, TurnsClient, TurnsSession, is_failure}
 use Rattle.loop_command.specs.declared.rounds.Run.{Run}
 use Rattle.loop_command.specs.declared.stop.Stop.{Stop}
 use Rattle.loop_command.specs.declared.stop.Stop.TheVariants.{Refused, Source, Sink, Memory, Unfinished}
@@ -61,9 +60,9 @@ own_session (Err (Refused at)) a b l m h = h
 own_session (Err Source) a b l m h = h
 own_session (Err Sink) a b l m h = h
 
--- a client has ended
-pub client_ends : (stop : Stop) (B : Type 0) (l m : Line) → ((e : ClientEnd) → is_failure e ≡ true → ClientEnds l e → ClientRefused l)
-    → TurnsClient (Err stop) l m → StepBy (Err stop) B (ClientRefused l)
+-- a client's turn, by which it hasn't ended
+pub client_ends : (stop : Stop) (B : Type 0) (l m : Line) → ((e : ClientEnd) → is_failure e ≡ true → ClientEnds l e → ⊥)
+    → TurnsClient (Err stop) l m → StepBy (Err stop) B ⊥
 client_ends Unfinished B l m f h = f h.0 h.1 h.2
 client_ends Memory B l m f h = tt
 client_ends (Refused at) B l m f h = tt
@@ -82,9 +81,6 @@ session_by (Err Sink) a b l m B f g h = tt
 
 -- ---- the client that plays, and its session
 
-pub pull_failed : (file : List Tag) (r : Run) (old now : Option (List ℕ)) → IsRun file r old now → ClientRefused r.pull → Stuck (PlayFails r) old now
-pull_failed file r old now h f = record { at = r; fails = (refl, f); written = run_text file r old now h }
-
 pub plays_on : (file : List Tag) (r pulled told s : Run) (old now : Option (List ℕ)) → Pulled r pulled
     → TakesGift pulled.over pulled.pull.client.parts.gift pulled told → Goes file s old now (PlayerServed told s) → Goes file s old now (Plays r s)
 plays_on file r pulled told s old now p t g = record {
@@ -94,19 +90,17 @@ plays_on file r pulled told s old now p t g = record {
 }
 
 -- what a step came to
-pub pull_stops : (stop : Stop) (A : Type 0) (file : List Tag) (r s : Run) (old now : Option (List ℕ)) → IsRun file r old now
-    → StepBy (Err stop) A (ClientRefused r.pull) → PlaysBy (Err stop) file r s old now
-pull_stops stop A file r s old now h t = step_fails stop A (Goes file s old now (Plays r s)) (ClientRefused r.pull) (Stuck (PlayFails r) old now)
-    (pull_failed file r old now h) t
+pub pull_stops : (stop : Stop) (A : Type 0) (file : List Tag) (r s : Run) (old now : Option (List ℕ)) → StepBy (Err stop) A ⊥
+    → PlaysBy (Err stop) file r s old now
+pull_stops stop A file r s old now t = step_fails stop A (Goes file s old now (Plays r s)) ⊥ ⊥ (λ x. x) t
 
 pub write_stops : (stop : Stop) (file : List Tag) (r s : Run) (old now : Option (List ℕ)) → IsWanting stop → PlaysBy (Err stop) file r s old now
-write_stops stop file r s old now w = step_wants stop (Goes file s old now (Plays r s)) (Stuck (PlayFails r) old now) w
+write_stops stop file r s old now w = step_wants stop (Goes file s old now (Plays r s)) ⊥ w
 
 pub plays_by : (q : Result (Unit {0}) Stop) (file : List Tag) (r pulled told s : Run) (old now : Option (List ℕ)) → Pulled r pulled
     → TakesGift pulled.over pulled.pull.client.parts.gift pulled told → StepBy q (Goes file s old now (PlayerServed told s)) ⊥ → PlaysBy q file r s old now
 plays_by q file r pulled told s old now p t b =
-    step_then q (Goes file s old now (PlayerServed told s)) (Goes file s old now (Plays r s)) ⊥ (Stuck (PlayFails r) old now)
-    (plays_on file r pulled told s old now p t) (λ x. absurd x) b
+    step_then q (Goes file s old now (PlayerServed told s)) (Goes file s old now (Plays r s)) ⊥ ⊥ (plays_on file r pulled told s old now p t) (λ x. x) b
 
 -- ---- the client that publishes, and its session
 
@@ -117,44 +111,32 @@ pub pushes_on : (file : List Tag) (r given s : Run) (old now : Option (List ℕ)
     → Goes file s old now (PushesWhere given.stage given s) → Goes file s old now (PushesOnce (Starts r) r s)
 pushes_on file r given s old now e v g = record { is_run = g.is_run; made = subst (λ (b : Bool). PushesOnce b r s) (sym e) (given, v, g.made) }
 
-pub push_failed : (file : List Tag) (r given : Run) (old now : Option (List ℕ)) → Starts r ≡ true → GivesWhere r.stage (can_give r.push.client) r given
-    → IsRun file given old now → ClientRefused given.push → Stuck (PushFails r) old now
-push_failed file r given old now e v h f = record {
-  at = given;
-  fails = record { started = e; given = v; refused = f };
-  written =
-      run_text file given old now h;
-}
-
 pub publishes_on : (file : List Tag) (r pushed s : Run) (old now : Option (List ℕ)) → PushesOnce (Starts r) r pushed
     → Goes file s old now (PublisherServed pushed s) → Goes file s old now (Publishes r s)
 publishes_on file r pushed s old now p g = record { is_run = g.is_run; made = record { pushed = pushed; client = p; session = g.made } }
 
 abbrev pub PushesBy : Result (Unit {0}) Stop → List Tag → Run → Run → Option (List ℕ) → Option (List ℕ) → Type 0
-PushesBy q file r s old now = StepBy q (Goes file s old now (PushesOnce (Starts r) r s)) (Stuck (PushFails r) old now)
+PushesBy q file r s old now = StepBy q (Goes file s old now (PushesOnce (Starts r) r s)) ⊥
 
 pub pushes_by : (q : Result (Unit {0}) Stop) (file : List Tag) (r given s : Run) (old now : Option (List ℕ)) → Starts r ≡ true
-    → GivesWhere r.stage (can_give r.push.client) r given → IsRun file given old now
-    → StepBy q (Goes file s old now (PushesWhere given.stage given s)) (ClientRefused given.push) → PushesBy q file r s old now
-pushes_by q file r given s old now e v h b =
-    step_then q (Goes file s old now (PushesWhere given.stage given s)) (Goes file s old now (PushesOnce (Starts r) r s)) (ClientRefused given.push)
-    (Stuck (PushFails r) old now)
-    (pushes_on file r given s old now e v) (push_failed file r given old now e v h) b
+    → GivesWhere r.stage (can_give r.push.client) r given → StepBy q (Goes file s old now (PushesWhere given.stage given s)) ⊥ → PushesBy q file r s old now
+pushes_by q file r given s old now e v b =
+    step_then q (Goes file s old now (PushesWhere given.stage given s)) (Goes file s old now (PushesOnce (Starts r) r s)) ⊥ ⊥
+    (pushes_on file r given s old now e v) (λ x. x) b
 
 pub unstarted : (file : List Tag) (r : Run) (old now : Option (List ℕ)) → Starts r ≡ false → IsRun file r old now
     → Goes file r old now (PushesOnce (Starts r) r r)
 unstarted file r old now e h = record { is_run = h; made = subst (λ (b : Bool). PushesOnce b r r) (sym e) refl }
 
-pub push_stops : (stop : Stop) (A : Type 0) (file : List Tag) (r s : Run) (old now : Option (List ℕ)) → StepBy (Err stop) A (Stuck (PushFails r) old now)
+pub push_stops : (stop : Stop) (A : Type 0) (file : List Tag) (r s : Run) (old now : Option (List ℕ)) → StepBy (Err stop) A ⊥
     → PublishesBy (Err stop) file r s old now
-push_stops stop A file r s old now t =
-    step_fails stop A (Goes file s old now (Publishes r s)) (Stuck (PushFails r) old now) (Stuck (PushFails r) old now) (λ x. x) t
+push_stops stop A file r s old now t = step_fails stop A (Goes file s old now (Publishes r s)) ⊥ ⊥ (λ x. x) t
 
 pub publishes_by : (q : Result (Unit {0}) Stop) (file : List Tag) (r pushed s : Run) (old now : Option (List ℕ)) → PushesOnce (Starts r) r pushed
     → StepBy q (Goes file s old now (PublisherServed pushed s)) ⊥ → PublishesBy q file r s old now
 publishes_by q file r pushed s old now p b =
-    step_then q (Goes file s old now (PublisherServed pushed s)) (Goes file s old now (Publishes r s)) ⊥ (Stuck (PushFails r) old now)
-    (publishes_on file r pushed s old now p) (λ x. absurd x) b
+    step_then q (Goes file s old now (PublisherServed pushed s)) (Goes file s old now (Publishes r s)) ⊥ ⊥ (publishes_on file r pushed s old now p)
+    (λ x. x) b
 
 -- ---- rounds
 
@@ -162,23 +144,14 @@ round_on : (file : List Tag) (r between s : Run) (old now : Option (List ℕ)) �
     → Goes file s old now (Round r s)
 round_on file r between s old now p g = record { is_run = g.is_run; made = record { between = between; plays = p; publishes = g.made } }
 
-pub early_stuck : (r : Run) (old now : Option (List ℕ)) → Stuck (PlayFails r) old now → Stuck (RoundFails r) old now
-early_stuck r old now s = record { at = s.at; fails = inl s.fails; written = s.written }
-
-pub late_stuck : (r between : Run) (old now : Option (List ℕ)) → Plays r between → Stuck (PushFails between) old now → Stuck (RoundFails r) old now
-late_stuck r between old now p s = record { at = s.at; fails = inr (record { between = between; plays = p; fails = s.fails }); written = s.written }
-
-pub play_stops : (stop : Stop) (A : Type 0) (file : List Tag) (r s : Run) (old now : Option (List ℕ)) → StepBy (Err stop) A (Stuck (PlayFails r) old now)
+pub play_stops : (stop : Stop) (A : Type 0) (file : List Tag) (r s : Run) (old now : Option (List ℕ)) → StepBy (Err stop) A ⊥
     → RoundBy (Err stop) file r s old now
-play_stops stop A file r s old now t = step_fails stop A (Goes file s old now (Round r s)) (Stuck (PlayFails r) old now) (Stuck (RoundFails r) old now)
-    (early_stuck r old now) t
+play_stops stop A file r s old now t = step_fails stop A (Goes file s old now (Round r s)) ⊥ ⊥ (λ x. x) t
 
 pub round_by : (q : Result (Unit {0}) Stop) (file : List Tag) (r between s : Run) (old now : Option (List ℕ)) → Plays r between
     → PublishesBy q file between s old now → RoundBy q file r s old now
 round_by q file r between s old now p b =
-    step_then q (Goes file s old now (Publishes between s)) (Goes file s old now (Round r s)) (Stuck (PushFails between) old now)
-    (Stuck (RoundFails r) old now)
-    (round_on file r between s old now p) (late_stuck r between old now p) b
+    step_then q (Goes file s old now (Publishes between s)) (Goes file s old now (Round r s)) ⊥ ⊥ (round_on file r between s old now p) (λ x. x) b
 
 pub run_begins : (file : List Tag) (r : Run) (rounds : ℕ) (old now : Option (List ℕ)) → IsRun file r old now → RunsOn file r r rounds rounds old now
 run_begins file r rounds old now h = record { is_run = h; states = []; course = refl; count = omega arith }
@@ -195,25 +168,12 @@ run_settles file first r s rounds left left' old held now o e f g = record {
   made = record { states = o.states; before = r; course = o.course; within = omega (arith, e, o.count); round = g.made; settled = f };
 }
 
-pub run_stuck : (file : List Tag) (first r : Run) (rounds left left' : ℕ) (old held now : Option (List ℕ)) → RunsOn file first r rounds left old held
-    → left ≡ left' + 1 → Stuck (RoundFails r) old now → Stuck (FailsWithin first rounds) old now
-run_stuck file first r rounds left left' old held now o e s = record {
-  at = s.at;
-  fails = record { states = o.states; last = r; course = o.course; ends = inr (omega (arith, e, o.count), s.fails) };
-  written = s.written;
-}
-
-pub round_stops : (stop : Stop) (A : Type 0) (file : List Tag) (first r s : Run) (rounds left left' : ℕ) (old held now : Option (List ℕ))
-    → RunsOn file first r rounds left old held → left ≡ left' + 1 → StepBy (Err stop) A (Stuck (RoundFails r) old now)
+pub round_stops : (stop : Stop) (A : Type 0) (file : List Tag) (first s : Run) (rounds : ℕ) (old now : Option (List ℕ)) → StepBy (Err stop) A ⊥
     → RunsBy (Err stop) file first s rounds old now
-round_stops stop A file first r s rounds left left' old held now o e t =
-    step_fails stop A (Goes file s old now (HasSettled first s rounds)) (Stuck (RoundFails r) old now) (Stuck (FailsWithin first rounds) old now)
-    (run_stuck file first r rounds left left' old held now o e) t
+round_stops stop A file first s rounds old now t =
+    step_fails stop A (Goes file s old now (HasSettled first s rounds)) ⊥ (IsUnsettled first s rounds old now) (λ x. absurd x) t
 
 pub run_out : (file : List Tag) (first r : Run) (rounds left : ℕ) (old now : Option (List ℕ)) → RunsOn file first r rounds left old now → left ≡ 0
-    → Stuck (FailsWithin first rounds) old now
-run_out file first r rounds left old now o e = record {
-  at = r;
-  fails = record { states = o.states; last = r; course = o.course; ends = inl (omega (arith, e, o.count), refl) };
-  written = run_text file r old now o.is_run;
-}
+    → IsUnsettled first r rounds old now
+run_out file first r rounds left old now o e =
+    record { states = o.states; course = o.course; count = omega (arith, e, o.count); written = run_text file r old now o.is_run }

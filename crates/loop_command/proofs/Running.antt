@@ -31,7 +31,7 @@ use Rattle.client_command.proofs.Telling.{live_without}
 use Rattle.loop_command.specs.Course.{ClientTurned, Gives, GivesNext, GivesWhere, Passes, PlayerServed, PublisherServed, Pushed, PushesWhere, SessionTurned}
 use Rattle.loop_command.specs.Course.{TakesGift, can_give, is_done, is_on, stage_after, text_of, without}
 use Rattle.loop_command.specs.Desk.{player, publisher, puller, pusher}
-use Rattle.loop_command.specs.Lines.{AreFew, ArePassed, ClientGoes, ClientRuns, Served, Serves}
+use Rattle.loop_command.specs.Lines.{AreFew, ArePassed, ClientGoes, ClientRuns, Mixes, Served, Serves}
 use Rattle.loop_command.specs.Rounds.{CanPush, Goes, IsOwn, IsRun, IsSound, IsTold, IsWanting, PushesOf, SinkCause, StandsIn, TurnsSession, stop_within}
 use Rattle.loop_command.specs.declared.line.Line.{Line}
 use Rattle.loop_command.specs.declared.rounds.Run.{Run}
@@ -40,6 +40,7 @@ use Rattle.loop_command.specs.declared.rounds.Stage.TheVariants.{Giving, Finishi
 use Rattle.loop_command.specs.declared.stop.Stop.{Stop}
 use Rattle.loop_command.specs.declared.stop.Stop.TheVariants.{Refused, Source, Sink, Memory, Unfinished}
 use Rattle.loop_command.proofs.Clients.{runs_at, side_at}
+use Rattle.loop_command.proofs.Mixing.{mixes_swap, served_mixed}
 use Rattle.loop_command.proofs.Sessions.{fit_on, serves_at, serves_on}
 use Rattle.loop_command.proofs.Settling.{both, same_is}
 
@@ -121,6 +122,7 @@ pull_run file old now a r l passed runs la t h = record {
   told = subst (λ (x : List Gift). IsTold r.over r.begun x old now) (sym (ap (λ (x : Lasting). x.taken) la)) h.told;
   few = subst (λ (x : List Gift). r.told ≤ length x) (sym (ap (λ (x : Lasting). x.taken) la)) h.few;
   pushes = h.pushes;
+  mixed = subst (λ (s : SessionState SeenState). Mixes r.port s.seat r.push.session.seat) (sym t.session) h.mixed;
 }
 
 -- ---- its gift
@@ -181,6 +183,7 @@ none_run file old now r none h =
       told = subst (λ (x : List Gift). IsTold r.over r.begun x old now) (sym same) h.told;
       few = subst (λ (x : List Gift). r.told ≤ length x) (sym same) h.few;
       pushes = h.pushes;
+      mixed = h.mixed;
     }
 
 gift_run : (file : List Tag) (old held held' : Option (List ℕ)) (r : Run) (g : Gift) → r.over ≡ false → r.pull.client.parts.gift ≡ Some g
@@ -200,6 +203,7 @@ gift_run file old held held' r g over some text h =
       told = subst (λ (x : List Gift). IsTold (is_last g) true x old held') (sym taken) (told_next g r.begun c.taken old held held' told text);
       few = omega (arith, h.few, ap length taken, length-append c.taken (g ∷ []));
       pushes = h.pushes;
+      mixed = h.mixed;
     }
 
 -- where another state of the client stands for it
@@ -261,6 +265,7 @@ player_run file old now r q l v t h = record {
   told = subst (λ (c : ClientState). IsTold r.over r.begun c.parts.taken old now) (sym t.client) h.told;
   few = subst (λ (c : ClientState). r.told ≤ length c.parts.taken) (sym t.client) h.few;
   pushes = h.pushes;
+  mixed = served_mixed player r.port q r.pull l r.push.session.seat t h.pull_passed h.plays h.mixed;
 }
 
 -- what a turn of it came to
@@ -322,6 +327,7 @@ pub record Aside (r s : Run) : Type 0 where
   pub begun : s.begun ≡ r.begun
   pub over : s.over ≡ r.over
   pub told : s.told ≡ r.told
+  pub session : s.push.session ≡ r.push.session
 
 pub push_run : (file : List Tag) (old now : Option (List ℕ)) (r s : Run) → Aside r s → ArePassed s.push
     → Serves publisher s.port s.push.session s.push.far → PushesOf s.stage file s.tags.items s.push.client s.push.near
@@ -339,6 +345,10 @@ push_run file old now r s a passed publishes pushes h = record {
       (subst (λ (b : Bool). IsTold r.over b r.pull.client.parts.taken old now) (sym a.begun) h.told));
   few = subst (λ (l : Line). s.told ≤ length l.client.parts.taken) (sym a.pull) (subst (λ (n : ℕ). n ≤ length r.pull.client.parts.taken) (sym a.told) h.few);
   pushes = pushes;
+  mixed =
+      subst (λ (x : SessionState SeenState). Mixes s.port s.pull.session.seat x.seat) (sym a.session)
+      (subst (λ (l : Line). Mixes s.port l.session.seat r.push.session.seat) (sym a.pull)
+      (subst (λ (p : SoleState). Mixes p r.pull.session.seat r.push.session.seat) (sym a.port) h.mixed));
 }
 
 -- a turn of it, which has sent all that it owed where it doesn't live
@@ -361,7 +371,7 @@ pushed_run : (file : List Tag) (old now : Option (List ℕ)) (a : ClientTurn) (r
     → ClientTurned a r.push l → IsRun file r old now → IsRun file (record r { push = l; stage = stage_after (is_on a) r.stage }) old now
 pushed_run file old now a r l done passed goes la t h =
     push_run file old now r (record r { push = l; stage = stage_after (is_on a) r.stage })
-    (record { port = refl; pull = refl; begun = refl; over = refl; told = refl }) passed
+    (record { port = refl; pull = refl; begun = refl; over = refl; told = refl; session = t.session }) passed
     (serves_turned publisher r.port a r.push l t h.publishes)
     (pushes_turned r.stage (is_on a) file r.tags.items r.push.client l.client l.near r.push.near done la goes h.pushes) h
 
@@ -466,6 +476,10 @@ publisher_run file old now r q l v t h = record {
   told = h.told;
   few = h.few;
   pushes = side_at_link file r.tags.items r.stage r.port q r.push l t h.pushes;
+  mixed =
+      mixes_swap q l.session.seat r.pull.session.seat
+      (served_mixed publisher r.port q r.push l r.pull.session.seat t h.push_passed h.publishes
+      (mixes_swap r.port r.pull.session.seat r.push.session.seat h.mixed));
 }
 
 pub publisher_ok : (v : Result (Unit {0}) Stop) (r : Run) (q : SoleState) (l : Line) → OnOk v (AreFew l) → OnOk v (StandsIn q l.session)
@@ -511,6 +525,7 @@ given_run file old now r c stage s e pushes h =
       over =
           ap (λ (x : Run). x.over) e;
       told = ap (λ (x : Run). x.told) e;
+      session = ap (λ (l : Line). l.session) push;
     })
     (passed_given r.push s.push c push h.push_passed)
     (subst (λ (p : SoleState). Serves publisher p s.push.session s.push.far) (sym port)

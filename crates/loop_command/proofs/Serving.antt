@@ -27,7 +27,7 @@ use Rattle.loop_command.proofs.Links.{Keeps, handed_on, still_passed, took_same}
 use Rattle.loop_command.proofs.Sessions.{ended_side, serves_at, serves_turned, tied_before}
 use Rattle.loop_command.proofs.Ties.{not_both, turned_lives}
 
-abbrev IsTurn : SessionState SeenState → SoleState → MemLinkState → Turn → SessionState SeenState → SoleState → MemLinkState → Type 0
+abbrev pub IsTurn : SessionState SeenState → SoleState → MemLinkState → Turn → SessionState SeenState → SoleState → MemLinkState → Type 0
 IsTurn v p l a w q m = EndedBy Asks granted MemHears MemSays v.ended v.quit (life_at v p) l a (life_at w q) m
 
 abbrev IsOn : SoleState → SeatState SeenState → SoleState → SeatState SeenState → Type 0

@@ -1,5 +1,5 @@
 -- THE RUN OF A FILM, as a relation: rounds of turns, each of them that of a client or of a session
-use Rattle.std.specs.Prelude.{◌≡◌, ◌⊎◌, ◌<◌, ◌+◌, ◌-◌, ◌*◌, ◌^◌, ◌++◌, ℕ, Bool, true, false, ◌&&◌, not, min, nat_eq, nat_le, List, [], ◌∷◌, length, Option}
+use Rattle.std.specs.Prelude.{◌≡◌, ◌<◌, ◌+◌, ◌-◌, ◌*◌, ◌^◌, ◌++◌, ℕ, Bool, true, false, ◌&&◌, not, min, nat_eq, nat_le, List, [], ◌∷◌, length, Option}
 use Rattle.std.specs.Prelude.{Some, None}
 use Rattle.std.specs.Option.{is_some}
 use Rattle.flv_tags.specs.declared.tag.Tag.{Tag}
@@ -62,14 +62,6 @@ pub record ClientTurned (answer : ClientTurn) (l m : Line) : Type 0 where
   pub passed : Passes link l.far m.near m.far
   pub session : m.session ≡ l.session
   pub all_sent : is_on answer ≡ false → m.client.ended ≡ Some client_end.Done
-
--- a turn by which it has ended, since its session refused it
-pub record ClientRefused (l : Line) : Type 0 where
-  pub code : List ℕ
-  pub new : ClientState
-  pub link : MemLinkState
-  pub turn : TurnMade (client_turns.EndedBy MemHears MemSays) l.client l.near client_turn.Ended new link
-  pub ended : new.ended ≡ Some (client_end.Refused code)
 
 -- ---- a turn of a session
 
@@ -167,12 +159,6 @@ abbrev pub PushesOnce : Bool → Run → Run → Type 0
 PushesOnce true r s = (given : Run) × GivesWhere r.stage (can_give r.push.client) r given × PushesWhere given.stage given s
 PushesOnce false r s = s ≡ r
 
--- it is refused, when the run was so
-pub record PushFails (r at : Run) : Type 0 where
-  pub started : has_started r.pull.client.parts.phase ≡ true
-  pub given : GivesWhere r.stage (can_give r.push.client) r at
-  pub refused : ClientRefused at.push
-
 -- a turn of its session
 pub record PublisherServed (r s : Run) : Type 0 where
   pub turned : SessionTurned r.port s.port r.push s.push
@@ -191,16 +177,6 @@ pub record Round (r s : Run) : Type 0 where
   pub between : Run
   pub plays : Plays r between
   pub publishes : Publishes between s
-
--- the client that publishes is refused in it
-pub record LateFails (r at : Run) : Type 0 where
-  pub between : Run
-  pub plays : Plays r between
-  pub fails : PushFails between at
-
--- A CLIENT IS REFUSED IN IT, when the run was so
-abbrev pub RoundFails : Run → Run → Type 0
-RoundFails r at = ((at ≡ r) × ClientRefused r.pull) ⊎ LateFails r at
 
 abbrev pub is_done : Stage → Bool
 is_done Giving = false
@@ -303,13 +279,12 @@ pub record CameBack (tags : List Tag) (bytes : ℕ) (text : List ℕ) : Type 0 w
   pub settled : is_settled last ≡ true
   pub text_is : text ≡ text_of last
 
--- IT HASN'T: all its rounds are made, or a client was refused before. This text came
+-- IT HASN'T within them: all are made. This text came
 pub record CameNot (tags : List Tag) (bytes : ℕ) (text : List ℕ) : Type 0 where
   pub first : Run
   pub fresh : IsFirst tags first
   pub states : List Run
   pub last : Run
   pub course : IsCourse first states last
-  pub reached : Run
-  pub ends : ((length states ≡ rounds_of bytes) × (reached ≡ last)) ⊎ ((length states < rounds_of bytes) × RoundFails last reached)
-  pub text_is : text ≡ text_of reached
+  pub count : length states ≡ rounds_of bytes
+  pub text_is : text ≡ text_of last

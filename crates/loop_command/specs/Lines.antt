@@ -1,6 +1,6 @@
 -- Only proofs and private functions use it.
 -- A client and the session that serves it, with the link of each
-use Rattle.std.specs.Prelude.{◌≡◌, ◌≢◌, ◌≤◌, ◌<◌, ◌^◌, ◌++◌, ℕ, Bool, true, false, List, [], length, drop, Option, Some, None}
+use Rattle.std.specs.Prelude.{◌≡◌, ◌≢◌, ◌≤◌, ◌<◌, ◌+◌, ◌^◌, ◌++◌, ℕ, Bool, true, false, List, [], length, drop, map, Option, Some, None}
 use Rattle.std.specs.List.{concat}
 use Rattle.relay_outside.specs.MemLinks.{MemLinkState}
 use Rattle.chunk_reader.specs.Sound.{IsRead}
@@ -15,8 +15,12 @@ use Rattle.client_owed.specs.Standing.{count_of, is_finished}
 use Rattle.rtmp_client.specs.ClientState.{ClientState}
 use Rattle.stream_registry.specs.Books.{FitsSole, SeenState, SoleState, journal_at, sole_rules}
 use Rattle.stream_registry.specs.Names.{places}
+use Rattle.stream_registry.specs.Told.{Step}
+use Rattle.stream_model.specs.Counts.{how_many}
+use Rattle.stream_model.specs.declared.replies.Reply.{Reply}
 use Rattle.relay_session.specs.Places.{IsAt}
 use Rattle.relay_session.specs.SeatState.{GoOn, SeatState, StandsAt, place_of}
+use Rattle.relay_session.specs.SeatVisits.{Visit}
 use Rattle.relay_session.specs.SessionState.{Publishes, Rises, SessionState, StandsFor}
 use Rattle.client_command.specs.Runs.{AreFriendly, most_message}
 use Rattle.client_command.specs.Turned.{IsLive, gifts_of}
@@ -99,6 +103,14 @@ pub record GoesAhead (p q : SoleState) : Type 0 where
   pub roots : GoOn (journal_at p.books) (journal_at q.books)
   pub passes : (place : ℕ) (pass : SeenState) → FitsSole p place pass → FitsSole q place pass
   pub others : ((n : ℕ) → n ≢ 0 → journal_at p.books n ≡ []) → (n : ℕ) → n ≢ 0 → journal_at q.books n ≡ []
+
+-- its calls, the newest first
+abbrev pub steps_of : List Visit → List Step
+steps_of visits = map (λ (v : Visit). v.1) visits
+
+-- THE CALLS OF BOTH in some order: of replies of each kind the history has as many as they
+abbrev pub Mixes : SoleState → SeatState SeenState → SeatState SeenState → Type 0
+Mixes p s t = (f : Reply → Bool) → how_many f (journal_at p.books 0) ≡ how_many f (steps_of s.visits) + how_many f (steps_of t.visits)
 
 -- ---- both
 

@@ -1,6 +1,6 @@
 -- Only proofs and private functions use it.
 -- A run between two rounds
-use Rattle.std.specs.Prelude.{◌≡◌, ◌⊎◌, ◌≤◌, ◌<◌, ◌+◌, ◌++◌, min, ℕ, Bool, true, false, List, [], ◌∷◌, length, Option, Some, None, Result, Ok, Err}
+use Rattle.std.specs.Prelude.{◌≡◌, ◌≤◌, ◌<◌, ◌+◌, ◌++◌, min, ℕ, Bool, true, false, List, [], ◌∷◌, length, Option, Some, None, Result, Ok, Err}
 use Rattle.std.specs.Io.KnownBytes.{append_known}
 use Rattle.flv_tags.specs.declared.tag.Tag.{Tag}
 use Rattle.flv_tags.specs.Written.{IsWritable}
@@ -35,12 +35,12 @@ use Rattle.client_command.specs.declared.stop.Stop.{Stop as CommandStop}
 use Rattle.client_command.specs.declared.stop.Stop.TheVariants as command
 use Rattle.file_commands.specs.Outcome.{seen}
 use Rattle.segment_command.specs.Films.{WasRead}
-use Rattle.loop_command.specs.Course.{Asks, ClientRefused, ClientTurned, IsCourse, IsFirst, Plays, Publishes, PushFails, Round, RoundFails, SessionTurned}
+use Rattle.loop_command.specs.Course.{Asks, ClientTurned, IsCourse, IsFirst, Plays, Publishes, Round, SessionTurned}
 use Rattle.loop_command.specs.Course.{is_on, is_settled, rounds_of, sent_in, text_of}
 use Rattle.loop_command.specs.Desk.{granted, player, publisher, puller, pusher, rules}
 use Rattle.loop_command.specs.Films.{IsRefused, film_length, most_bytes, tag_length}
 use Rattle.loop_command.specs.Outcome.{Ends, How, Whole, ByFilm, BySource, BySink, ByMemory, ByRounds}
-use Rattle.loop_command.specs.Lines.{AreFew, ArePassed, ClientRuns, ClientSide, Serves}
+use Rattle.loop_command.specs.Lines.{AreFew, ArePassed, ClientRuns, ClientSide, Mixes, Serves}
 use Rattle.loop_command.specs.declared.film.Reading.{Reading}
 use Rattle.loop_command.specs.declared.line.Line.{Line}
 use Rattle.loop_command.specs.declared.rounds.Run.{Run}
@@ -219,6 +219,7 @@ pub record IsRun (file : List Tag) (run : Run) (old now : Option (List ℕ)) : T
   pub told : IsTold run.over run.begun run.pull.client.parts.taken old now
   pub few : run.told ≤ length run.pull.client.parts.taken
   pub pushes : PushesOf run.stage file run.tags.items run.push.client run.push.near
+  pub mixed : Mixes run.port run.pull.session.seat run.push.session.seat
 
 -- the one that publishes lives, or has ended
 abbrev pub CanPush : Stage → List Tag → ClientState → Type 0
@@ -270,7 +271,7 @@ StepBy (Err Source) Made Fails = Unit {0}
 StepBy (Err Sink) Made Fails = Unit {0}
 StepBy (Err Memory) Made Fails = Unit {0}
 
--- memory is refused, or a client was refused
+-- memory is refused, or the run hasn't come to its end
 abbrev pub IsOwn : Stop → Type 0
 IsOwn (Refused at) = ⊥
 IsOwn Source = ⊥
@@ -286,29 +287,19 @@ IsWanting Sink = Unit {0}
 IsWanting Memory = Unit {0}
 IsWanting Unfinished = ⊥
 
--- a client was refused when the run was at `at`, and what it was told until then is written
-pub record Stuck (Fails : Run → Type 0) (old now : Option (List ℕ)) : Type 0 where
-  pub at : Run
-  pub fails : Fails at
-  pub written : now ≡ append_known old (text_of at)
-
 -- the run goes on, and this was done
 pub record Goes (file : List Tag) (run : Run) (old now : Option (List ℕ)) (Made : Type 0) : Type 0 where
   pub is_run : IsRun file run old now
   pub made : Made
 
--- the client that plays was refused
-abbrev pub PlayFails : Run → Run → Type 0
-PlayFails r at = (at ≡ r) × ClientRefused r.pull
-
 abbrev pub PlaysBy : Result (Unit {0}) Stop → List Tag → Run → Run → Option (List ℕ) → Option (List ℕ) → Type 0
-PlaysBy r file run new old now = StepBy r (Goes file new old now (Plays run new)) (Stuck (PlayFails run) old now)
+PlaysBy r file run new old now = StepBy r (Goes file new old now (Plays run new)) ⊥
 
 abbrev pub PublishesBy : Result (Unit {0}) Stop → List Tag → Run → Run → Option (List ℕ) → Option (List ℕ) → Type 0
-PublishesBy r file run new old now = StepBy r (Goes file new old now (Publishes run new)) (Stuck (PushFails run) old now)
+PublishesBy r file run new old now = StepBy r (Goes file new old now (Publishes run new)) ⊥
 
 abbrev pub RoundBy : Result (Unit {0}) Stop → List Tag → Run → Run → Option (List ℕ) → Option (List ℕ) → Type 0
-RoundBy r file run new old now = StepBy r (Goes file new old now (Round run new)) (Stuck (RoundFails run) old now)
+RoundBy r file run new old now = StepBy r (Goes file new old now (Round run new)) ⊥
 
 -- so many rounds at most: the run has come to its end within them, or it hasn't
 pub record HasSettled (first last : Run) (rounds : ℕ) : Type 0 where
@@ -326,14 +317,15 @@ pub record RunsOn (file : List Tag) (first run : Run) (rounds left : ℕ) (old n
   pub course : IsCourse first states run
   pub count : length states + left ≡ rounds
 
-pub record FailsWithin (first : Run) (rounds : ℕ) (at : Run) : Type 0 where
+-- all of them are made, and it hasn't. What the client that plays was told is written
+pub record IsUnsettled (first last : Run) (rounds : ℕ) (old now : Option (List ℕ)) : Type 0 where
   pub states : List Run
-  pub last : Run
   pub course : IsCourse first states last
-  pub ends : ((length states ≡ rounds) × (at ≡ last)) ⊎ ((length states < rounds) × RoundFails last at)
+  pub count : length states ≡ rounds
+  pub written : now ≡ append_known old (text_of last)
 
 abbrev pub RunsBy : Result (Unit {0}) Stop → List Tag → Run → Run → ℕ → Option (List ℕ) → Option (List ℕ) → Type 0
-RunsBy r file run new rounds old now = StepBy r (Goes file new old now (HasSettled run new rounds)) (Stuck (FailsWithin run rounds) old now)
+RunsBy r file run new rounds old now = StepBy r (Goes file new old now (HasSettled run new rounds)) (IsUnsettled run new rounds old now)
 
 -- what a stop says of the sink
 abbrev pub SinkCause : Stop → ℕ → ℕ → Type 0

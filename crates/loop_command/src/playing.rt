@@ -4,7 +4,7 @@ ghost use Rattle.std.specs.declared.option.Option.{Option};
 ghost use Rattle.flv_tags.specs.declared.tag.Tag.{Tag as ATag};
 ghost use Rattle.client_command.specs.Telling.{IsFine};
 ghost use Rattle.client_command.specs.Turned.{IsLive};
-ghost use Rattle.loop_command.specs.Course.{ClientRefused, PlayerServed, Pulled, TakesGift, without};
+ghost use Rattle.loop_command.specs.Course.{PlayerServed, Pulled, TakesGift, without};
 ghost use Rattle.loop_command.specs.Rounds.{Goes, IsOwn, IsRun, IsSound, IsWanting, PlaysBy, SinkCause, StepBy};
 
 use crate::line::{turn_client, turn_session};
@@ -14,26 +14,30 @@ use crate::talk::talk_law;
 use chunk_reader::messages_are_short;
 use client_command::{is_last, write_gift};
 use client_owed::Gift;
-use refusal_law::{a_client_is_ended_by_a_refusal_alone, a_session_is_ended_by_no_byte};
+use refusal_law::{
+    a_client_that_is_granted_is_ended_by_no_byte, a_session_begins_once,
+    a_session_is_ended_by_no_byte,
+};
 use relay_outside::Sink;
 use relay_session::decided_law;
 use rtmp_client::Client;
 use std::alloc::Global;
 
-// A turn of the client that plays, which lives on, or is refused.
+// A turn of the client that plays, which lives on.
 fn pull_turn(alloc: Global, run: &mut Run) -> Result<(), Stop>
     requires sound { IsSound run.old }
     ensures sound { OnOk result (IsSound run.new) }
     ensures goes { (file : List ATag) (old now : Option (List ℕ)) → IsRun file run.old old now
-        → StepBy result (Goes file run.new old now (Pulled run.old run.new)) (ClientRefused run.old.pull) }
+        → StepBy result (Goes file run.new old now (Pulled run.old run.new)) ⊥ }
     ensures err { IfErr result IsOwn }
 {
-    a_client_is_ended_by_a_refusal_alone();
+    a_client_that_is_granted_is_ended_by_no_byte();
+    a_session_begins_once();
     match turn_client(alloc, &mut run.pull) {
         Ok(true) => Ok(()),
         Ok(false) => Err(Stop::Unfinished),
         Err(stop) => {
-            talk_law(&run.pull.session, &run.port);
+            talk_law(run);
             Err(stop)
         }
     }

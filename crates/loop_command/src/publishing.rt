@@ -4,18 +4,16 @@ ghost use Rattle.std.specs.declared.option.Option.{Option};
 ghost use Rattle.flv_tags.specs.declared.tag.Tag.{Tag as ATag};
 ghost use Rattle.rtmp_client.specs.ClientState.{has_started};
 ghost use Rattle.loop_command.specs.Course.{
-  ClientRefused,
   GivesNext,
   GivesWhere,
   PublisherServed,
-  PushFails,
   Pushed,
   PushesOnce,
   PushesWhere,
   can_give,
   is_done,
 };
-ghost use Rattle.loop_command.specs.Rounds.{Goes, IsOwn, IsRun, IsSound, PublishesBy, StepBy, Stuck};
+ghost use Rattle.loop_command.specs.Rounds.{Goes, IsOwn, IsRun, IsSound, PublishesBy, StepBy};
 ghost use Rattle.loop_command.specs.declared.rounds.Stage.TheVariants.{Giving};
 ghost use Rattle.loop_command.specs.declared.stop.Stop.TheVariants.{Memory};
 
@@ -25,7 +23,10 @@ use crate::stop::Stop;
 use crate::talk::talk_law;
 use client_command::give_tag;
 use client_owed::give_step;
-use refusal_law::{a_client_is_ended_by_a_refusal_alone, a_session_is_ended_by_no_byte};
+use refusal_law::{
+    a_client_that_is_granted_is_ended_by_no_byte, a_session_begins_once,
+    a_session_is_ended_by_no_byte,
+};
 use relay_session::decided_law;
 use rtmp_client::Client;
 use std::alloc::Global;
@@ -87,10 +88,11 @@ fn push_once(alloc: Global, run: &mut Run) -> Result<(), Stop>
     requires lives { is_done run.old.stage ≡ false }
     ensures sound { OnOk result (IsSound run.new) }
     ensures goes { (file : List ATag) (old now : Option (List ℕ)) → IsRun file run.old old now
-        → StepBy result (Goes file run.new old now (Pushed run.old run.new)) (ClientRefused run.old.push) }
+        → StepBy result (Goes file run.new old now (Pushed run.old run.new)) ⊥ }
     ensures err { IfErr result IsOwn }
 {
-    a_client_is_ended_by_a_refusal_alone();
+    a_client_that_is_granted_is_ended_by_no_byte();
+    a_session_begins_once();
     match turn_client(alloc, &mut run.push) {
         Ok(true) => Ok(()),
         Ok(false) => {
@@ -98,7 +100,7 @@ fn push_once(alloc: Global, run: &mut Run) -> Result<(), Stop>
             Ok(())
         }
         Err(stop) => {
-            talk_law(&run.push.session, &run.port);
+            talk_law(run);
             Err(stop)
         }
     }
@@ -109,7 +111,7 @@ fn push_turn(alloc: Global, run: &mut Run) -> Result<(), Stop>
     requires sound { IsSound run.old }
     ensures sound { OnOk result (IsSound run.new) }
     ensures goes { (file : List ATag) (old now : Option (List ℕ)) → IsRun file run.old old now
-        → StepBy result (Goes file run.new old now (PushesWhere run.old.stage run.old run.new)) (ClientRefused run.old.push) }
+        → StepBy result (Goes file run.new old now (PushesWhere run.old.stage run.old run.new)) ⊥ }
     ensures err { IfErr result IsOwn }
 {
     match run.stage {
@@ -124,8 +126,7 @@ fn push_part(alloc: Global, run: &mut Run) -> Result<(), Stop>
     requires sound { IsSound run.old }
     ensures sound { OnOk result (IsSound run.new) }
     ensures goes { (file : List ATag) (old now : Option (List ℕ)) → IsRun file run.old old now
-        → StepBy result (Goes file run.new old now (PushesOnce (has_started run.old.pull.client.parts.phase) run.old run.new))
-        (Stuck (PushFails run.old) old now) }
+        → StepBy result (Goes file run.new old now (PushesOnce (has_started run.old.pull.client.parts.phase) run.old run.new)) ⊥ }
     ensures err { IfErr result IsOwn }
 {
     if run.pull.client.started() {

@@ -117,7 +117,7 @@ fn status_of(run: Result<(), Stop>) -> Status
 /// | 4 | the film is refused at `place`: at that of [`flv_tags::FlvFail`], or at 2^28 where it has more bytes | nothing |
 /// | 5 | only where the sink's faults rose | a first part |
 /// | 6 | for want of memory | a first part |
-/// | 9 | the run hasn't come to its end within 4,096 rounds and two for each byte of the film, or a session has refused its client before | what came |
+/// | 9 | the run hasn't come to its end within 4,096 rounds and two for each byte of the film | what came |
 ///
 /// `place` is 0 but for code 4.
 pub fn loop_run<S: Source, K: Sink>(

@@ -1,4 +1,4 @@
-//! What a session has said to a client that has ended.
+//! What the sessions of a run have said, when a client has ended.
 ghost use Rattle.std.specs.Prelude.{◌≡◌};
 ghost use Rattle.client_law.specs.Room.{HaveRoom};
 ghost use Rattle.loop_command.specs.Desk.{granted, rules};
@@ -6,15 +6,16 @@ ghost use Rattle.relay_session.specs.SessionState.{IsWhole, StandsFor};
 ghost use Rattle.stream_registry.specs.Books.{journal_at, sole_rules};
 
 use crate::ending::have_room;
-use relay_session::Session;
-use stream_registry::Sole;
+use crate::rounds::Run;
 
-/// What it was sent begins what it owes, and each item of its stream has room in a message. It goes through the stream's history.
-pub(crate) fn talk_law(session: &Session<Sole>, port: &Sole)
-    requires { sole_rules port.now.rules ≡ rules }
-    ensures whole { StandsFor granted session.now → IsWhole granted session.now.parts }
-    ensures room { HaveRoom 4194304 (journal_at port.now.books 0) }
+/// What each session sent begins what it owes, and each item of the stream has room in a message. It goes through the stream's history.
+pub(crate) fn talk_law(run: &Run)
+    requires { sole_rules run.now.port.rules ≡ rules }
+    ensures plays { StandsFor granted run.now.pull.session → IsWhole granted run.now.pull.session.parts }
+    ensures publishes { StandsFor granted run.now.push.session → IsWhole granted run.now.push.session.parts }
+    ensures room { HaveRoom 4194304 (journal_at run.now.port.books 0) }
 {
-    session.owed_law();
-    have_room(port.journal(0));
+    run.pull.session.owed_law();
+    run.push.session.owed_law();
+    have_room(run.port.journal(0));
 }

@@ -1,5 +1,5 @@
 -- What a session says ends no client, but by a refusal
-use Rattle.std.proofs.Common.{◌≡◌, ℕ, ◌<◌, ◌^◌, Bool, true, false, ◌==◌, nat_lt, if◌then◌else◌, List, length, Some, None, Ok, Err}
+use Rattle.std.proofs.Common.{◌≡◌, ℕ, ◌<◌, ◌^◌, Bool, true, false, ◌==◌, nat_lt, if◌then◌else◌, List, [], ◌∷◌, length, Some, None, Ok, Err}
 use Rattle.std.proofs.Common.{refl, sym, ap, ◌∙◌, subst, arith}
 use Rattle.std.specs.Prelude.{codes}
 use Rattle.amf0_value.specs.Encoding.{items_spelling}
@@ -46,8 +46,16 @@ Calm m = (at : ℕ) (e : ClientEnd) → refused at m ≡ Some e → IsRefusal e
 not_none : (e : ClientEnd) → None ≡ Some e → ⊥
 not_none e f = cc
 
-calm_none : (m : Message) → ((at : ℕ) → refused at m ≡ None) → Calm m
-calm_none m n = λ at e f. absurd (not_none e (sym (n at) ∙ f))
+-- one that ends none at all
+abbrev pub Strict : Message → Type 0
+Strict m = (at : ℕ) → refused at m ≡ None
+
+calm : (m : Message) → Strict m → Calm m
+calm m n = λ at e f. absurd (not_none e (sym (n at) ∙ f))
+
+all_calm : (l : List Message) → Every Strict l → Every Calm l
+all_calm [] h = tt
+all_calm (m ∷ l) h = (calm m h.0, all_calm l h.1)
 
 -- ---- control messages
 
@@ -67,21 +75,27 @@ control_read (User event value) =
 control_read (Window size) = (_, refl)
 control_read (Bandwidth size limit) = (_, refl)
 
-pub control_calm : (c : Control) → Calm (message_of c)
+pub control_strict : (c : Control) → Strict (message_of c)
 unfolding refused
-control_calm c = calm_none (message_of c) (λ at. ap (refused_by at (message_of c)) (control_read c).1)
+control_strict c = λ at. ap (refused_by at (message_of c)) (control_read c).1
+
+pub control_calm : (c : Control) → Calm (message_of c)
+control_calm c = calm (message_of c) (control_strict c)
+
+pub pongs_strict : (c : Control) → Every Strict (pongs (ping_answer_of c))
+pongs_strict (ChunkSize size) = tt
+pongs_strict (Abort id) = tt
+pongs_strict (Acknowledgement count) = tt
+pongs_strict (User event value) = by_event (event == 6)
+  where
+    by_event : (b : Bool) → Every Strict (pongs (if b then Some (User 7 value) else None))
+    by_event true = (control_strict (User 7 value), tt)
+    by_event false = tt
+pongs_strict (Window size) = tt
+pongs_strict (Bandwidth size limit) = tt
 
 pub pongs_calm : (c : Control) → Every Calm (pongs (ping_answer_of c))
-pongs_calm (ChunkSize size) = tt
-pongs_calm (Abort id) = tt
-pongs_calm (Acknowledgement count) = tt
-pongs_calm (User event value) = by_event (event == 6)
-  where
-    by_event : (b : Bool) → Every Calm (pongs (if b then Some (User 7 value) else None))
-    by_event true = (control_calm (User 7 value), tt)
-    by_event false = tt
-pongs_calm (Window size) = tt
-pongs_calm (Bandwidth size limit) = tt
+pongs_calm c = all_calm (pongs (ping_answer_of c)) (pongs_strict c)
 
 -- ---- commands
 
@@ -102,21 +116,32 @@ status_calm : (stream : ℕ) (level code description : List ℕ) → length leve
 status_calm stream level code description l c d =
     command_calm stream (items_spelling (status_values level code description)) _ (status_read level code description l c d)
 
-publish_starts : (id : ℕ) → Calm (dialog.answers id answer.PublishStart)
-unfolding body_of
-publish_starts id = status_calm id (codes "status") (codes "NetStream.Publish.Start") (codes "Publishing.") (omega arith) (omega arith) (omega arith)
+command_strict : (stream : ℕ) (body : List ℕ) (n : News) → news_in body ≡ Ok n → ((at : ℕ) → ended_by at (Ok n) ≡ None)
+    → Strict (record { kind = 20; stream = stream; time = 0; body = body })
+unfolding refused control_in
+command_strict stream body n r e = λ at. ap (ended_by at) r ∙ e at
 
-play_starts : (id : ℕ) → Calm (dialog.answers id answer.PlayStart)
-unfolding body_of
-play_starts id = status_calm id (codes "status") (codes "NetStream.Play.Start") (codes "Playing.") (omega arith) (omega arith) (omega arith)
+status_strict : (stream : ℕ) (code description : List ℕ) → length code < 2 ^ 16 → length description < 2 ^ 16
+    → Strict (record { kind = 20; stream = stream; time = 0; body = items_spelling (status_values (codes "status") code description) })
+status_strict stream code description c d =
+    command_strict stream (items_spelling (status_values (codes "status") code description)) (news.Status code)
+    (status_read (codes "status") code description (omega arith) c d) (λ at. refl)
 
-notifies : (id : ℕ) → Calm (dialog.answers id answer.PublishNotify)
+pub publish_starts : (id : ℕ) → Strict (dialog.answers id answer.PublishStart)
 unfolding body_of
-notifies id = status_calm id (codes "status") (codes "NetStream.Play.PublishNotify") (codes "Published.") (omega arith) (omega arith) (omega arith)
+publish_starts id = status_strict id (codes "NetStream.Publish.Start") (codes "Publishing.") (omega arith) (omega arith)
 
-unpublishes : (id : ℕ) → Calm (dialog.answers id answer.UnpublishNotify)
+pub play_starts : (id : ℕ) → Strict (dialog.answers id answer.PlayStart)
 unfolding body_of
-unpublishes id = status_calm id (codes "status") (codes "NetStream.Play.UnpublishNotify") (codes "Unpublished.") (omega arith) (omega arith) (omega arith)
+play_starts id = status_strict id (codes "NetStream.Play.Start") (codes "Playing.") (omega arith) (omega arith)
+
+notifies : (id : ℕ) → Strict (dialog.answers id answer.PublishNotify)
+unfolding body_of
+notifies id = status_strict id (codes "NetStream.Play.PublishNotify") (codes "Published.") (omega arith) (omega arith)
+
+unpublishes : (id : ℕ) → Strict (dialog.answers id answer.UnpublishNotify)
+unfolding body_of
+unpublishes id = status_strict id (codes "NetStream.Play.UnpublishNotify") (codes "Unpublished.") (omega arith) (omega arith)
 
 pub refuses_calm : (r : Role) (id : ℕ) (w : Why) → Every Calm (dialog.refuses r id w)
 unfolding body_of
@@ -136,11 +161,20 @@ grants_calm r id (grant.Place place) = tt
 grants_calm r id grant.Refused = refuses_calm r id why.Refused
 grants_calm r id grant.NoName = refuses_calm r id why.NoName
 
-pub connected_calm : (window : ℕ) → Every Calm (dialog.connected window (pattern 1))
-connected_calm window = (
-  control_calm (Window window),
-  (control_calm (Bandwidth window 2), (control_calm (ChunkSize 4096), (command_calm 0 (body_of (answer.Connected (pattern 1))) _ connected_read, tt))),
+pub connected_strict : (window : ℕ) → Every Strict (dialog.connected window (pattern 1))
+connected_strict window = (
+  control_strict (Window window),
+  (
+    control_strict (Bandwidth window 2),
+    (
+      control_strict (ChunkSize 4096),
+      (command_strict 0 (body_of (answer.Connected (pattern 1))) (news.Done (pattern 1) None) connected_read (λ at. refl), tt),
+    ),
+  ),
 )
+
+pub connected_calm : (window : ℕ) → Every Calm (dialog.connected window (pattern 1))
+connected_calm window = all_calm (dialog.connected window (pattern 1)) (connected_strict window)
 
 created_read : (id : ℕ) → pattern id < 2 ^ 64 → news_in (body_of (answer.Created (pattern 2) id)) ≡ Ok (news.Done (pattern 2) (Some (pattern id)))
 unfolding body_of news_in
@@ -148,13 +182,17 @@ created_read id low =
     ap news_from (items_read (values_of (answer.Created (pattern 2) id)) (omega arith, (tt, (tt, (tt, tt)))) (tt, (patterns_low.1, (tt, (low, tt))))
     (omega arith))
 
+pub created_strict : (id : ℕ) → pattern id < 2 ^ 64 → Strict (dialog.answers 0 (answer.Created (pattern 2) id))
+created_strict id low = command_strict 0 (body_of (answer.Created (pattern 2) id)) (news.Done (pattern 2) (Some (pattern id))) (created_read id low)
+    (λ at. refl)
+
 pub created_calm : (id : ℕ) → pattern id < 2 ^ 64 → Calm (dialog.answers 0 (answer.Created (pattern 2) id))
-created_calm id low = command_calm 0 (body_of (answer.Created (pattern 2) id)) _ (created_read id low)
+created_calm id low = calm (dialog.answers 0 (answer.Created (pattern 2) id)) (created_strict id low)
 
 -- ---- what a reply tells
 
 publish_told : (id : ℕ) (r : Reply) → Every Calm (dialog.told_publish id r)
-publish_told id (reply.Began n) = (publish_starts id, tt)
+publish_told id (reply.Began n) = (calm (dialog.answers id answer.PublishStart) (publish_starts id), tt)
 publish_told id (reply.NoSlot slots) = refuses_calm role.Publish id why.Full
 publish_told id (reply.InUse by) = refuses_calm role.Publish id why.InUse
 publish_told id (reply.Pushed n) = refuses_calm role.Publish id why.InUse
@@ -170,7 +208,7 @@ publish_told id (reply.Left player) = refuses_calm role.Publish id why.InUse
 publish_told id (reply.Counts began pushed ended joined skips) = refuses_calm role.Publish id why.InUse
 
 play_told : (id : ℕ) (r : Reply) → Every Calm (dialog.told_play id r)
-play_told id (reply.Joined player from) = (control_calm (User 0 id), (play_starts id, tt))
+play_told id (reply.Joined player from) = (control_calm (User 0 id), (calm (dialog.answers id answer.PlayStart) (play_starts id), tt))
 play_told id (reply.Began n) = refuses_calm role.Play id why.Full
 play_told id (reply.NoSlot slots) = refuses_calm role.Play id why.Full
 play_told id (reply.InUse by) = refuses_calm role.Play id why.Full
@@ -201,28 +239,31 @@ told_calm s r = phase_told s.phase r
 abbrev unit_on : ℕ → ℕ → List ℕ → Kind → Message
 unit_on stream time body x = record { kind = message_type x; stream = stream; time = time; body = body }
 
-unit_calm : (stream time : ℕ) (body : List ℕ) (x : Kind) → Calm (unit_on stream time body x)
+unit_strict : (stream time : ℕ) (body : List ℕ) (x : Kind) → Strict (unit_on stream time body x)
 unfolding refused control_in
-unit_calm stream time body kind.Meta = calm_none (unit_on stream time body kind.Meta) (λ at. refl)
-unit_calm stream time body kind.VConfig = calm_none (unit_on stream time body kind.VConfig) (λ at. refl)
-unit_calm stream time body kind.AConfig = calm_none (unit_on stream time body kind.AConfig) (λ at. refl)
-unit_calm stream time body kind.Key = calm_none (unit_on stream time body kind.Key) (λ at. refl)
-unit_calm stream time body kind.Inter = calm_none (unit_on stream time body kind.Inter) (λ at. refl)
-unit_calm stream time body kind.Spare = calm_none (unit_on stream time body kind.Spare) (λ at. refl)
-unit_calm stream time body kind.Audio = calm_none (unit_on stream time body kind.Audio) (λ at. refl)
-unit_calm stream time body kind.Data = calm_none (unit_on stream time body kind.Data) (λ at. refl)
+unit_strict stream time body kind.Meta = λ at. refl
+unit_strict stream time body kind.VConfig = λ at. refl
+unit_strict stream time body kind.AConfig = λ at. refl
+unit_strict stream time body kind.Key = λ at. refl
+unit_strict stream time body kind.Inter = λ at. refl
+unit_strict stream time body kind.Spare = λ at. refl
+unit_strict stream time body kind.Audio = λ at. refl
+unit_strict stream time body kind.Data = λ at. refl
 
-item_calm : (id : ℕ) (i : Item) → Every Calm (dialog.shown id i)
-item_calm id item.Begin = (control_calm (User 0 id), (notifies id, tt))
-item_calm id (item.Unit u) = (unit_calm id u.time u.body u.kind, tt)
-item_calm id item.End = (control_calm (User 1 id), (unpublishes id, tt))
+item_strict : (id : ℕ) (i : Item) → Every Strict (dialog.shown id i)
+item_strict id item.Begin = (control_strict (User 0 id), (notifies id, tt))
+item_strict id (item.Unit u) = (unit_strict id u.time u.body u.kind, tt)
+item_strict id item.End = (control_strict (User 1 id), (unpublishes id, tt))
 
-phase_shows : (p : Phase) (i : Item) → Every Calm (dialog.shown_in p i)
-phase_shows (phase.Plays p) i = item_calm p.id i
+phase_shows : (p : Phase) (i : Item) → Every Strict (dialog.shown_in p i)
+phase_shows (phase.Plays p) i = item_strict p.id i
 phase_shows phase.Idle i = tt
 phase_shows (phase.Asked r id) i = tt
 phase_shows (phase.Publishes id size) i = tt
 
-pub shows_calm : (s : State) (i : Item) → Every Calm (dialog.shows s i)
+pub shows_strict : (s : State) (i : Item) → Every Strict (dialog.shows s i)
 unfolding dialog.shows
-shows_calm s i = phase_shows s.phase i
+shows_strict s i = phase_shows s.phase i
+
+pub shows_calm : (s : State) (i : Item) → Every Calm (dialog.shows s i)
+shows_calm s i = all_calm (dialog.shows s i) (shows_strict s i)

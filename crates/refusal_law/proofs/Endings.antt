@@ -17,19 +17,24 @@ use Rattle.client_law.proofs.Bytes.{client_chunks, rise_read, session_chunks}
 use Rattle.client_law.proofs.Push.{every_front}
 use Rattle.client_law.proofs.Push as push
 use Rattle.client_law.proofs.Readable.{owed_readable}
-use Rattle.client_law.specs.Loud.{Every, EverySaid, Rise, bare}
+use Rattle.client_law.proofs.Louds.{loud_joined, loud_owed}
+use Rattle.client_law.specs.Loud.{Every, EverySaid, Rise, asked_by, bare, loud, sents}
 use Rattle.client_owed.specs.Client.{create_stream}
-use Rattle.client_owed.specs.Owed.{hello, owed}
+use Rattle.client_owed.specs.Owed.{AreGiven, Follow, hello, id_of, owed, phase_of}
 use Rattle.client_owed.specs.Owed as client
 use Rattle.client_owed.specs.declared.types.Asked.{Asked}
 use Rattle.client_owed.specs.declared.types.Gave.{Gave}
+use Rattle.client_owed.specs.declared.types.Phase.TheVariants.{Connecting}
+use Rattle.client_owed.specs.declared.types.Wish.{Wish}
 use Rattle.command_dialog.specs.State.{State}
 use Rattle.command_dialog.specs.declared.types.Ask.{Ask}
 use Rattle.command_dialog.specs.declared.types.Grant.{Grant}
-use Rattle.refusal_law.specs.Refusals.{Begins, HaveTalked, IsRefusal, IsWant}
+use Rattle.command_dialog.specs.declared.types.Grant.TheVariants as grant
+use Rattle.refusal_law.specs.Refusals.{AreGranted, AreOpened, Begins, ClientWants, HaveTalked, IsRefusal, IsWant, asking_of, role_of}
 use Rattle.refusal_law.proofs.Asking.{every_owed}
-use Rattle.refusal_law.proofs.Calm.{Calm, control_calm, shows_calm, told_calm}
+use Rattle.refusal_law.proofs.Calm.{Calm, Strict, control_calm, control_strict, shows_calm, shows_strict, told_calm}
 use Rattle.refusal_law.proofs.Creating.{none_open}
+use Rattle.refusal_law.proofs.Granting.{IsOther, Planned, first_granted, given_other, planned_all, planned_front, talk_ends, told_good}
 use Rattle.refusal_law.proofs.Heeding.{IsHeeded, SmallFree, ask_heeded, connect_heeded, control_heeded, create_heeds, create_says, given_heeded, not_some}
 use Rattle.refusal_law.proofs.Never.{among, begun, never_stops}
 use Rattle.relay_session.specs.Decided.{IsDecided}
@@ -347,3 +352,95 @@ module _ (k : Asked) (who window max : ℕ) (desk : Ask → Grant) where
           by_end (client_end.Refused code) q = tt
           by_end client_end.Done q = q
           by_end client_end.OutOfMemory q = tt
+
+      -- ---- where it grants what its client asks
+
+      module _ (place : ℕ) (grants : desk (asking_of k) ≡ grant.Place place) where
+        abbrev Other : Message → Type 0
+        Other = IsOther desk k
+
+        follow_others : (w : Wish) (id from to : ℕ) (S : List Gave) → id < 2 ^ 32 → Follow w max from to S → Every Other (sents id S)
+        unfolding sents
+        follow_others w id from to [] s f = tt
+        follow_others w id from to (g ∷ S) s f = (given_other desk k w max id g.given s f.1, follow_others w id g.at to S s f.3)
+
+        gave_others : (id : ℕ) (S : List Gave) → id < 2 ^ 32 → AreGiven k max n ns S → Every Other (sents id S)
+        unfolding sents
+        gave_others id [] s g = tt
+        gave_others id (t ∷ S) s g = follow_others k.wish id _ _ (t ∷ S) s g.2
+
+        planned : Planned desk k false (loud (bare ms))
+        unfolding bare loud
+        planned = by_length (cases_lt (length x) hand_bytes)
+          where
+            by_length : (length x < hand_bytes) ⊎ (hand_bytes ≤ length x) → Planned desk k false (loud (bare ms))
+            by_length (inl l) =
+                subst (λ (z : List (ℕ × Message)). Planned desk k false (loud (bare z)))
+                (sym (none_read max x ms h.session_read.s h.session_read.r (omega (arith, l)) h.session_read.reads)) tt
+            by_length (inr l) =
+                let g = begun max mine (drop hand_bytes x) h.rest ms (chunks x h.rest y ns T l h.sent) readable
+                (omega (arith, h.few, length-drop hand_bytes x)) h.session_read in
+                let p = phase_of k ns in
+                let all : loud (bare ms) ++ loud g.0 ≡ asked_by k p ++ sents (id_of p) T =
+                sym (loud_joined (bare ms) g.0) ∙ ap loud g.1 ∙ loud_owed k max n ns T rise h.given in
+                planned_front desk k false (loud (bare ms)) (loud g.0) (subst (Planned desk k false) (sym all)
+                (planned_all desk k free (omega (arith, h.named.app)) p (sents (id_of p) T)
+                (gave_others (id_of p) T (push.after_small k Connecting ns (omega arith)) h.given)))
+
+        abbrev made_all : List Entry
+        made_all = talking.makes C ++ entries_of h.kept
+
+        every_unit : (l : List Message) → Every (λ m. Unit {0}) l
+        every_unit [] = tt
+        every_unit (m ∷ l) = (tt, every_unit l)
+
+        -- ITS SESSION BEGINS ONE ROLE, by its first call
+        pub opened : AreOpened k.wish made_all
+        opened =
+            subst (AreOpened k.wish) h.talks.made
+            (talk_ends desk k who window C made_all place grants (omega (arith, h.named.name)) (λ m. Unit {0}) (λ m s. tt)
+            (λ s id j c r more e good q f. every_unit (told s r).says) ms planned h.talks.made).1
+
+        module _ (granted : AreGranted C) where
+          strict_said : EverySaid Strict (talk d C ms).said
+          strict_said =
+              (talk_ends desk k who window C made_all place grants (omega (arith, h.named.name)) Strict (λ m s. s)
+              (λ s id j c r more e good q f.
+              (told_good s r (role_of k.wish) id e
+              (good r (first_granted C (entries_of h.kept) (record { who = who; at = hand_bytes + j; call = c }) more j r (sym f) refl q granted))).0)
+              ms planned h.talks.made).0
+
+          strict_owed : Every Strict theirs
+          strict_owed = push.every_owed Strict d (λ j. control_strict (Acknowledgement j)) (λ s i. shows_strict s i) (owing.count_of d x) ms C strict_said
+
+          message_not : (b later : List ℕ) (e : ClientEnd) → b ++ later ≡ owing.out d x ms C → length b ≤ 2 ^ 61 → client_feeding.IsRefused max ns b e → ⊥
+          message_not b later e came few r =
+              let l = greeted max b ns (length (drop hand_bytes b), r.m) r.s r.r r.reads in
+              let a = among max theirs (drop hand_bytes b) later ns (length (drop hand_bytes b)) r.m r.s r.r (their_chunks b later l came) says_readable
+              (omega (arith, few, length-drop hand_bytes b)) r.reads in
+              let none = every_at Strict (bare ns) a.0 r.m (subst (Every Strict) (sym a.1) strict_owed) (length b - 1) in
+              absurd (let f : None ≡ Some e = sym none ∙ r.why in cc)
+
+          -- A CLIENT ENDS BY NO BYTE
+          pub client_lasts : (at : ℕ) (more : List ℕ) (e : ClientEnd) → Begins more h.left → length (y ++ more) ≤ 2 ^ 61
+              → client_feeding.Decides max ns (y ++ more) at e → ClientWants e
+          client_lasts at more e b few i = by_end e i
+            where
+              came : (y ++ more) ++ b.0 ≡ owing.out d x ms C
+              came = whole y more b.0 h.left (owing.out d x ms C) b.1 h.told
+
+              refused_not : (c : ClientEnd) → client_feeding.IsRefused max ns (take (at + 1) (y ++ more)) c → ⊥
+              refused_not c r =
+                  message_not (take (at + 1) (y ++ more)) (drop (at + 1) (y ++ more) ++ b.0) c (front (at + 1) (y ++ more) b.0 (owing.out d x ms C) came)
+                  (omega (arith, few, length-take (at + 1) (y ++ more))) r
+
+              by_end : (c : ClientEnd) → client_feeding.Decides max ns (y ++ more) at c → ClientWants c
+              by_end client_end.PeerClosed q = q
+              by_end client_end.LinkFault q = q
+              by_end (client_end.BadVersion p) q = client_refused at more (client_end.BadVersion p) b few q
+              by_end (client_end.BadChunk cause p) q = client_refused at more (client_end.BadChunk cause p) b few q
+              by_end (client_end.BadControl p) q = refused_not (client_end.BadControl p) q.1
+              by_end (client_end.BadCommand p) q = refused_not (client_end.BadCommand p) q.1
+              by_end (client_end.Refused code) q = refused_not (client_end.Refused code) q
+              by_end client_end.Done q = q
+              by_end client_end.OutOfMemory q = tt

@@ -4,4 +4,5 @@ pub mod Heeding
 pub mod Asking
 pub mod Calm
 pub mod Creating
+pub mod Granting
 pub mod Endings

@@ -6,4 +6,7 @@
 
 mod laws;
 
-pub use laws::{a_client_is_ended_by_a_refusal_alone, a_session_is_ended_by_no_byte};
+pub use laws::{
+    a_client_is_ended_by_a_refusal_alone, a_client_that_is_granted_is_ended_by_no_byte,
+    a_session_begins_once, a_session_is_ended_by_no_byte,
+};

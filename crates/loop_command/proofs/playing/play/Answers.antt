@@ -7,7 +7,7 @@ pub returns-in_err-pull_turn-clause-goes : goal.returns-in_err-pull_turn-clause-
 returns-in_err-pull_turn-clause-goes g c = λ file held h.
     let e = c.in_err-pull_turn in
     let now = g.K.Sink.holds c.args.out.now in
-    let x = pull_stops e.field-0.0 _ file c.args.run.now c.pull_turn.new.run held now h (e.ensures.goes file held now h) in
+    let x = pull_stops e.field-0.0 _ file c.args.run.now c.pull_turn.new.run held now (e.ensures.goes file held now h) in
     search (rules, x)
 
 pub returns-in_err-pull_turn-clause-faults : goal.returns-in_err-pull_turn-clause-faults

@@ -3,7 +3,7 @@ use Rattle.loop_command.specs.Course.{Pulled}
 use Rattle.loop_command.specs.Desk.{puller}
 use Rattle.loop_command.specs.Lines.{ClientGoes}
 use Rattle.loop_command.specs.Rounds.{Goes}
-use Rattle.loop_command.proofs.Refusing.{pull_goes_on, pull_refused, same_whole}
+use Rattle.loop_command.proofs.Refusing.{pull_goes_on, pull_lasts, same_whole}
 use Rattle.loop_command.proofs.Rounding.{client_ends, own_turn}
 use Rattle.loop_command.proofs.Running.{pull_run, pull_sound}
 use Rattle.loop_command.proofs.playing.pull_turn.Goals as goal
@@ -16,8 +16,9 @@ returns-in-Err-clause-goes c = λ file old now h.
     let s = record r { pull = l } in
     let t = c.talk_law.ensures in
     client_ends v.stop (Goes file s old now (Pulled r s)) r.pull l
-    (pull_refused c.a_client_is_ended_by_a_refusal_alone.ensures file old now r c.requires.sound.rules_are h
-    (same_whole r.pull.session l.session c.turn_client.ensures.session h.plays.stands t.whole) t.room) v.ensures.turned
+    (pull_lasts c.a_session_begins_once.ensures file old now r c.requires.sound.rules_are h
+    (same_whole r.pull.session l.session c.turn_client.ensures.session h.plays.stands t.plays) (t.publishes h.publishes.stands) t.room
+    c.a_client_that_is_granted_is_ended_by_no_byte.ensures) v.ensures.turned
 
 pub returns-in-Err-clause-err : goal.returns-in-Err-clause-err
 returns-in-Err-clause-err c = own_turn c.in-Err.stop c.args.run.now.pull c.turn_client.new.line c.in-Err.ensures.turned

@@ -3,7 +3,7 @@ use Rattle.loop_command.specs.Course.{Pushed}
 use Rattle.loop_command.specs.Desk.{pusher}
 use Rattle.loop_command.specs.Lines.{ClientGoes}
 use Rattle.loop_command.specs.Rounds.{Goes}
-use Rattle.loop_command.proofs.Refusing.{push_refused, same_whole}
+use Rattle.loop_command.proofs.Refusing.{push_lasts, same_whole}
 use Rattle.loop_command.proofs.Rounding.{client_ends, own_turn}
 use Rattle.loop_command.proofs.Running.{pushed_goes, pushed_ok, pushes_runs}
 use Rattle.loop_command.proofs.publishing.push_once.Goals as goal
@@ -16,8 +16,9 @@ returns-in-Err-clause-goes c = λ file old now h.
     let s = record r { push = l } in
     let t = c.talk_law.ensures in
     client_ends v.stop (Goes file s old now (Pushed r s)) r.push l
-    (push_refused c.a_client_is_ended_by_a_refusal_alone.ensures file old now r c.requires.sound.rules_are c.requires.lives h
-    (same_whole r.push.session l.session c.turn_client.ensures.session h.publishes.stands t.whole) t.room) v.ensures.turned
+    (push_lasts c.a_session_begins_once.ensures file old now r c.requires.sound.rules_are h (t.plays h.plays.stands)
+    (same_whole r.push.session l.session c.turn_client.ensures.session h.publishes.stands t.publishes) t.room
+    c.a_client_that_is_granted_is_ended_by_no_byte.ensures c.requires.lives) v.ensures.turned
 
 pub returns-in-Err-clause-err : goal.returns-in-Err-clause-err
 returns-in-Err-clause-err c = own_turn c.in-Err.stop c.args.run.now.push c.turn_client.new.line c.in-Err.ensures.turned

@@ -1,5 +1,5 @@
 use Rattle.std.proofs.Common.{ap, refl}
-use Rattle.loop_command.specs.Course.{ClientRefused, Pushed, PushesWhere, is_done}
+use Rattle.loop_command.specs.Course.{Pushed, PushesWhere, is_done}
 use Rattle.loop_command.specs.Rounds.{Goes}
 use Rattle.loop_command.specs.declared.rounds.Stage.TheVariants.{Finishing, Giving}
 use Rattle.loop_command.proofs.Rounding.{step_then}
@@ -19,14 +19,12 @@ pub returns-in-Finishing-clause-goes : goal.returns-in-Finishing-clause-goes
 returns-in-Finishing-clause-goes c = λ file old now h.
     let r = c.args.run.now in
     let s = c.push_once.new.run in
-    step_then c.push_once.result (Goes file s old now (Pushed r s)) (Goes file s old now (PushesWhere r.stage r s)) (ClientRefused r.push)
-    (ClientRefused r.push)
+    step_then c.push_once.result (Goes file s old now (Pushed r s)) (Goes file s old now (PushesWhere r.stage r s)) ⊥ ⊥
     (λ x. record { is_run = x.is_run; made = push_where Finishing r s refl c.in-Finishing.is x.made }) (λ x. x) (c.push_once.ensures.goes file old now h)
 
 pub returns-in-Giving-clause-goes : goal.returns-in-Giving-clause-goes
 returns-in-Giving-clause-goes c = λ file old now h.
     let r = c.args.run.now in
     let s = c.push_once-in-Giving.new.run in
-    step_then c.push_once-in-Giving.result (Goes file s old now (Pushed r s)) (Goes file s old now (PushesWhere r.stage r s)) (ClientRefused r.push)
-    (ClientRefused r.push)
+    step_then c.push_once-in-Giving.result (Goes file s old now (Pushed r s)) (Goes file s old now (PushesWhere r.stage r s)) ⊥ ⊥
     (λ x. record { is_run = x.is_run; made = push_where Giving r s refl c.in-Giving.is x.made }) (λ x. x) (c.push_once-in-Giving.ensures.goes file old now h)

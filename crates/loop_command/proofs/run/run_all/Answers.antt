@@ -14,8 +14,8 @@ returns-in_err-round-clause-goes g c = λ file held h.
     let l = c.loop-left in
     let e = c.in_err-round in
     let o = l.invariant.goes file held h in
-    let x = round_stops e.field-0.0 _ file c.args.run.now l.run c.round.new.run c.args.rounds l.left (l.left - 1) held (g.K.Sink.holds l.out)
-    (g.K.Sink.holds c.round.new.out) o (omega (arith, c.loop-left-test.true)) (e.ensures.goes file held o.is_run) in
+    let x = round_stops e.field-0.0 _ file c.args.run.now c.round.new.run c.args.rounds held (g.K.Sink.holds c.round.new.out)
+    (e.ensures.goes file held o.is_run) in
     search (rules, x)
 
 pub returns-then-is_settled-clause-settled : goal.returns-then-is_settled-clause-settled

@@ -7,11 +7,14 @@ use Rattle.loop_command.proofs.talk.talk_law.Goals as goal
 
 pub journal-requires : goal.journal-requires
 journal-requires c =
-    let e : places (sole_rules c.args.port.now.rules) ≡ 1 = ap places c.requires in
+    let e : places (sole_rules c.args.run.now.port.rules) ≡ 1 = ap places c.requires in
     omega (arith, e)
 
-pub returns-clause-whole : goal.returns-clause-whole
-returns-clause-whole c = c.owed_law.ensures.whole granted
+pub returns-clause-plays : goal.returns-clause-plays
+returns-clause-plays c = c.owed_law.ensures.whole granted
+
+pub returns-clause-publishes : goal.returns-clause-publishes
+returns-clause-publishes c = c.owed_law-2.ensures.whole granted
 
 pub returns-clause-room : goal.returns-clause-room
 returns-clause-room c = subst (HaveRoom 4194304) c.journal.ensures c.have_room.ensures
