@@ -1,7 +1,7 @@
-ghost use Rattle.std.specs.Prelude.{◌≡◌, ℕ, ◌<◌, ◌≤◌, ◌+◌, ◌*◌, ◌^◌, true, [], ◌∷◌, length, vec_len, IfOk, OnErr, slice_index_or};
+ghost use Rattle.std.specs.Prelude.{◌≡◌, ℕ, ◌<◌, ◌≤◌, ◌+◌, ◌*◌, ◌^◌, true, [], ◌∷◌, length, position, is_none, vec_len, IfOk, OnErr, slice_index_or};
 ghost use Rattle.stream_model.specs.Held.{held};
 ghost use Rattle.std.specs.Option.{IfSome};
-ghost use Rattle.stream_model.specs.Answer.{free_place as least_free, reply, IsSent};
+ghost use Rattle.stream_model.specs.Answer.{reply, IsSent};
 ghost use Rattle.stream_model.specs.History.{items_of};
 ghost use Rattle.stream_model.specs.Known.{StreamKnown, answered, IsLawful};
 ghost use Rattle.stream_model.specs.Legal.{Legal};
@@ -421,14 +421,8 @@ fn none_held(places: &[Place]) -> bool
 
 // The least place that nobody holds.
 fn free_place(places: &[Place]) -> Option<usize>
-    ensures place { result ≡ least_free (λ p. (slice_index_or places.now p free_place).who) (length places.now) }
+    ensures place { result ≡ position (λ p. is_none p.who) places.now }
     ensures within { IfSome result (λ p. p < length places.now) }
 {
-    let mut free = None;
-    for (p, place) in places.iter().enumerate() {
-        if free.is_none() && place.who.is_none() {
-            free = Some(p);
-        }
-    }
-    free
+    places.iter().position(|p| p.who.is_none())
 }
