@@ -20,11 +20,12 @@ use Rattle.stream_model.specs.declared.calls.Entry.{Entry}
 use Rattle.stream_model.specs.declared.calls.Shape.{Shape}
 use Rattle.stream_registry.specs.Names.{PortRules}
 use Rattle.stream_registry.specs.Told.{Step, Histories}
+use Rattle.relay_session.specs.Acting.{HasGrant}
 use Rattle.relay_session.specs.SeatState.{GoOn, LeavesFrom, SeatState, known, left_at, place_of}
 use Rattle.relay_session.specs.SeatVisits.{AllStand, Visit, calls_of}
 use Rattle.relay_session.specs.declared.seat_answers.Leaving.{Leaving}
 use Rattle.relay_session.proofs.SeatStanding.{all_later}
-use Rattle.relay_worker.specs.Books.{HasGrant, Owns}
+use Rattle.relay_worker.specs.Books.{Owns}
 use Rattle.relay_worker.specs.Rounds.{has_left}
 use Rattle.relay_worker.specs.declared.round.Round.{Round}
 use Rattle.relay_worker.proofs.Booking.{Holds, LeftAs, active_of, calls_on, granted_of, grows_from, has_room, holds_nowhere, left_from, left_nowhere}

@@ -13,9 +13,10 @@ use Rattle.stream_model.specs.declared.replies.Reply.TheVariants as reply
 use Rattle.stream_registry.specs.Names.{PortRules}
 use Rattle.stream_registry.specs.Told.{Step, Histories}
 use Rattle.turn_gate.specs.Histories.{Begins}
+use Rattle.relay_session.specs.Acting.{HasGrant}
 use Rattle.relay_session.specs.SeatState.{known}
 use Rattle.relay_session.specs.SeatVisits.{AllStand, Visit, calls_of}
-use Rattle.relay_worker.specs.Books.{HasGrant, LeavesBy, Owns, WaitsOrMade}
+use Rattle.relay_worker.specs.Books.{LeavesBy, Owns, WaitsOrMade}
 use Rattle.relay_worker.specs.Running.{EachAt}
 use Rattle.http_request.specs.Heads.{IsRead, Verdict}
 use Rattle.http_request.specs.Texts.{code_of, text_of}

@@ -17,6 +17,7 @@ use Rattle.stream_registry.specs.Books.{SoleState, SeenState, journal_at, sole_r
 use Rattle.stream_registry.specs.Told.{Histories, Keeps, Step}
 use Rattle.turn_gate.specs.Histories.{Begins}
 use Rattle.relay_session.proofs.SeatStanding.{calls_here}
+use Rattle.relay_session.specs.Acting.{ActsBy}
 use Rattle.relay_session.specs.Alone.{AddsNone, GrowsAs, GrowsFrom, ReachesBy, visited}
 use Rattle.relay_session.specs.SeatOwn.{own}
 use Rattle.relay_session.specs.SeatState.{IsMade, KeptMade, KeptOrMade, LastMade, LeavesFrom, last_of, place_of}
@@ -37,6 +38,7 @@ use Rattle.relay_replay.specs.Cast.{AfterTurn, IsClosed, SessionTurn, SoleAdds, 
 use Rattle.relay_replay.specs.Served.{StandsIf}
 use Rattle.relay_replay.specs.Whole.{Follows, IsFedBy, IsMadeBy}
 use Rattle.relay_replay.proofs.Following.{Bears, Done, FedAfter, Grown, Makes, Named, grown_same, limits_same, makes_none, makes_then, own_same, turn_done}
+use Rattle.relay_replay.proofs.Serving.{closed_acts}
 use Rattle.relay_replay.proofs.Taking.{turn_took}
 
 -- ---- the calls by which a session leaves bear its name
@@ -203,8 +205,9 @@ module _ (desk : Ask → Grant) (given : List ℕ) (n : ℕ) (port : SoleState) 
   followed_on : (a : TurnAnswer) (port' : SoleState) (d : ConnState) → FedAfter a d.link.gave mid.parts.x mid.input
       → (FedAfter a d.link.gave mid.parts.x mid.input → d.link.gave ≡ mid.parts.x ++ mid.input)
       → Done n given port c.session.seat.visits a (life_at mid between) d.link → StandsFor desk mid → IsWhole desk mid.parts
-      → d.link.sent ≡ mid.parts.sent → d.session ≡ mid → port' ≡ between → d.ended ≡ None → Followed desk given n port c port' d
-  followed_on a port' d fed fed_is h st whole took e p o =
+      → d.link.sent ≡ mid.parts.sent → ActsBy mid.ended mid.parts mid.seat → d.session ≡ mid → port' ≡ between → d.ended ≡ None
+      → Followed desk given n port c port' d
+  followed_on a port' d fed fed_is h st whole took acts e p o =
       let mine : Makes n port c.session.seat.visits between mid.seat.visits = h.makes in
       let new : Follows desk (journal_at between.books) given n (conn mid d.link None) = record {
         who = h.who;
@@ -215,6 +218,7 @@ module _ (desk : Ask → Grant) (given : List ℕ) (n : ℕ) (port : SoleState) 
         waited = mid.parts.kept;
         whole = whole_same desk mid.parts whole;
         took = took;
+        acts = acts;
         made = h.made;
         own_all = h.own_all;
         calls = mine.calls f.calls;
@@ -232,9 +236,9 @@ module _ (desk : Ask → Grant) (given : List ℕ) (n : ℕ) (port : SoleState) 
 
   -- it ended, and was closed
   followed_closed : (e : End) (port' : SoleState) (d : ConnState) → Done n given port c.session.seat.visits (Ended e) (life_at mid between) d.link
-      → IsWhole desk mid.parts → d.link.sent ≡ mid.parts.sent → d.ended ≡ Some e
+      → IsWhole desk mid.parts → d.link.sent ≡ mid.parts.sent → ActsBy mid.ended mid.parts mid.seat → d.ended ≡ Some e
       → IsClosed between mid port' d.session → Followed desk given n port c port' d
-  followed_closed e port' d h whole took o cl =
+  followed_closed e port' d h whole took acts o cl =
       let s = d.session in
       let core : s.parts ≡ record mid.parts { kept = s.parts.kept } = cl.parts in
       let owns : All (Bears n) s.seat.visits = left_bears n mid.parts.fed (place_of mid.seat.spot) mid.parts.kept mid.seat.active mid.seat.visits
@@ -261,6 +265,7 @@ module _ (desk : Ask → Grant) (given : List ℕ) (n : ℕ) (port : SoleState) 
           waited = mid.parts.kept;
           whole = subst (λ (x : Core). IsWhole desk (record x { kept = mid.parts.kept })) (sym core) (whole_same desk mid.parts whole);
           took = took ∙ sym (ap (λ (x : Core). x.sent) core);
+          acts = closed_acts between mid port' s cl acts;
           made = subst (λ (z : Option End). IsMadeBy z s.parts.calls (calls_of s.seat.visits)) (sym o)
               (subst (λ (l : List Own). Begins l (calls_of s.seat.visits)) (h.made ∙ sym (ap (λ (x : Core). x.calls) core))
               (closes_calls (place_of mid.seat.spot) (sole_rules between.rules).limits (journal_at between.books) (known_in between mid)
@@ -277,10 +282,10 @@ module _ (desk : Ask → Grant) (given : List ℕ) (n : ℕ) (port : SoleState) 
 
   followed_after : (a : TurnAnswer) (port' : SoleState) (d : ConnState) → AfterTurn a mid between d.session d.ended port'
       → Done n given port c.session.seat.visits a (life_at mid between) d.link → StandsFor desk mid → IsWhole desk mid.parts
-      → d.link.sent ≡ mid.parts.sent → Followed desk given n port c port' d
-  followed_after Moved port' d t h st whole took = followed_on Moved port' d h.fed (λ x. x) h st whole took t.0 t.1 t.2
-  followed_after Idle port' d t h st whole took = followed_on Idle port' d h.fed (λ x. x) h st whole took t.0 t.1 t.2
-  followed_after (Ended e) port' d t h st whole took = followed_closed e port' d h whole took t.1 t.2
+      → d.link.sent ≡ mid.parts.sent → ActsBy mid.ended mid.parts mid.seat → Followed desk given n port c port' d
+  followed_after Moved port' d t h st whole took acts = followed_on Moved port' d h.fed (λ x. x) h st whole took acts t.0 t.1 t.2
+  followed_after Idle port' d t h st whole took acts = followed_on Idle port' d h.fed (λ x. x) h st whole took acts t.0 t.1 t.2
+  followed_after (Ended e) port' d t h st whole took acts = followed_closed e port' d h whole took acts t.1 t.2
 
 pub followed_turn : (e : Option End) (desk : Ask → Grant) (given : List ℕ) (n : ℕ) (port : SoleState) (c : ConnState) (port' : SoleState) (d : ConnState)
     → c.ended ≡ e → SessionTurn e desk port c port' d
@@ -297,4 +302,4 @@ followed_turn None desk given n port c port' d e t f =
     let done = turn_done n given port c.session.seat.visits desk c.session.ended c.session.quit (life_at c.session port) c.link t.answer
     (life_at t.mid t.between) d.link t.turn f.who (named_in n c.session.parts.kept f.named)
     (makes_none n port c.session.seat.visits) made f.own_all (sym f.lines) fed in
-    followed_after desk given n port c f t.mid t.between t.answer port' d t.leads done st (t.whole st) took
+    followed_after desk given n port c f t.mid t.between t.answer port' d t.leads done st (t.whole st) took (t.acts was f.acts)

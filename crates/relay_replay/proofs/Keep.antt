@@ -14,6 +14,7 @@ use Rattle.stream_registry.specs.Books.{SoleState, SeenState, FitsSole, journal_
 use Rattle.stream_model.specs.Names.{is_name}
 use Rattle.stream_registry.specs.Names.{PortRules, places}
 use Rattle.media_recorder.specs.Ports.{FitsIf}
+use Rattle.relay_session.specs.Acting.{ActsBy}
 use Rattle.relay_session.specs.Grants.{Keys, granted_from, has_app, is_named, judged, opened_from, stream_keys, table_keys, tables_from, takes_key}
 use Rattle.relay_session.specs.Places.{IsGrantThere, IsOffered, IsThere}
 use Rattle.relay_session.specs.SeatState.{GoOn, HasFit}
@@ -207,10 +208,11 @@ pub turned : (desk : Ask → Grant) (port between port' : SoleState) (c d : Conn
     → EndedBy SoleAsks desk
     MemHears MemSays c.session.ended c.session.quit (life_at c.session port) c.link a (life_at mid between) d.link
     → (StandsFor desk c.session → StandsFor desk mid) → (StandsFor desk mid → BeginsOwed desk mid.parts) → (StandsFor desk mid → IsWhole desk mid.parts)
+    → (StandsFor desk c.session → ActsBy c.session.ended c.session.parts c.session.seat → ActsBy mid.ended mid.parts mid.seat)
     → lasting_of mid.parts ≡ lasting_of c.session.parts
     → GoOn (journal_at port.books) (journal_at between.books) → mid.ended ≡ ended_by a → mid.quit ≡ c.session.quit
     → AfterTurn a mid between d.session d.ended port' → AnsweredBy told c.ended desk port c port' d
-turned desk port between port' c d mid a told is lives turn stands owed whole lasts roots ended quit leads =
+turned desk port between port' c d mid a told is lives turn stands owed whole acts lasts roots ended quit leads =
     subst (λ (x : Answered). AnsweredBy x c.ended desk port c port' d) (sym is)
     (turned_by c.ended desk port c port' d lives (record {
       answer = a;
@@ -220,6 +222,7 @@ turned desk port between port' c d mid a told is lives turn stands owed whole la
       stands = stands;
       owed = owed;
       whole = whole;
+      acts = acts;
       lasts = lasts;
       roots = roots;
       ended = ended;

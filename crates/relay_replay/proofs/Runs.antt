@@ -20,12 +20,13 @@ use Rattle.stream_model.specs.declared.calls.Call.{Call}
 use Rattle.stream_model.specs.declared.calls.Shape.{Shape}
 use Rattle.stream_model.specs.declared.calls.StreamLimits.{StreamLimits}
 use Rattle.stream_model.specs.declared.replies.Reply.{Reply}
-use Rattle.stream_model.specs.Shape.{IsLawfulBy}
+use Rattle.stream_model.specs.History.{History}
+use Rattle.stream_model.specs.Shape.{IsLawfulBy, IsShapeLawful}
 use Rattle.stream_registry.specs.declared.port.PortFail.{PortFail}
 use Rattle.stream_registry.specs.Books.{FitsSole, SoleState, SeenState, journal_at, sole_rules}
 use Rattle.stream_registry.specs.Placed.{answered}
 use Rattle.stream_registry.specs.Told.{Histories, Keeps, Step}
-use Rattle.relay_session.specs.SeatOwn.{own}
+use Rattle.relay_session.specs.SeatOwn.{Acts as Calls, AreAnswered, own}
 use Rattle.relay_session.specs.SeatVisits.{calls_at, calls_of}
 use Rattle.relay_session.specs.SessionState.{SessionState}
 use Rattle.relay_session.specs.declared.end.End.{End}
@@ -46,11 +47,12 @@ use Rattle.relay_replay.specs.Recorded.{IsRecorded}
 use Rattle.relay_replay.specs.Scenes.{Acts, AreNew, CastBy, Does, IsNewRecorder, IsOpen, SceneState, SettledIn, desk_of, is_acting, stand_of}
 use Rattle.relay_replay.specs.Served.{StandsIf}
 use Rattle.relay_replay.specs.Stand.{after, allows, count, is_setting}
-use Rattle.relay_replay.specs.Whole.{AreSessions, Follows, IsFedBy, IsMadeBy, IsOurs, IsRun, IsSession, Records, RunOf, Runs, RunsIf, given_more, recorder_name}
+use Rattle.relay_replay.specs.Whole.{AreSessions, Follows, IsFedBy, IsMadeBy, IsOurs, IsRun, IsSession, Records, RunOf, Runs, RunsIf, SessionsAnswered, given_more}
+use Rattle.relay_replay.specs.Whole.{recorder_name}
 use Rattle.relay_replay.proofs.Comes.{Followed, begins_whole, followed_turn, whole_same}
 use Rattle.relay_replay.proofs.Following.{Bears, Grown, Lawful, grown_all, grown_one, grown_others, grown_same, limits_same, own_other, own_same}
 use Rattle.relay_replay.proofs.Recorders.{are_recorded}
-use Rattle.relay_replay.proofs.Serving.{SameDesk, all_at, each_keep, same_desk, settled_keep, stand_desk, times_keep}
+use Rattle.relay_replay.proofs.Serving.{SameDesk, acting_of, all_at, each_keep, same_desk, settled_keep, stand_desk, times_keep}
 
 -- ---- one in a list
 
@@ -140,6 +142,7 @@ follows_other desk h h' given n s e f = record {
   waited = f.waited;
   whole = f.whole;
   took = f.took;
+  acts = f.acts;
   made = f.made;
   own_all = f.own_all;
   calls = λ q. e q ∙ f.calls q;
@@ -383,6 +386,7 @@ follows_told (Piece k bytes) desk h g n c f = record {
   waited = f.waited;
   whole = f.whole;
   took = f.took;
+  acts = f.acts;
   made = f.made;
   own_all = f.own_all;
   calls = f.calls;
@@ -396,6 +400,7 @@ follows_told (Eof k) desk h g n c f = record {
   waited = f.waited;
   whole = f.whole;
   took = f.took;
+  acts = f.acts;
   made = f.made;
   own_all = f.own_all;
   calls = f.calls;
@@ -409,6 +414,7 @@ follows_told (Room k left) desk h g n c f = record {
   waited = f.waited;
   whole = f.whole;
   took = f.took;
+  acts = f.acts;
   made = f.made;
   own_all = f.own_all;
   calls = f.calls;
@@ -422,6 +428,7 @@ follows_told (FailRecv k) desk h g n c f = record {
   waited = f.waited;
   whole = f.whole;
   took = f.took;
+  acts = f.acts;
   made = f.made;
   own_all = f.own_all;
   calls = f.calls;
@@ -435,6 +442,7 @@ follows_told (FailSend k) desk h g n c f = record {
   waited = f.waited;
   whole = f.whole;
   took = f.took;
+  acts = f.acts;
   made = f.made;
   own_all = f.own_all;
   calls = f.calls;
@@ -448,6 +456,7 @@ follows_told (Quit k) desk h g n c f = record {
   waited = f.waited;
   whole = f.whole;
   took = f.took;
+  acts = f.acts;
   made = f.made;
   own_all = f.own_all;
   calls = f.calls;
@@ -568,6 +577,7 @@ new_follows limits desk h n c w none = record {
   waited = c.session.parts.kept;
   whole = whole_same desk c.session.parts (w.whole desk);
   took = ap (λ (l : MemLinkState). l.sent) w.link_is ∙ sym (ap (λ (p : Past). p.sent) w.past);
+  acts = w.acts;
   made = subst (λ (e : Option End). IsMadeBy e c.session.parts.calls (calls_of c.session.seat.visits)) (sym w.ended)
       (ap calls_of w.nowhere.2 ∙ sym (ap (λ (p : Past). p.calls) w.past));
   own_all = subst (All (Bears n)) (sym w.nowhere.2) (All-nil (Bears n));
@@ -807,3 +817,15 @@ settled_runs done most n s t given x k =
 
 pub cast_runs : (s : SceneState) (c : CastState) (given : ℕ → List ℕ) → IsOpen s.cast s c → Runs given s → RunOf (desk_of s) given c
 cast_runs s c given o k = opened_run s.cast s given c o k
+
+-- ---- what its sessions' calls were answered
+
+-- what calls of one that asks for nothing but what it was granted are answered, where they are all that bear its name
+abbrev pub AloneLaw : Type 0
+AloneLaw = (s : Shape) (past : History) (who : ℕ) (calls : List Step) → IsShapeLawful s past → own who past ≡ calls → Calls calls → AreAnswered calls
+
+pub sessions_answered : AloneLaw → (desk : Ask → Grant) (given : ℕ → List ℕ) (c : CastState) → IsRun desk given c → SessionsAnswered c
+sessions_answered law desk given c r n s e q =
+    let f = r.sessions n s e in
+    law ((sole_rules c.port.rules).limits q) (reverse (journal_at c.port.books q)) n (calls_at q s.session.seat.visits) (r.lawful q).rules (f.calls q)
+    ((acting_of s.session.ended s.session.parts s.session.seat f.acts).acts q)

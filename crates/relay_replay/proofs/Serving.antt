@@ -15,8 +15,10 @@ use Rattle.session_owed.specs.Talk.{hand_bytes}
 use Rattle.relay_outside.specs.MemLinks.{MemLinkState}
 use Rattle.session_owed.specs.Standing.{Past}
 use Rattle.stream_registry.specs.Books.{SoleState, SeenState}
+use Rattle.relay_session.specs.Acting.{Acting, ActsBy}
 use Rattle.relay_session.specs.Grants.{granted_from}
 use Rattle.relay_session.specs.Session.{session}
+use Rattle.relay_session.specs.SeatState.{SeatState}
 use Rattle.relay_session.specs.SessionState.{BeginsOwed, SessionState, StandsFor, gone_but_kept, life_at}
 use Rattle.relay_session.specs.Turns.{Gone}
 use Rattle.relay_session.specs.declared.core_fields.Core.{Core}
@@ -45,7 +47,7 @@ use Rattle.relay_replay.specs.declared.guest.Answered.TheVariants as answered
 use Rattle.relay_replay.specs.declared.guest.Guest.{Guest}
 use Rattle.relay_replay.specs.declared.guest.Guest.TheVariants as guest
 use Rattle.relay_replay.specs.Turning.{AfterEdgeTurn, AfterHttpTurn, EdgeTurnBy, PlayerTurn}
-use Rattle.relay_replay.specs.Cast.{AfterTurn, AnsweredTurn, CastState, GuestTurn, Each, RecTurnOf, Round, SessionTurn, SettledBy, SoleAsks, Times, TurnOf}
+use Rattle.relay_replay.specs.Cast.{AfterTurn, AnsweredTurn, CastState, GuestTurn, Each, IsClosed, RecTurnOf, Round, SessionTurn, SettledBy, SoleAsks, Times, TurnOf}
 use Rattle.relay_replay.specs.Plays.{IsNewEdge, IsNewPlayer, IsNewSession, Plays, ToldBy, told_guest, told_link, told_of}
 use Rattle.relay_replay.specs.Scenes.{Acts, CastBy, Does, IsOpen, SceneState, SettledIn, desk_of, is_acting, stand_of}
 use Rattle.relay_replay.specs.Served.{AreServed, EdgeServed, GuestServed, IsServed, PlayerServed, PlayerStandsIf, ServedIf, ServedIn, StandsIf}
@@ -68,25 +70,38 @@ owes_gone desk c g = (g.0, record { ms = g.1.0; read = g.1.1.0; owes = g.1.1.1 }
 closed_owes : (desk : Ask → Grant) (c d : Core) → gone_but_kept d ≡ gone_but_kept c → BeginsOwed desk c → BeginsOwed desk d
 closed_owes desk c d e b = owes_gone desk d (subst (GoneOwes desk) (sym e) (gone_owes desk c b))
 
+-- whether it lives or has ended
+pub acting_of : (e : Option End) (c : Core) (s : SeatState SeenState) → ActsBy e c s → Acting c s
+acting_of None c s a = a.0
+acting_of (Some e) c s a = a
+
+pub closed_acts : (port : SoleState) (s : SessionState SeenState) (port' : SoleState) (s' : SessionState SeenState) → IsClosed port s port' s'
+    → ActsBy s.ended s.parts s.seat → ActsBy s'.ended s'.parts s'.seat
+closed_acts port s port' s' k a =
+    subst (λ (e : Option End). ActsBy e s'.parts s'.seat) (sym k.ended) (k.acts (acting_of s.ended s.parts s.seat a))
+
 -- ---- a session's turn
 
 after_served : (a : TurnAnswer) (desk : Ask → Grant) (mid : SessionState SeenState) (port : SoleState) (d : ConnState) (port' : SoleState)
     → AfterTurn a mid port d.session d.ended port'
-    → StandsFor desk mid → BeginsOwed desk mid.parts → d.link.sent ≡ mid.parts.sent → IsServed desk d
-after_served Moved desk mid port d port' t st owed took = record {
+    → StandsFor desk mid → BeginsOwed desk mid.parts → d.link.sent ≡ mid.parts.sent → ActsBy mid.ended mid.parts mid.seat → IsServed desk d
+after_served Moved desk mid port d port' t st owed took acts = record {
   stands = subst (λ (e : Option End). StandsIf e desk d.session) (sym t.2) (subst (λ (s : SessionState SeenState). StandsFor desk s) (sym t.0) st);
   owed = subst (λ (s : SessionState SeenState). BeginsOwed desk s.parts) (sym t.0) owed;
   took = took ∙ sym (ap (λ (s : SessionState SeenState). s.parts.sent) t.0);
+  acts = subst (λ (s : SessionState SeenState). ActsBy s.ended s.parts s.seat) (sym t.0) acts;
 }
-after_served Idle desk mid port d port' t st owed took = record {
+after_served Idle desk mid port d port' t st owed took acts = record {
   stands = subst (λ (e : Option End). StandsIf e desk d.session) (sym t.2) (subst (λ (s : SessionState SeenState). StandsFor desk s) (sym t.0) st);
   owed = subst (λ (s : SessionState SeenState). BeginsOwed desk s.parts) (sym t.0) owed;
   took = took ∙ sym (ap (λ (s : SessionState SeenState). s.parts.sent) t.0);
+  acts = subst (λ (s : SessionState SeenState). ActsBy s.ended s.parts s.seat) (sym t.0) acts;
 }
-after_served (Ended e) desk mid port d port' t st owed took = record {
+after_served (Ended e) desk mid port d port' t st owed took acts = record {
   stands = subst (λ (o : Option End). StandsIf o desk d.session) (sym t.1) tt;
   owed = closed_owes desk mid.parts d.session.parts (ap gone_but_kept t.2.parts) owed;
   took = took ∙ sym (ap (λ (c : Core). c.sent) t.2.parts);
+  acts = closed_acts port mid port' d.session t.2 acts;
 }
 
 served_turn : (e : Option End) (desk : Ask → Grant) (port : SoleState) (c : ConnState) (port' : SoleState) (d : ConnState) → c.ended ≡ e
@@ -96,7 +111,7 @@ served_turn None desk port c port' d e t s =
     let st = t.stands was in
     let took = turn_took SoleAsks desk
     c.session.ended c.session.quit (life_at c.session port) c.link t.answer (life_at t.mid t.between) d.link t.turn s.took in
-    after_served t.answer desk t.mid t.between d port' t.leads st (t.owed st) took
+    after_served t.answer desk t.mid t.between d port' t.leads st (t.owed st) took (t.acts was s.acts)
 served_turn (Some x) desk port c port' d e t s = subst (IsServed desk) (sym t.0) s
 
 -- ---- a player's turn, and an edge's
@@ -220,8 +235,8 @@ linked_same (FailSend n) l = refl
 linked_same _ l = refl
 
 told_session : (line : ReplayLine) (desk : Ask → Grant) (c : ConnState) → IsServed desk c → IsServed desk (told_of line c)
-told_session (Quit n) desk c s = record { stands = quit_stands c.ended desk c.session s.stands; owed = s.owed; took = s.took }
-told_session line desk c s = record { stands = s.stands; owed = s.owed; took = linked_same line c.link ∙ s.took }
+told_session (Quit n) desk c s = record { stands = quit_stands c.ended desk c.session s.stands; owed = s.owed; took = s.took; acts = s.acts }
+told_session line desk c s = record { stands = s.stands; owed = s.owed; took = linked_same line c.link ∙ s.took; acts = s.acts }
 
 told_served : (line : ReplayLine) (desk : Ask → Grant) (g : Guest) → GuestServed desk g → GuestServed desk (told_guest line g)
 told_served line desk (guest.Session c) s = told_session line desk c s
@@ -239,6 +254,7 @@ new_served limits who desk c n = record {
   stands = subst (λ (e : Option End). StandsIf e desk c.session) (sym n.ended) (n.stands desk);
   owed = n.owed desk;
   took = ap (λ (l : MemLinkState). l.sent) n.link_is ∙ sym (ap (λ (p : Past). p.sent) n.past);
+  acts = n.acts;
 }
 
 new_player : (limits : AllLimits) (who : ℕ) (desk : Ask → Grant) (c : PlayState) → IsNewPlayer limits who c → PlayerServed desk c

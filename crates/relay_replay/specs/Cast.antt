@@ -9,6 +9,7 @@ use Rattle.stream_registry.specs.Books.{SoleState, SeenState, FitsSole, journal_
 use Rattle.stream_registry.specs.Splits.{Kin}
 use Rattle.stream_registry.specs.Told.{Histories, Step}
 use Rattle.turn_gate.specs.declared.view.Branch.{Branch}
+use Rattle.relay_session.specs.Acting.{Acting, ActsBy}
 use Rattle.relay_session.specs.Alone.{GrowsFrom}
 use Rattle.relay_session.specs.Places.{AskedAlone}
 use Rattle.relay_session.specs.SeatState.{GoOn, IsElsewhere, LeaveFails, LeavesFrom, SeatState, StandsAt, known, left_at, place_of}
@@ -115,8 +116,9 @@ abbrev pub HasMemory : End → Type 0
 HasMemory end.OutOfMemory = ⊥
 HasMemory _ = Unit {0}
 
--- It was closed: its last calls were made, and it has left. Where its calls stood in the histories they do so after it. These calls came
--- to the history of the place where it was, and no other came to any
+-- It was closed: its last calls were made, and it has left. Where its calls stood in the histories they do so after it, and where they
+-- were those of one that asks for nothing but what it was granted they are so after it. These calls came to the history of the place where
+-- it was, and no other came to any
 pub record IsClosed (port : SoleState) (s : SessionState SeenState) (port' : SoleState) (s' : SessionState SeenState) : Type 0 where
   pub leaving : Leaving
   pub leaves : LeavesFrom (place_of s.seat.spot) s.parts.who s.parts.fed s.parts.kept s.seat.active s.seat.visits
@@ -131,6 +133,7 @@ pub record IsClosed (port : SoleState) (s : SessionState SeenState) (port' : Sol
   pub grows : GrowsFrom SoleAdds (sole_rules port.rules).limits (journal_at port.books) (known_in port s) (place_of s.seat.spot) s.seat.visits s'.seat.visits
       (journal_at port'.books) (known_in port' s')
   pub stands : StandsIn port s → StandsIn port' s'
+  pub acts : Acting s.parts s.seat → Acting s'.parts s'.seat
   pub fixed : sole_rules port'.rules ≡ sole_rules port.rules
   pub ended : s'.ended ≡ Some (end_or_quit s.ended)
   pub parts : s'.parts ≡ record s.parts { kept = s'.parts.kept }
@@ -142,7 +145,8 @@ AfterTurn Idle s port s' ended port' = (s' ≡ s) × (port' ≡ port) × (ended 
 AfterTurn (Ended e) s port s' ended port' = HasMemory e × (ended ≡ Some e) × IsClosed port s port' s'
 
 -- a turn of a session at these streams: the one of `Session::turn`, with a link in memory. Where the session stood for what it was
--- fed and its calls it does so after it, what it sent begins what it owes, and its pushes are the units that its messages publish
+-- fed and its calls it does so after it, what it sent begins what it owes, its pushes are the units that its messages publish, and it
+-- asks for nothing but what it was granted
 pub record Turned (desk : Ask → Grant) (port : SoleState) (c : ConnState) (port' : SoleState) (d : ConnState) : Type 0 where
   pub answer : Turn
   pub between : SoleState
@@ -152,6 +156,7 @@ pub record Turned (desk : Ask → Grant) (port : SoleState) (c : ConnState) (por
   pub stands : StandsFor desk c.session → StandsFor desk mid
   pub owed : StandsFor desk mid → BeginsOwed desk mid.parts
   pub whole : StandsFor desk mid → IsWhole desk mid.parts
+  pub acts : StandsFor desk c.session → ActsBy c.session.ended c.session.parts c.session.seat → ActsBy mid.ended mid.parts mid.seat
   pub lasts : lasting_of mid.parts ≡ lasting_of c.session.parts
   -- the histories went on
   pub roots : GoOn (journal_at port.books) (journal_at between.books)

@@ -6,6 +6,7 @@ use Rattle.command_dialog.specs.declared.types.Grant.{Grant}
 use Rattle.relay_base.specs.declared.limits.Limits.{Limits as AllLimits}
 use Rattle.relay_outside.specs.MemLinks.{MemLinkState}
 use Rattle.session_owed.specs.Standing.{new_past}
+use Rattle.relay_session.specs.Acting.{ActsBy}
 use Rattle.relay_session.specs.Keeping.{past_of}
 use Rattle.relay_session.specs.Owing.{nothing}
 use Rattle.relay_session.specs.SessionState.{BeginsOwed, IsWhole, SessionState, StandsFor}
@@ -54,6 +55,7 @@ pub record IsNewSession (limits : AllLimits) (who : ℕ) (c : ConnState) : Type 
   pub stands : (desk : Ask → Grant) → StandsFor desk c.session
   pub owed : (desk : Ask → Grant) → BeginsOwed desk c.session.parts
   pub whole : (desk : Ask → Grant) → IsWhole desk c.session.parts
+  pub acts : ActsBy c.session.ended c.session.parts c.session.seat
   pub link_is : c.link ≡ new_link
   pub ended : c.ended ≡ None
 

@@ -2,8 +2,6 @@
 use Rattle.std.specs.Prelude.{◌≡◌, ◌<◌, ◌≤◌, ℕ, zero, suc, ◌+◌, ◌*◌, List, [], ◌∷◌, ◌++◌, length, reverse, slice_get, codes, Option, None, Some}
 use Rattle.std.specs.Fmt.{decimal}
 use Rattle.hex.specs.Hex.{encode_lower}
-use Rattle.chunk_reader.specs.declared.fail.ReadCause.{ReadCause}
-use Rattle.chunk_reader.specs.declared.fail.ReadCause.TheVariants as cause
 use Rattle.media_recorder.specs.Mediums.{most_held as most_recorded}
 use Rattle.media_recorder.specs.declared.turn.RecEnd.{RecEnd}
 use Rattle.media_recorder.specs.declared.turn.RecEnd.TheVariants as rec_end
@@ -23,10 +21,10 @@ use Rattle.http_flv.specs.declared.end.HttpEnd.{HttpEnd}
 use Rattle.http_flv.specs.declared.end.HttpEnd.TheVariants as http_end
 use Rattle.rtmp_client.specs.Bounds.{IsWithin}
 use Rattle.rtmp_client.specs.declared.end.ClientEnd.{ClientEnd}
-use Rattle.rtmp_client.specs.declared.end.ClientEnd.TheVariants as client_end
 use Rattle.origin_pull.specs.EdgeState as edge
+use Rattle.origin_pull.specs.Words as edge_words
+use Rattle.origin_pull.specs.Words.{cause_text}
 use Rattle.origin_pull.specs.declared.end.EdgeEnd.{EdgeEnd}
-use Rattle.origin_pull.specs.declared.end.EdgeEnd.TheVariants as edge_end
 use Rattle.relay_replay.specs.Guests.{ConnState, PlayState, PullState}
 use Rattle.relay_replay.specs.declared.guest.Guest.{Guest}
 use Rattle.relay_replay.specs.declared.guest.Guest.TheVariants as guest
@@ -40,15 +38,6 @@ hex_text [] = codes "-"
 hex_text (b ∷ bytes) = encode_lower (b ∷ bytes)
 
 -- ---- E
-
-abbrev pub cause_text : ReadCause → List ℕ
-cause_text (cause.NoHead id) = codes "nohead"
-cause_text cause.TooManyIds = codes "toomanyids"
-cause_text (cause.TooLong length) = codes "toolong"
-cause_text cause.TooMuch = codes "toomuch"
-cause_text (cause.BadChunkSize value) = codes "badchunksize"
-cause_text cause.OutOfMemory = codes "outofmemory"
-cause_text cause.TooFar = codes "toofar"
 
 abbrev pub end_text : Option End → List ℕ
 end_text None = codes "none"
@@ -73,28 +62,10 @@ http_end_text (Some http_end.Worn) = codes "worn"
 http_end_text (Some http_end.OutOfMemory) = codes "outofmemory"
 http_end_text (Some http_end.Closed) = codes "closed"
 
--- of an edge's client
-abbrev pub client_end_text : Option ClientEnd → List ℕ
-client_end_text None = codes "none"
-client_end_text (Some client_end.PeerClosed) = codes "peerclosed"
-client_end_text (Some client_end.LinkFault) = codes "linkfault"
-client_end_text (Some (client_end.BadVersion at)) = codes "badversion " ++ decimal at
-client_end_text (Some (client_end.BadChunk cause at)) = codes "badchunk " ++ cause_text cause ++ codes " " ++ decimal at
-client_end_text (Some (client_end.BadControl at)) = codes "badcontrol " ++ decimal at
-client_end_text (Some (client_end.BadCommand at)) = codes "badcommand " ++ decimal at
-client_end_text (Some (client_end.Refused code)) = codes "refused"
-client_end_text (Some client_end.Done) = codes "done"
-client_end_text (Some client_end.OutOfMemory) = codes "outofmemory"
-
--- and of the edge
+-- of an edge, with why its client has
 abbrev pub edge_end_text : Option EdgeEnd → Option ClientEnd → List ℕ
-edge_end_text None e = codes "none"
-edge_end_text (Some edge_end.Client) e = client_end_text e
-edge_end_text (Some (edge_end.InUse by)) e = codes "inuse"
-edge_end_text (Some edge_end.NoSlot) e = codes "noslot"
-edge_end_text (Some edge_end.Worn) e = codes "worn"
-edge_end_text (Some edge_end.OutOfMemory) e = codes "outofmemory"
-edge_end_text (Some edge_end.Closed) e = codes "closed"
+edge_end_text None c = codes "none"
+edge_end_text (Some e) c = edge_words.end_text e c
 
 abbrev pub end_words : Guest → List ℕ
 end_words (guest.Session c) = end_text c.ended

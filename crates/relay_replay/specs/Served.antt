@@ -3,6 +3,7 @@ use Rattle.std.specs.Prelude.{◌≡◌, All, Option, None, Some}
 use Rattle.command_dialog.specs.declared.types.Ask.{Ask}
 use Rattle.command_dialog.specs.declared.types.Grant.{Grant}
 use Rattle.stream_registry.specs.Books.{SeenState}
+use Rattle.relay_session.specs.Acting.{ActsBy}
 use Rattle.relay_session.specs.SessionState.{BeginsOwed, SessionState, StandsFor}
 use Rattle.relay_session.specs.declared.end.End.{End}
 use Rattle.http_flv.specs.PlayerState as http
@@ -21,11 +22,12 @@ StandsIf None desk s = StandsFor desk s
 StandsIf (Some e) desk s = Unit {0}
 
 -- WHAT A SESSION WAS SENT BEGINS WHAT IT OWES before this desk: for the bytes that it was fed, the messages that they read as, and
--- its calls with their replies. Its link took just that
+-- its calls with their replies. Its link took just that. It asked for nothing but what it was granted
 pub record IsServed (desk : Ask → Grant) (c : ConnState) : Type 0 where
   pub stands : StandsIf c.ended desk c.session
   pub owed : BeginsOwed desk c.session.parts
   pub took : c.link.sent ≡ c.session.parts.sent
+  pub acts : ActsBy c.session.ended c.session.parts c.session.seat
 
 abbrev pub PlayerStandsIf : Option HttpEnd → (Ask → Grant) → PlayerState SeenState → Type 0
 PlayerStandsIf None desk s = http.StandsFor desk s

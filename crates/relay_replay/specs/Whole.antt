@@ -8,7 +8,8 @@ use Rattle.stream_model.specs.declared.calls.Entry.{Entry}
 use Rattle.stream_registry.specs.Books.{journal_at, sole_rules}
 use Rattle.stream_registry.specs.Told.{Histories, Keeps}
 use Rattle.turn_gate.specs.Histories.{Begins}
-use Rattle.relay_session.specs.SeatOwn.{own}
+use Rattle.relay_session.specs.Acting.{ActsBy}
+use Rattle.relay_session.specs.SeatOwn.{AreAnswered, own}
 use Rattle.relay_session.specs.SeatVisits.{calls_at, calls_of}
 use Rattle.relay_session.specs.SessionState.{IsWhole}
 use Rattle.relay_session.specs.declared.end.End.{End}
@@ -42,8 +43,8 @@ IsMadeBy None calls all = all ≡ calls
 IsMadeBy (Some e) calls all = Begins calls all
 
 -- THE SESSION OF THAT NUMBER, to which the lines gave these bytes. They are those that its link gave and those that wait there. What it was
--- sent begins what it owes for the messages that the bytes fed read as and for its calls, its pushes are the units that these publish, and
--- its calls are all that bear its number in the streams' histories
+-- sent begins what it owes for the messages that the bytes fed read as and for its calls, its pushes are the units that these publish, it
+-- asked for nothing but what it was granted, and its calls are all that bear its number in the streams' histories
 pub record Follows (desk : Ask → Grant) (histories : Histories) (given : List ℕ) (n : ℕ) (c : ConnState) : Type 0 where
   pub who : c.session.parts.who ≡ n
   pub named : (e : Entry) → c.session.parts.kept ≡ Some e → e.who ≡ n
@@ -54,6 +55,7 @@ pub record Follows (desk : Ask → Grant) (histories : Histories) (given : List 
   pub waited : Option Entry
   pub whole : IsWhole desk (record c.session.parts { kept = waited })
   pub took : c.link.sent ≡ c.session.parts.sent
+  pub acts : ActsBy c.session.ended c.session.parts c.session.seat
   pub made : IsMadeBy c.ended c.session.parts.calls (calls_of c.session.seat.visits)
   pub own_all : All (λ v. v.1.0.who ≡ n) c.session.seat.visits
   pub calls : (q : ℕ) → own n (reverse (histories q)) ≡ calls_at q c.session.seat.visits
@@ -85,6 +87,10 @@ pub record IsRun (desk : Ask → Grant) (given : ℕ → List ℕ) (c : CastStat
   pub unopened : (n : ℕ) → length c.sessions ≤ n → given n ≡ []
   pub sessions : (n : ℕ) (s : ConnState) → slice_get c.sessions n ≡ Some (guest.Session s) → Follows desk (journal_at c.port.books) (given n) n s
   pub recorders : (m : ℕ) (r : RecState) → slice_get c.recorders m ≡ Some r → Records (journal_at c.port.books) m r
+
+-- so at each stream and open table EACH PUSH OF A SESSION WAS ANSWERED Pushed and each End Ended, and none of its Takes and Leaves NotPlayer
+abbrev pub SessionsAnswered : CastState → Type 0
+SessionsAnswered c = (n : ℕ) (s : ConnState) → slice_get c.sessions n ≡ Some (guest.Session s) → (q : ℕ) → AreAnswered (calls_at q s.session.seat.visits)
 
 -- a session, and neither a player over HTTP nor an edge
 abbrev pub IsSession : Guest → Type 0

@@ -2,8 +2,9 @@
 //! and what is printed of them at its end.
 //!
 //! A [`Scene`] takes the lines of a script one after another. Links and files are in memory, and the streams and open tables are
-//! those of one thread, so what is printed follows from the script alone. Read `specs/Stand.antt` first (where a line may stand), then
-//! `specs/Scenes.antt` (what it does) and `specs/Prints.antt` (what is printed). What the lines are is `relay_script`'s.
+//! those of one thread. What is printed of a script that opens sessions alone follows from it but for TOTAL, by the law of crate
+//! `replay_law`. Read `specs/Stand.antt` first (where a line may stand), then `specs/Scenes.antt` (what it does) and
+//! `specs/Prints.antt` (what is printed). What the lines are is `relay_script`'s.
 #![tactic(auto)]
 
 mod cast;

@@ -1,12 +1,12 @@
-ghost use Rattle.std.specs.Prelude.{◌≡◌, ◌+◌, ◌*◌, ◌++◌, ◌≤◌, length, IfOk, OnOk, codes, string_bytes};
+ghost use Rattle.std.specs.Prelude.{◌≡◌, ◌+◌, ◌*◌, ◌++◌, ◌≤◌, length, IfOk, OnOk, string_bytes};
 ghost use Rattle.relay_base.specs.declared.limits.Limits.{Limits as AllLimits};
 ghost use Rattle.relay_config.specs.Sum.{total_of};
 ghost use Rattle.stream_registry.specs.Names.{slots_sum};
 ghost use Rattle.relay_replay.specs.Scenes.{AreNamed, IsLimited, IsPortOf};
-ghost use Rattle.relay_replay.specs.Prints.{cause_text, client_end_text, edge_end_text, end_text, end_words, http_end_text, rec_end_text};
+ghost use Rattle.origin_pull.specs.Words.{cause_text};
+ghost use Rattle.relay_replay.specs.Prints.{edge_end_text, end_text, end_words, http_end_text, rec_end_text};
 ghost use Rattle.relay_replay.specs.Prints.{hex_text, session_lines, recorder_lines, stream_line, open_line, held_line};
 ghost use Rattle.relay_replay.specs.Plays.{link_of};
-ghost use Rattle.std.specs.Fmt.{decimal};
 ghost use Rattle.relay_replay.specs.Prints.{sessions_text, recorders_text, streams_text, opens_text, held_at, most_of, streams_hold, opens_hold};
 ghost use Rattle.relay_replay.specs.Prints.{AllHold, GuestHolds, IsReport, IsTotal, RecHolds, StreamsWithin, TablesWithin};
 
@@ -81,31 +81,6 @@ fn http_end_text(alloc: Global, end: Option<HttpEnd>) -> Result<String, OutOfMem
     }
 }
 
-// How an edge's client ended.
-fn client_end_text(alloc: Global, end: &Option<ClientEnd>) -> Result<String, OutOfMemory>
-    ensures { IfOk result (λ text. string_bytes text ≡ client_end_text end.now) }
-{
-    match end {
-        None => Ok(format!(in alloc; "none")?),
-        Some(ClientEnd::PeerClosed) => Ok(format!(in alloc; "peerclosed")?),
-        Some(ClientEnd::LinkFault) => Ok(format!(in alloc; "linkfault")?),
-        Some(ClientEnd::BadVersion { at }) => at_text(alloc, "badversion", *at),
-        Some(ClientEnd::BadChunk { cause, at }) => bad_chunk_text(alloc, *cause, *at),
-        Some(ClientEnd::BadControl { at }) => at_text(alloc, "badcontrol", *at),
-        Some(ClientEnd::BadCommand { at }) => at_text(alloc, "badcommand", *at),
-        Some(ClientEnd::Refused { code: _ }) => Ok(format!(in alloc; "refused")?),
-        Some(ClientEnd::Done) => Ok(format!(in alloc; "done")?),
-        Some(ClientEnd::OutOfMemory) => Ok(format!(in alloc; "outofmemory")?),
-    }
-}
-
-// A word and a place.
-fn at_text(alloc: Global, word: &'static str, at: u64) -> Result<String, OutOfMemory>
-    ensures { IfOk result (λ text. string_bytes text ≡ word.now ++ codes " " ++ decimal at) }
-{
-    Ok(format!(in alloc; "{word} {at}")?)
-}
-
 // How an edge ended.
 fn edge_end_text(
     alloc: Global,
@@ -116,12 +91,7 @@ fn edge_end_text(
 {
     match end {
         None => Ok(format!(in alloc; "none")?),
-        Some(EdgeEnd::Client) => client_end_text(alloc, client),
-        Some(EdgeEnd::InUse { by: _ }) => Ok(format!(in alloc; "inuse")?),
-        Some(EdgeEnd::NoSlot) => Ok(format!(in alloc; "noslot")?),
-        Some(EdgeEnd::Worn) => Ok(format!(in alloc; "worn")?),
-        Some(EdgeEnd::OutOfMemory) => Ok(format!(in alloc; "outofmemory")?),
-        Some(EdgeEnd::Closed) => Ok(format!(in alloc; "closed")?),
+        Some(end) => origin_pull::end_text(alloc, end, client),
     }
 }
 

@@ -1,8 +1,6 @@
 -- What a worker's books say, step by step
-use Rattle.std.proofs.Common.{◌≡◌, ◌≢◌, inl, inr, ℕ, zero, suc, ◌+◌, ◌^◌, ◌<◌, Bool, true, false, ◌&&◌, ◌||◌, nat_lt, List, [], ◌∷◌, ◌++◌, length, map, slice_get, Option, Some, None, get_or, nat_eq, count_by, is_some, if◌then◌else◌, refl, sym, ap, ◌∙◌, subst, arith, append_assoc, append-nil}
+use Rattle.std.proofs.Common.{◌≡◌, ◌≢◌, inl, inr, ℕ, zero, suc, ◌+◌, ◌^◌, ◌<◌, Bool, true, false, ◌&&◌, ◌||◌, nat_lt, List, [], ◌∷◌, ◌++◌, length, map, slice_get, Option, Some, None, get_or, count_by, is_some, if◌then◌else◌, refl, sym, ap, ◌∙◌, subst, arith, append_assoc, append-nil}
 use Rattle.std.specs.Prelude.{All, drop}
-use Rattle.std.proofs.lemmas.Bool.{cases_eq}
-use Rattle.std.proofs.lemmas.Bool.Decides.{nat_tests}
 use Rattle.std.proofs.lemmas.List.{length_push, map_push, reverse-append}
 use Rattle.std.proofs.lemmas.List.Elements.{All-cons, All-nil, All-push}
 use Rattle.std.proofs.lemmas.List.Quantifiers.{all_pairs_push}
@@ -31,6 +29,7 @@ use Rattle.stream_registry.specs.Splits.{Kin}
 use Rattle.stream_registry.specs.Told.{Step, Histories}
 use Rattle.turn_gate.specs.declared.view.Branch.{Branch}
 use Rattle.turn_gate.specs.Histories.{Begins}
+use Rattle.relay_session.specs.Acting.{Acting, ActsBy, HasGrant}
 use Rattle.relay_session.specs.Decided.{IsDecided}
 use Rattle.relay_session.specs.Onward.{GoesOn}
 use Rattle.relay_session.specs.Places.{Asked, AskedAlone}
@@ -50,9 +49,10 @@ use Rattle.relay_session.specs.declared.seat_answers.Made.{Made}
 use Rattle.relay_session.specs.declared.seat_answers.Made.TheVariants as made
 use Rattle.relay_session.specs.declared.turn.Turn.{Turn}
 use Rattle.relay_session.specs.declared.turn.Turn.TheVariants as turn
+use Rattle.relay_session.proofs.Acting.{granted_at}
 use Rattle.relay_session.proofs.SeatStanding.{active_more, all_later, all_more, begins_same, others_later}
 use Rattle.relay_worker.specs.Benches.{IsNamed, IsSound, WorkerState}
-use Rattle.relay_worker.specs.Books.{Account, Accounted, HasGone, HasGrant, HasStopped, IsCause, IsEndedBy, IsParting, IsBackAfter, IsWaited, LeavesBy, Lives, Owns, OwesBy, Settled, TiesBy, WaitsOrMade, Works}
+use Rattle.relay_worker.specs.Books.{Account, Accounted, HasGone, HasStopped, IsCause, IsEndedBy, IsParting, IsBackAfter, IsWaited, LeavesBy, Lives, Owns, OwesBy, Settled, TiesBy, WaitsOrMade, Works}
 use Rattle.relay_worker.specs.Rounds.{Admits, AdmitsIf, ClosesAt, ClosesBy, ClosesIf, GoesIf, IsAdmitted, IsGone, IsLeft, IsTurned, Recorded, RecordsAt, RecordsIf, Rounds, TurnsAt, TurnsBy, TurnsIf, Walks, asks_door, begun, has_left}
 use Rattle.relay_worker.specs.Running.{IsReadied}
 use Rattle.relay_worker.specs.Sessions.{Closes, IsNewSession, TakesTurn, is_spent, is_worn, lacks_memory, wears_out}
@@ -67,24 +67,16 @@ use Rattle.relay_worker.proofs.Slabs.{gone_cases, put_cases}
 use Rattle.relay_worker.proofs.Sounding.{Single, named_more, single_gone, single_more, single_put}
 use Rattle.relay_worker.proofs.Turning.{Deciding, Tied, leaves}
 
+-- ---- what it asks for
+
+-- whether it lives or has ended
+acting_of : {Q : Type 0} (o : Option End) (c : Core) (s : SeatState Q) → ActsBy o c s → Acting c s
+acting_of None c s a = a.0
+acting_of (Some e) c s a = a
+
 -- ---- what is granted at a place
 
--- a test of places
-place_is : (q place : ℕ) → nat_eq q place ≡ true → q ≡ place
-place_is q place is = elim (cases_eq q place) [
-  | inl e ↦ e
-  | inr d ↦ absurd (let f : nat_eq q place ≡ false = grind (arith, nat_tests) in let n : true ≡ false = sym is ∙ f in cc)
-]
-
 module _ {Q : Type 0} where
-  granted_if : (p : ℕ × Q) (a : Active) (visits : List Visit) (place : ℕ) (b : Bool) → nat_eq p.0 place ≡ b → IsGranted a (calls_at p.0 visits) → IsGranted (if b then a else active.Nothing) (calls_at place visits)
-  granted_if p a visits place true is g = subst (λ (q : ℕ). IsGranted a (calls_at q visits)) (place_is p.0 place is) g
-  granted_if p a visits place false is g = tt
-
-  granted_at : (spot : Option (ℕ × Q)) (a : Active) (visits : List Visit) (place : ℕ) → HasGrant spot a visits → IsGranted (active_at spot a place) (calls_at place visits)
-  granted_at None a visits place g = tt
-  granted_at (Some p) a visits place g = granted_if p a visits place (nat_eq p.0 place) refl g
-
   -- it is where it stays
   granted_here : (spot : Option (ℕ × Q)) (o : Option ℕ) (a : Active) (visits : List Visit) → place_of spot ≡ o → ((q : ℕ) (pass : Q) → o ≡ Some q → IsGranted a (calls_at q visits)) → HasGrant spot a visits
   granted_here None o a visits at g = tt
@@ -442,7 +434,7 @@ module _ {P Q L : Type 0} (rules : P → PortRules) (root : P → Histories) (se
   Here x accounts s = Lives rules root seen told counts desk t x accounts s
 
   holds_of : (x : P) (accounts : List Account) (s : Seated P L Q) → Here x accounts s → Holds rules root seen x s.session.seat
-  holds_of x accounts s w = record { calls = w.calls; granted = w.granted }
+  holds_of x accounts s w = record { calls = w.calls; granted = (acting_of s.session.ended s.session.parts s.session.seat w.acts).granted }
 
   -- others have made calls
   lives_on : (x y : P) (accounts : List Account) (s : Seated P L Q) → rules y ≡ rules x → GoOn (root x) (root y) → Here x accounts s → Here y accounts s
@@ -451,7 +443,7 @@ module _ {P Q L : Type 0} (rules : P → PortRules) (root : P → Histories) (se
     max = w.max;
     owes = w.owes;
     calls = calls_on rules root seen x y s.session.seat same g w.calls;
-    granted = w.granted;
+    acts = w.acts;
     own = w.own;
     ties = w.ties;
     fresh = w.fresh;
@@ -465,7 +457,7 @@ module _ {P Q L : Type 0} (rules : P → PortRules) (root : P → Histories) (se
     max = w.max;
     owes = w.owes;
     calls = w.calls;
-    granted = w.granted;
+    acts = w.acts;
     own = w.own;
     ties = w.ties;
     fresh = All-push (λ (b : Account). b.who ≢ s.session.parts.who) accounts a w.fresh other;
@@ -483,7 +475,7 @@ module _ {P Q L : Type 0} (rules : P → PortRules) (root : P → Histories) (se
         owes = subst (λ (o : Option End). OwesBy (told s.link) (counts s.link) desk o s.session.parts s.session.seat.visits) (sym n.lives)
             (subst (λ (o : Option End). StandsBy o desk s.session.parts) n.lives stands, ap calls_of none ∙ sym (ap (λ (p : Past). p.calls) n.past));
         calls = subst (λ (v : List Visit). AllStand (rules x).limits (known root seen x s.session.seat) v) (sym none) (record { at_each = λ q. tt });
-        granted = subst (λ (o : Option (ℕ × Q)). HasGrant o s.session.seat.active s.session.seat.visits) (sym n.nowhere.0) tt;
+        acts = n.acts;
         own = record {
           made = subst (λ (v : List Visit). All (λ (w : Visit). w.1.0.who ≡ s.session.parts.who) v) (sym none) (All-nil (λ (w : Visit). w.1.0.who ≡ s.session.parts.who));
           waits = λ e is. absurd (let k : s.session.parts.kept ≡ None = ap (λ (p : Past). p.kept) n.past in let m : None ≡ Some e = sym k ∙ is in cc);
@@ -510,6 +502,7 @@ module _ {P Q L : Type 0} (rules : P → PortRules) (root : P → Histories) (se
         let l = leaves told counts (λ (z : SeatState Q). z.visits) s.session.quit desk decided Asks (λ z v place e r z' v' k. k.asked.makes) hears hears_mean says says_mean s.session.ended (life_at s.session x) s.link a (life_at s'.session y) s'.link n u.turn in
         let h = moves_turned (On rules root seen) (on_stays rules root seen) (on_chain rules root seen) Asks (on_alone rules root seen fits count wants busies adds kin branches) desk hears says s.session.ended s.session.quit
         (life_at s.session x) s.link a (life_at s'.session y) s'.link u.turn (holds_of x accounts s w) in
+        let stood = owes_living (told s.link) (counts s.link) desk s.session.ended s.session.parts s.session.seat.visits n w.owes in
         let tied : Tied desk s'.session.ended (told s'.link) (counts s'.link) s'.session.parts s'.session.input =
         subst (λ (o : Option End). Tied desk o (told s'.link) (counts s'.link) s'.session.parts s'.session.input) (sym u.ended)
         (l.ties (w.unasked n) (subst (λ (o : Option End). TiesBy o (told s.link) s.session.parts.x s.session.input s.session.parts.sent) n w.ties)) in
@@ -517,9 +510,9 @@ module _ {P Q L : Type 0} (rules : P → PortRules) (root : P → Histories) (se
           window = l.firm.window ∙ w.window;
           max = l.firm.max ∙ w.max;
           owes = owes_by (told s'.link) (counts s'.link) desk s'.session.ended s'.session.parts s'.session.seat.visits s'.session.input (sym u.calls)
-              (u.stands (owes_living (told s.link) (counts s.link) desk s.session.ended s.session.parts s.session.seat.visits n w.owes)) tied;
+              (u.stands stood) tied;
           calls = h.calls;
-          granted = h.granted;
+          acts = u.acts stood w.acts;
           own = l.owns w.own;
           ties = ties_by (told s'.link) (counts s'.link) desk s'.session.ended s'.session.parts s'.session.input tied;
           fresh = subst (λ (who : ℕ). All (λ (b : Account). b.who ≢ who) accounts) (sym u.who) w.fresh;
@@ -538,7 +531,8 @@ module _ {P Q L : Type 0} (rules : P → PortRules) (root : P → Histories) (se
       max : now.parts.reader.max ≡ t.limits.max_message
       waited : Option Entry
       gone : HasGone (told link) (counts link) desk e waited (gone_but_kept now.parts)
-      holds : Holds rules root seen y now.seat
+      stand : AllStand (rules y).limits (known root seen y now.seat) now.seat.visits
+      acts : Acting now.parts now.seat
       calls : LeftAs left waited now.parts.calls now.seat.visits now.parts.kept
       own : Owns now.parts.who now.seat.visits now.parts.kept
       fresh : All (λ (a : Account). a.who ≢ now.parts.who) accounts
@@ -553,7 +547,8 @@ module _ {P Q L : Type 0} (rules : P → PortRules) (root : P → Histories) (se
           max = ap (λ (g : Gone). g.max) (ap gone_but_kept c.parts) ∙ w.max;
           waited = stopped.waited;
           gone = subst (HasGone (told s.link) (counts s.link) desk e stopped.waited) (sym (ap gone_but_kept c.parts)) stopped.gone;
-          holds = holds_closed fits rules root seen count wants busies adds kin branches (place_of s.session.seat.spot) x y s.session now answer refl c (holds_of x accounts s w);
+          stand = (holds_closed fits rules root seen count wants busies adds kin branches (place_of s.session.seat.spot) x y s.session now answer refl c (holds_of x accounts s w)).calls;
+          acts = c.acts (acting_of s.session.ended s.session.parts s.session.seat w.acts);
           calls = subst (λ (l : List Own). LeftAs (has_left answer) stopped.waited l now.seat.visits now.parts.kept) (sym (ap (λ (g : Gone). g.calls) (ap gone_but_kept c.parts)))
               (left_from (place_of s.session.seat.spot) answer stopped.waited s.session.parts.kept s.session.parts.calls s.session.parts.who s.session.parts.fed s.session.seat.active s.session.seat.visits now.parts.kept now.seat.active now.seat.visits c.leaves
               (record { left = stopped.left; calls_are = stopped.calls_are; leaving = stopped.leaving }));
@@ -568,8 +563,8 @@ module _ {P Q L : Type 0} (rules : P → PortRules) (root : P → Histories) (se
       max = l.max;
       owes = subst (λ (o : Option End). OwesBy (told s'.link) (counts s'.link) desk o s'.session.parts s'.session.seat.visits) (sym is)
           (record { waited = l.waited; gone = l.gone; left = l.calls.left; calls_are = l.calls.calls_are; leaving = l.calls.leaving });
-      calls = l.holds.calls;
-      granted = l.holds.granted;
+      calls = l.stand;
+      acts = subst (λ (o : Option End). ActsBy o s'.session.parts s'.session.seat) (sym is) l.acts;
       own = l.own;
       ties = subst (λ (o : Option End). TiesBy o (told s'.link) s'.session.parts.x s'.session.input s'.session.parts.sent) (sym is) tt;
       fresh = l.fresh;
@@ -593,8 +588,9 @@ module _ {P Q L : Type 0} (rules : P → PortRules) (root : P → Histories) (se
           ms = sent.ms;
           read = subst (λ (m : ℕ). IsRead m (drop hand_bytes now.parts.x) sent.ms) l.max sent.read;
           visits = now.seat.visits;
-          stand = subst (λ (h : Histories). AllStand (rules y).limits h now.seat.visits) here l.holds.calls;
+          stand = subst (λ (h : Histories). AllStand (rules y).limits h now.seat.visits) here l.stand;
           own = l.own.made;
+          acts = l.acts.acts;
           calls = now.parts.calls;
           waited = l.waited;
           talks = subst (λ (k : ℕ). Talks (session now.parts.who k desk) (count_of (session now.parts.who k desk) now.parts.x) sent.ms now.parts.calls l.waited) l.window sent.talks;
@@ -616,6 +612,7 @@ accounted_on desk t limits limits' h h' a same g w = record {
   visits = w.visits;
   stand = subst (λ (l : ℕ → Shape). AllStand l h' w.visits) (sym same) (all_later limits h h' w.visits g w.stand);
   own = w.own;
+  acts = w.acts;
   calls = w.calls;
   waited = w.waited;
   talks = w.talks;

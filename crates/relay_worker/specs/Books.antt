@@ -18,9 +18,11 @@ use Rattle.stream_model.specs.declared.calls.Shape.{Shape}
 use Rattle.stream_registry.specs.Names.{PortRules}
 use Rattle.stream_registry.specs.Told.{Step, Histories}
 use Rattle.turn_gate.specs.Histories.{Begins}
+use Rattle.relay_session.specs.Acting.{ActsBy}
 use Rattle.relay_session.specs.Decided.{IsDecided}
 use Rattle.relay_session.specs.Session.{session}
-use Rattle.relay_session.specs.SeatState.{IsGranted, known}
+use Rattle.relay_session.specs.SeatOwn.{Acts}
+use Rattle.relay_session.specs.SeatState.{known}
 use Rattle.relay_session.specs.SeatVisits.{AllStand, Visit, calls_at, calls_of}
 use Rattle.relay_session.specs.Keeping.{StandsBefore}
 use Rattle.relay_session.specs.SessionState.{gone_but_kept}
@@ -28,7 +30,6 @@ use Rattle.relay_session.specs.Turns.{Gone}
 use Rattle.relay_session.specs.declared.core_fields.Core.{Core}
 use Rattle.relay_session.specs.declared.end.End.{End}
 use Rattle.relay_session.specs.declared.end.End.TheVariants as end
-use Rattle.relay_session.specs.declared.seat_answers.Active.{Active}
 use Rattle.relay_worker.specs.Benches.{IsNamed, WorkerState, who_of}
 use Rattle.relay_worker.specs.Running.{EachAt}
 use Rattle.relay_worker.specs.declared.bench.Bench.{Bench}
@@ -107,10 +108,10 @@ pub record Account : Type 0 where
   pub link : Returned
 
 -- ITS SESSION was fed the first bytes that the link gave. Its calls bear its name and stand in the histories of their streams,
--- each once and in their order, answered by the rules. They are those that the messages of these bytes ask for and its Takes, and
--- then those by which it left: so each unit that it pushed is one that its messages publish. What the link took begins what is
--- owed before this desk for these bytes and the first of these calls. The bytes that the link gave are the cause of its end, where
--- these messages and calls had left its dialogue
+-- each once and in their order, answered by the rules. At each of them it asked for nothing but what it was granted there. They are
+-- those that the messages of these bytes ask for and its Takes, and then those by which it left: so each unit that it pushed is one
+-- that its messages publish. What the link took begins what is owed before this desk for these bytes and the first of these calls.
+-- The bytes that the link gave are the cause of its end, where these messages and calls had left its dialogue
 pub record Accounted (desk : Ask → Grant) (t : Terms) (limits : ℕ → Shape) (histories : Histories) (a : Account) : Type 0 where
   pub x : List ℕ
   pub fed : Begins x a.link.gave
@@ -119,6 +120,7 @@ pub record Accounted (desk : Ask → Grant) (t : Terms) (limits : ℕ → Shape)
   pub visits : List Visit
   pub stand : AllStand limits histories visits
   pub own : All (λ v. v.1.0.who ≡ a.who) visits
+  pub acts : (q : ℕ) → Acts (calls_at q visits)
   pub calls : List Own
   -- the call that waited as it ended
   pub waited : Option Entry
@@ -162,21 +164,16 @@ abbrev pub OwesBy : Option LinkTold → LinkCounts → (Ask → Grant) → Optio
 OwesBy told counts desk None c visits = StandsBefore desk c × (calls_of visits ≡ c.calls)
 OwesBy told counts desk (Some e) c visits = HasStopped told counts desk e c visits
 
--- it is granted what its calls say, where it has a pass
-abbrev pub HasGrant : {Q : Type 0} → Option (ℕ × Q) → Active → List Visit → Type 0
-HasGrant None a visits = Unit {0}
-HasGrant (Some p) a visits = IsGranted a (calls_at p.0 visits)
-
 module _ {P Q L : Type 0} (rules : P → PortRules) (root : P → Histories) (seen : Q → List Step)
     (told : L → Option LinkTold) (counts : L → LinkCounts) (desk : Ask → Grant) (t : Terms) (port : P) where
-  -- what was sent is what it owes or begins it, its calls stand in what is known, its bytes are those of its link, none of these
-  -- accounts has its name, and it isn't told to end
+  -- what was sent is what it owes or begins it, its calls stand in what is known, it asked for nothing but what it was granted, its
+  -- bytes are those of its link, none of these accounts has its name, and it isn't told to end
   pub record Lives (accounts : List Account) (s : Seated P L Q) : Type 0 where
     pub window : s.session.parts.window ≡ t.limits.window
     pub max : s.session.parts.reader.max ≡ t.limits.max_message
     pub owes : OwesBy (told s.link) (counts s.link) desk s.session.ended s.session.parts s.session.seat.visits
     pub calls : AllStand (rules port).limits (known root seen port s.session.seat) s.session.seat.visits
-    pub granted : HasGrant s.session.seat.spot s.session.seat.active s.session.seat.visits
+    pub acts : ActsBy s.session.ended s.session.parts s.session.seat
     pub own : Owns s.session.parts.who s.session.seat.visits s.session.parts.kept
     pub ties : TiesBy s.session.ended (told s.link) s.session.parts.x s.session.input s.session.parts.sent
     pub fresh : All (λ a. a.who ≢ s.session.parts.who) accounts

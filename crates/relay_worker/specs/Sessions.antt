@@ -10,6 +10,7 @@ use Rattle.stream_registry.specs.Names.{PortRules}
 use Rattle.stream_registry.specs.Splits.{Kin}
 use Rattle.stream_registry.specs.Told.{Step, Histories}
 use Rattle.turn_gate.specs.declared.view.Branch.{Branch}
+use Rattle.relay_session.specs.Acting.{Acting, ActsBy}
 use Rattle.relay_session.specs.Alone.{GrowsFrom, LeavesSplit}
 use Rattle.session_owed.specs.Standing.{new_past}
 use Rattle.relay_session.specs.Keeping.{past_of}
@@ -85,6 +86,7 @@ pub record IsNewSession {Q : Type 0} (t : Terms) (had : ℕ) (s : SessionState Q
   pub lives : s.ended ≡ None
   pub nowhere : (s.seat.spot ≡ None) × (s.seat.visits ≡ []) × (s.parts.place ≡ None)
   pub stands : (desk : Ask → Grant) → StandsFor desk s
+  pub acts : ActsBy s.ended s.parts s.seat
 
 -- ONE TURN of a session with its link, by the turn's own steps. One that has ended does nothing
 pub record TakesTurn {P Q L : Type 0} (asks : P → SeatState Q → ℕ → Entry → Made → P → SeatState Q → Type 0)
@@ -97,6 +99,7 @@ pub record TakesTurn {P Q L : Type 0} (asks : P → SeatState Q → ℕ → Entr
   pub who : s'.session.parts.who ≡ s.session.parts.who
   pub goes_on : goes port s.session.seat port' s'.session.seat
   pub stands : StandsFor desk s.session → StandsFor desk s'.session
+  pub acts : StandsFor desk s.session → ActsBy s.session.ended s.session.parts s.session.seat → ActsBy s'.session.ended s'.session.parts s'.session.seat
   pub calls : s'.session.parts.calls ≡ calls_of s'.session.seat.visits
 
 -- ONE CLOSE of a session that has ended
@@ -114,6 +117,7 @@ pub record Closes {P Q : Type 0} (fits : P → ℕ → Q → Type 0) (rules : P 
       (root port') (known root seen port' s'.seat)
   pub splits : LeavesSplit (place_of s.seat.spot) branches (kin port) s.seat.spot s.seat.visits s'.seat.visits (kin port') s'.seat.spot
   pub stands : StandsAt rules root seen port s.seat → StandsAt rules root seen port' s'.seat
+  pub acts : Acting s.parts s.seat → Acting s'.parts s'.seat
   pub roots : GoOn (root port) (root port')
   pub fixed : rules port' ≡ rules port
   pub later : busies port ≤ busies port'

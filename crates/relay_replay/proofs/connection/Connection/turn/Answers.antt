@@ -13,8 +13,8 @@ returns-clause-turn g c =
     c.after.new.port old new
     c.turn-answer.new.self c.turn-answer.result c.told_turn.result c.told_turn.ensures (search rules) c.turn-answer.ensures.turn
     c.turn-answer.ensures.stands (c.owed_law.ensures.owed (granted_from 0 c.args.desk.now.list.now c.args.desk.now.opens.now))
-    (c.owed_law.ensures.whole (granted_from 0 c.args.desk.now.list.now c.args.desk.now.opens.now)) c.turn-answer.ensures.lasts
-    c.turn-answer.ensures.goes_on.roots c.turn-answer.ensures.ended c.turn-answer.ensures.quit c.in_ok-after.ensures.leads)
+    (c.owed_law.ensures.whole (granted_from 0 c.args.desk.now.list.now c.args.desk.now.opens.now)) c.turn-answer.ensures.acts
+    c.turn-answer.ensures.lasts c.turn-answer.ensures.goes_on.roots c.turn-answer.ensures.ended c.turn-answer.ensures.quit c.in_ok-after.ensures.leads)
 
 pub returns-clause-fits : goal.returns-clause-fits
 returns-clause-fits g c = λ q p h. c.after.ensures.fits q p (c.turn-answer.ensures.goes_on.passes q p h)
