@@ -47,8 +47,8 @@ use Rattle.relay_replay.specs.Recorded.{IsRecorded}
 use Rattle.relay_replay.specs.Scenes.{Acts, AreNew, CastBy, Does, IsNewRecorder, IsOpen, SceneState, SettledIn, desk_of, is_acting, stand_of}
 use Rattle.relay_replay.specs.Served.{StandsIf}
 use Rattle.relay_replay.specs.Stand.{after, allows, count, is_setting}
-use Rattle.relay_replay.specs.Whole.{AreSessions, Follows, IsFedBy, IsMadeBy, IsOurs, IsRun, IsSession, Records, RunOf, Runs, RunsIf, SessionsAnswered, given_more}
-use Rattle.relay_replay.specs.Whole.{recorder_name}
+use Rattle.relay_replay.specs.Whole.{AreSessions, Follows, IsFedBy, IsMadeBy, IsOurs, IsRun, IsSession, Records, RunOf, Runs, RunsIf}
+use Rattle.relay_replay.specs.Whole.{SessionsAnswered, given_more, recorder_name}
 use Rattle.relay_replay.proofs.Comes.{Followed, begins_whole, followed_turn, whole_same}
 use Rattle.relay_replay.proofs.Following.{Bears, Grown, Lawful, grown_all, grown_one, grown_others, grown_same, limits_same, own_other, own_same}
 use Rattle.relay_replay.proofs.Recorders.{are_recorded}
