@@ -1,8 +1,7 @@
 -- What a client says at a message
-use Rattle.std.proofs.Common.{◌≡◌, ◌⊎◌, inl, inr, ℕ, Bool, true, false, ◌==◌, if◌then◌else◌, List, [], ◌∷◌, ◌++◌, Option, Some, None, Result, Ok, Err, OnOk, refl, sym, ap, ◌∙◌, subst, arith}
+use Rattle.std.proofs.Common.{◌≡◌, ℕ, Bool, true, false, ◌==◌, if◌then◌else◌, List, [], ◌∷◌, Option, Some, None, Result, Ok, Err, OnErr, OnOk, refl, sym, subst}
 use Rattle.av_unit.specs.declared.bytes.OutOfMemory.{OutOfMemory}
 use Rattle.chunk_wire.specs.declared.message.Message.{Message}
-use Rattle.chunk_writer.specs.WriterKnown.{WriterKnown}
 use Rattle.client_owed.specs.declared.types.Asked.{Asked}
 use Rattle.client_owed.specs.declared.types.News.{News}
 use Rattle.client_owed.specs.declared.types.News.TheVariants.{Done, Refused, Status, Other}
@@ -63,3 +62,7 @@ between k (Started id) n = refl
 pub on_ok : {A B : Type 0} (r : Result A B) (P : Type 0) → P → OnOk r P
 on_ok (Ok a) P p = p
 on_ok (Err e) P p = tt
+
+pub on_err : {A B : Type 0} (r : Result A B) (P : Type 0) → P → OnErr r P
+on_err (Ok a) P p = tt
+on_err (Err e) P p = p

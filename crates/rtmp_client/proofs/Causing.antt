@@ -1,7 +1,6 @@
 -- What a turn did, by its answer
-use Rattle.std.proofs.Common.{◌≡◌, ◌⊎◌, inl, inr, ◌<◌, ◌≤◌, ◌+◌, ◌-◌, ℕ, Bool, true, false, not, ◌&&◌, ◌||◌, nat_le, is_some, List, [], ◌∷◌, ◌++◌, length, take, Option, Some, None, Result, Ok, Err, refl, sym, ap, ◌∙◌, subst, arith, length-append}
+use Rattle.std.proofs.Common.{◌≡◌, ◌⊎◌, inl, inr, ◌<◌, ◌≤◌, ℕ, Bool, true, false, not, ◌&&◌, ◌||◌, nat_le, is_some, List, [], ◌∷◌, ◌++◌, length, take, Option, Some, None, Result, Ok, Err, refl, sym, ap, ◌∙◌, subst, arith, length-append}
 use Rattle.std.proofs.lemmas.List.{length-take}
-use Rattle.std.proofs.lemmas.Bool.Decides.{nat_tests}
 use Rattle.relay_outside.specs.Counts.{Rose}
 use Rattle.relay_outside.specs.Heard.{Came, CameBytes, CameEnd, CameNotYet, CameFailed, HearStep}
 use Rattle.relay_outside.specs.Said.{SayStep}
@@ -10,10 +9,10 @@ use Rattle.relay_outside.specs.declared.link.Said.{Said}
 use Rattle.relay_outside.specs.declared.link.Said.TheVariants as said
 use Rattle.client_owed.specs.declared.types.Gift.{Gift}
 use Rattle.client_owed.specs.Standing.{Past}
-use Rattle.rtmp_client.specs.Causes.{Did, HasMoved, IsStill, MayBe}
-use Rattle.rtmp_client.specs.ClientState.{EndsSo, HasEnded, IsClient, IsLiving, LivesOn, StandsBy}
-use Rattle.rtmp_client.specs.Feeding.{IsFed, IsSent}
-use Rattle.rtmp_client.specs.Turns.{CameAs, DoneBy, EmptyBy, EndedBy, Fed, FedAs, FedBy, Quietly, Loudly, Stopping, Finish, Input, InputBy, IsEnded, Life, SendBy, Sent, SentAs, end_of, is_done, is_hungry, is_nil, life, turn_of}
+use Rattle.rtmp_client.specs.Causes.{Did, MayBe}
+use Rattle.rtmp_client.specs.ClientState.{IsClient, LivesOn, StandsBy}
+use Rattle.rtmp_client.specs.Feeding.{IsSent}
+use Rattle.rtmp_client.specs.Turns.{CameAs, DoneBy, EmptyBy, EndedBy, Fed, FedAs, FedBy, Quietly, Loudly, Stopping, InputBy, Life, SendBy, SentAs, end_of, is_done, is_hungry, is_nil, life, turn_of}
 use Rattle.rtmp_client.specs.declared.core_fields.Core.{Core}
 use Rattle.rtmp_client.specs.declared.end.ClientEnd.{ClientEnd}
 use Rattle.rtmp_client.specs.declared.end.ClientEnd.TheVariants as end

@@ -1,11 +1,12 @@
 -- Feeding a buffer, piece by piece
 use Rattle.std.proofs.Common.{◌≡◌, ◌≤◌, ◌<◌, ◌+◌, ◌*◌, ◌-◌, ℕ, length-append, length-drop, Option, Some, None, List, ◌++◌, length, drop, Bool, true, false, if◌then◌else◌, sym, ap, ◌∙◌, subst, arith, append_assoc}
 use Rattle.chunk_wire.specs.declared.message.Message.{Message}
-use Rattle.client_owed.specs.declared.types.Gift.{Gift}
+use Rattle.chunk_reader.specs.Sound.{IsRead}
+use Rattle.session_owed.specs.Talk.{hand_bytes}
 use Rattle.rtmp_client.specs.Bounds.{IsLight, IsSmall, Parts, gift_bytes, weight}
-use Rattle.rtmp_client.specs.Feeding.{Decides, Fixed, Heard, Hears, IsFed, IsStopped, fixed_of, heard_of}
+use Rattle.rtmp_client.specs.Feeding.{Decides, Fixed, Heard, Hears, IsFed, IsStopped, heard_of}
 use Rattle.rtmp_client.specs.Keeping.{IsSound}
-use Rattle.rtmp_client.specs.Owing.{Apart, Owing}
+use Rattle.rtmp_client.specs.Owing.{Apart}
 use Rattle.rtmp_client.specs.declared.core_fields.Core.{Core}
 use Rattle.rtmp_client.specs.declared.end.ClientEnd.{ClientEnd}
 
@@ -24,6 +25,7 @@ fed_then a b c i j k f g = record {
   split = append_assoc f.fed g.fed k ∙ ap (λ (l : List ℕ). f.fed ++ l) g.split ∙ f.split;
   y = g.y ∙ ap (λ (l : List ℕ). l ++ g.fed) f.y ∙ append_assoc a.y f.fed g.fed;
   fixed = g.fixed ∙ f.fixed;
+  others = omega (arith, f.others, g.others);
 }
 
 -- a piece of what is left, which is all of it
@@ -65,6 +67,9 @@ decides_same : (n max : ℕ) (h k : List (ℕ × Message)) (y z : List ℕ) (e :
 decides_same n max h k y z e other me he ye d =
     subst (λ (m : ℕ). Decides m k z n e) me (subst (λ (x : List (ℕ × Message)). Decides max x z n e) he (subst (λ (l : List ℕ). Decides max h l n e) ye d))
 
+read_same : (max other : ℕ) (b : List ℕ) (h k : List (ℕ × Message)) → max ≡ other → h ≡ k → IsRead max b h → IsRead other b k
+read_same max other b h k me he r = subst (λ (m : ℕ). IsRead m b k) me (subst (λ (x : List (ℕ × Message)). IsRead max b x) he r)
+
 pub stopped_then : (old now next : Core) (input left : List ℕ) (e : ClientEnd) → IsFeeding old input now left → IsStopped now left e next → IsStopped old input e next
 stopped_then old now next input left e f s =
     let whole : now.y ++ left ≡ old.y ++ input = ap (λ (l : List ℕ). l ++ left) f.fed.y ∙ append_assoc old.y f.fed.fed left ∙ ap (λ (l : List ℕ). old.y ++ l) f.fed.split in
@@ -73,8 +78,12 @@ stopped_then old now next input left e f s =
       left = s.left;
       split = append_assoc f.fed.fed s.fed s.left ∙ ap (λ (l : List ℕ). f.fed.fed ++ l) s.split ∙ f.fed.split;
       y = s.y ∙ ap (λ (l : List ℕ). l ++ s.fed) f.fed.y ∙ append_assoc old.y f.fed.fed s.fed;
+      version = s.version;
       counted = s.counted;
       fixed = s.fixed ∙ f.fed.fixed;
       gift = s.gift ∙ ap (λ (x : Heard). x.gift) f.heard;
+      phase = s.phase ∙ ap (λ (x : Heard). x.phase) f.heard;
+      read = read_same now.reader.max old.reader.max (drop hand_bytes next.y) now.reader.given old.reader.given (ap (λ (x : Fixed). x.max) f.fed.fixed)
+          (ap (λ (x : Heard). x.given) f.heard) s.read;
       cause = decides_same (length next.y) now.reader.max now.reader.given old.reader.given (now.y ++ left) (old.y ++ input) e old.reader.max (ap (λ (x : Fixed). x.max) f.fed.fixed) (ap (λ (x : Heard). x.given) f.heard) whole s.cause;
     }

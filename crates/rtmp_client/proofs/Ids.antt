@@ -1,9 +1,9 @@
 -- The message stream id that a number is
-use Rattle.std.proofs.Common.{◌≡◌, ℕ, ◌+◌, ◌-◌, ◌*◌, ◌/◌, ◌%◌, ◌^◌, ◌<◌, ◌≤◌, ◌==◌, nat_lt, Bool, true, false, ◌&&◌, if◌then◌else◌, Option, Some, None, refl, sym, ap, ◌∙◌, arith}
+use Rattle.std.proofs.Common.{◌≡◌, ℕ, ◌+◌, ◌-◌, ◌/◌, ◌%◌, ◌^◌, ◌<◌, ◌≤◌, ◌==◌, nat_lt, Bool, true, false, ◌&&◌, if◌then◌else◌, Option, Some, None, refl, sym, ap, ◌∙◌, arith}
 use Rattle.std.proofs.Math.Nat.{pow-le-pow_right}
 use Rattle.std.proofs.lemmas.Nat.{div_below, pow_pos}
 use Rattle.amf0_value.specs.Pattern.{pattern}
-use Rattle.client_owed.specs.Client.{is_id, whole}
+use Rattle.client_owed.specs.Client.{whole}
 use Rattle.rtmp_client.specs.Known.{id_in}
 
 abbrev pick : Bool → ℕ → Option ℕ

@@ -1,5 +1,5 @@
 -- Values that are read one after the other, and where they stop
-use Rattle.std.proofs.Common.{◌≡◌, ℕ, ◌+◌, ◌<◌, ◌≤◌, List, [], ◌∷◌, length, refl, sym, ap, ap₂, subst, ◌∙◌, arith, Option, Some, None, inl, inr, ◌⊎◌, Bool}
+use Rattle.std.proofs.Common.{◌≡◌, ℕ, List, [], length, refl, sym, ap, subst, ◌∙◌, arith, Option, Some, None, inl, inr, ◌⊎◌}
 use Rattle.std.specs.Prelude.{codes, unwrap_or, Result, Ok, Err}
 use Rattle.amf0_value.specs.declared.fail.Stop.{Stop}
 use Rattle.amf0_value.specs.declared.fail.AmfFail.{AmfFail}
@@ -9,19 +9,17 @@ use Rattle.amf0_value.specs.Brief.{HasBrief, HasPair, brief_of, pair_of}
 use Rattle.amf0_value.specs.Tree.{Tree, number, boolean, text, object, null, undefined, reference, ecma, strict, date, long, unsupported, xml, typed, Items, no_items, item, number_in, text_in}
 use Rattle.amf0_value.specs.Refusal.{StopsAll, RefusesAll, placed_of}
 use Rattle.amf0_value.specs.Reading.{Fails, Left, ReadsItems, ReadsValue}
-use Rattle.amf0_value.specs.Reader.{values_in}
 use Rattle.amf0_value.proofs.Within.{all_stops_within}
 use Rattle.amf0_value.proofs.Placed.{is_at}
 use Rattle.amf0_value.proofs.Again.{one_value, values_are, refusal_is}
 use Rattle.rtmp_command.specs.declared.command.CommandFail.{CommandFail}
 use Rattle.rtmp_command.specs.declared.command.CommandFail.TheVariants as command
-use Rattle.rtmp_command.specs.Commands.{Parts, command_fail, parts_behind, parts_of, transaction_of}
+use Rattle.rtmp_command.specs.Commands.{command_fail, parts_behind, parts_of, transaction_of}
 use Rattle.rtmp_command.specs.Heard.{number_in_brief}
-use Rattle.client_owed.specs.declared.types.News.{News}
-use Rattle.client_owed.specs.News.{news_from, news_in, news_of, news_or_none, number_at, text_at, text_of}
+use Rattle.client_owed.specs.News.{news_from, news_in, news_of, news_or_none, text_of}
 use Rattle.rtmp_client.specs.declared.known.Fourth.{Fourth}
 use Rattle.rtmp_client.specs.declared.known.Known.{Known}
-use Rattle.rtmp_client.specs.Known.{HasFourth, behind_first, behind_name, behind_third, behind_transaction, bits_in_brief, fourth_of, known_from, known_of, news_by, news_or, text_in_brief}
+use Rattle.rtmp_client.specs.Known.{HasFourth, behind_first, behind_name, behind_transaction, bits_in_brief, known_of, news_by, news_or, text_in_brief}
 
 -- a value in brief has its text and its number
 text_brief : (v : Tree) → text_in_brief (brief_of v) ≡ text_in v

@@ -1,5 +1,5 @@
 -- What a turn leaves as it is
-use Rattle.std.proofs.Common.{◌≡◌, ℕ, Bool, true, false, List, Option, Some, None, Result, Ok, Err, refl, sym, ap, ◌∙◌, inl, inr}
+use Rattle.std.proofs.Common.{◌≡◌, ℕ, Bool, true, false, List, Option, Some, None, Result, ap, ◌∙◌, inl, inr}
 use Rattle.chunk_reader.specs.ReaderKnown.{ReaderKnown}
 use Rattle.relay_outside.specs.Heard.{Came, CameBytes, CameEnd, CameNotYet, CameFailed}
 use Rattle.relay_outside.specs.declared.link.Said.{Said}
@@ -10,7 +10,7 @@ use Rattle.client_owed.specs.declared.types.Gift.{Gift}
 use Rattle.client_owed.specs.Standing.{Keeps, Past}
 use Rattle.rtmp_client.specs.ClientState.{ClientState, Lasting, TurnMade, lasting_of}
 use Rattle.rtmp_client.specs.Feeding.{Fixed, IsSent, fixed_of}
-use Rattle.rtmp_client.specs.Turns.{CameAs, DoneBy, EmptyBy, EndedBy, Fed, FedAs, FedBy, Quietly, Loudly, Stopping, Gone, InputBy, IsEnded, Life, SendBy, SentAs, gone_of, is_done, is_hungry, is_nil, life}
+use Rattle.rtmp_client.specs.Turns.{CameAs, DoneBy, EmptyBy, EndedBy, FedAs, FedBy, Quietly, Loudly, Stopping, Gone, InputBy, IsEnded, Life, SendBy, SentAs, is_done, is_hungry, is_nil, life}
 use Rattle.rtmp_client.specs.declared.core_fields.Core.{Core}
 use Rattle.rtmp_client.specs.declared.end.ClientEnd.{ClientEnd}
 use Rattle.rtmp_client.specs.declared.end.ClientEnd.TheVariants as end

@@ -1,6 +1,6 @@
 -- How many bytes messages have as chunks: at most 18 of the first header, and for each byte of the body and each 16 of them
 -- one more, where chunks have 128 bytes or more
-use Rattle.std.proofs.Common.{◌≡◌, ℕ, ◌+◌, ◌-◌, ◌*◌, ◌≤◌, zero, suc, Bool, true, false, cond, List, [], ◌∷◌, length, drop, refl, arith, length-append}
+use Rattle.std.proofs.Common.{◌≡◌, ℕ, ◌+◌, ◌-◌, ◌*◌, ◌≤◌, zero, suc, Bool, true, false, cond, List, [], ◌∷◌, length, refl, arith, length-append}
 use Rattle.std.proofs.lemmas.Bool.Decides.{nat_tests}
 use Rattle.chunk_wire.specs.declared.headers.Head.{Head}
 use Rattle.chunk_wire.specs.declared.kept.Terms.{Terms}

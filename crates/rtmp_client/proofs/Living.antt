@@ -1,9 +1,7 @@
 -- A client stands on after each of its steps
-use Rattle.std.proofs.Common.{◌≡◌, ◌≤◌, ◌<◌, ◌+◌, ◌-◌, ◌*◌, ◌^◌, ◌⊎◌, inl, inr, ℕ, zero, suc, Bool, true, false, not, ◌==◌, ◌&&◌, nat_le, nat_lt, if◌then◌else◌, List, [], ◌∷◌, ◌++◌, length, take, drop, min, refl, sym, ap, ◌∙◌, subst, arith, append-nil, append_assoc, length-append, Option, Some, None, Result, Ok, Err, OnOk, OnErr, is_some}
-use Rattle.std.proofs.lemmas.List.{take-append-drop, take_all, drop_all, take-append-le, drop-append-le, length-drop, length-take-le, length-take}
+use Rattle.std.proofs.Common.{◌≡◌, ◌≤◌, ◌<◌, ◌+◌, ◌-◌, ◌*◌, ◌^◌, ℕ, zero, suc, Bool, true, false, not, ◌==◌, ◌&&◌, nat_lt, if◌then◌else◌, List, [], ◌∷◌, ◌++◌, length, take, drop, min, refl, sym, ap, ◌∙◌, subst, arith, append-nil, length-append, Option, Some, None, is_some}
+use Rattle.std.proofs.lemmas.List.{take-append-drop, take_all, drop_all, take-append-le, drop-append-le, length-drop, length-replicate, length-take-le}
 use Rattle.std.proofs.lemmas.Bool.{lt-leb, lt-ltb, le-ltb, ne_eqb}
-use Rattle.std.proofs.lemmas.Bool.Decides.{nat_tests}
-use Rattle.av_unit.specs.declared.bytes.OutOfMemory.{OutOfMemory}
 use Rattle.chunk_wire.specs.declared.message.Message.{Message}
 use Rattle.chunk_reader.specs.ReaderKnown.{ReaderKnown}
 use Rattle.chunk_reader.specs.Feeds.{IsFedTo}
@@ -19,15 +17,15 @@ use Rattle.client_owed.specs.declared.types.Asked.{Asked}
 use Rattle.client_owed.specs.declared.types.Gave.{Gave}
 use Rattle.client_owed.specs.declared.types.Gift.{Gift}
 use Rattle.client_owed.specs.declared.types.Phase.{Phase}
-use Rattle.client_owed.specs.declared.types.Phase.TheVariants.{Connecting, Creating, Asking, Started}
-use Rattle.client_owed.specs.Client.{Did, connect, does}
+use Rattle.client_owed.specs.declared.types.Phase.TheVariants.{Connecting}
+use Rattle.client_owed.specs.Client.{connect, does}
 use Rattle.client_owed.specs.Owed.{c2, first_window, hello, owed, phase_after, phase_of}
 use Rattle.client_owed.specs.Pulled.{gift_for}
-use Rattle.client_owed.specs.Standing.{Keeps, Past, Stands, count_of, fed_more, greeted, listed, new_keeps, new_past, pending_now, sent_more, stepped, took, with_message, writer_after}
+use Rattle.client_owed.specs.Standing.{Stands, count_of, fed_more, listed, new_keeps, pending_now, stepped, took, with_message, writer_after}
 use Rattle.client_owed.proofs.Standing.{stands_fed, stands_greet, stands_hand, stands_message, stands_new, stands_sent}
-use Rattle.rtmp_client.specs.Bounds.{IsLight, IsSmall, Parts, to_greet, weight}
-use Rattle.rtmp_client.specs.Feeding.{IsFed, IsSent, IsStopped, fixed_of, is_bad}
-use Rattle.rtmp_client.specs.Keeping.{Begun, IsNamed, IsOver, IsSound, IsWide, StandsNow, keeps_of, past_of}
+use Rattle.rtmp_client.specs.Bounds.{to_greet, weight}
+use Rattle.rtmp_client.specs.Feeding.{IsFed, IsSent, IsStopped, is_bad}
+use Rattle.rtmp_client.specs.Keeping.{Begun, IsNamed, IsSound, IsWide, StandsNow, keeps_of, past_of}
 use Rattle.rtmp_client.specs.Owing.{Apart, Owing, Says, nothing}
 use Rattle.rtmp_client.specs.declared.core_fields.Core.{Core}
 use Rattle.rtmp_client.specs.declared.end.ClientEnd.TheVariants as end
@@ -48,7 +46,19 @@ begun_here c first o l = (c.outgoing.pending, record { ms = c.reader.given; read
 
 pub stop_memory : (c d : Core) (piece first : List ℕ) (o : Owing) → IsSound c → d ≡ record c { first = first; outgoing = o } → IsStopped c piece end.OutOfMemory d
 stop_memory c d piece first o l e =
-    rw e (record { fed = []; left = piece; split = refl; y = sym (append-nil c.y); counted = l.counted; fixed = refl; gift = refl; cause = tt })
+    rw e (record {
+      fed = [];
+      left = piece;
+      split = refl;
+      y = sym (append-nil c.y);
+      version = l.version;
+      counted = l.counted;
+      fixed = refl;
+      gift = refl;
+      phase = refl;
+      read = read_here c l;
+      cause = tt;
+    })
 
 pub begun_same : (c d : Core) (first : List ℕ) (o : Owing) → IsSound c → d ≡ record c { first = first; outgoing = o } → Begun d
 begun_same c d first o l e = rw e (begun_here c first o l)
@@ -85,10 +95,18 @@ keeps_new i o ie oe we =
     ∙ ap (λ (w : WriterKnown). record { pending = hello; writer = w; window = i; phase = Connecting; finished = false; gift = None }) we
     ∙ ap (λ (w : InWindow). record { pending = hello; writer = writer.fresh; window = w; phase = Connecting; finished = false; gift = None }) (ie ∙ window_start)
 
+-- C0 and C1 are of no tag
+pub hello_others : (o p : Owing) → o ≡ nothing → p.pending ≡ o.pending ++ hello → p.others ≡ o.others + 1537 → p.others ≡ length p.pending
+hello_others o p e b n =
+    omega (arith, n, ap (λ (x : Owing). x.others) e, ap length b, length-append o.pending hello, ap (λ (x : Owing). length x.pending) e, hello_long)
+  where
+    hello_long : length hello ≡ 1537
+    hello_long = omega (arith, length-replicate {A = ℕ} 1536 0)
+
 -- ---- the handshake
 
 -- the first byte is the first
-version_kept : (x q : List ℕ) → bad_version x ≡ None → 0 < length x → bad_version (x ++ q) ≡ None
+pub version_kept : (x q : List ℕ) → bad_version x ≡ None → 0 < length x → bad_version (x ++ q) ≡ None
 version_kept [] q e some = absurd (omega (arith, some))
 version_kept (b ∷ x) q e some = e
 
@@ -123,7 +141,19 @@ bad_cause n (a ∷ y) (b ∷ p) c e =
 pub bad_stop : (c : Core) (piece : List ℕ) → IsSound c → is_bad c.fed piece ≡ true → IsStopped c piece (end.BadVersion 0) c
 bad_stop c piece l e =
     let b = bad_cause c.fed c.y piece l.counted e in
-    record { fed = []; left = piece; split = refl; y = sym (append-nil c.y); counted = l.counted; fixed = refl; gift = refl; cause = (sym b.0, b.0, b.1) }
+    record {
+      fed = [];
+      left = piece;
+      split = refl;
+      y = sym (append-nil c.y);
+      version = l.version;
+      counted = l.counted;
+      fixed = refl;
+      gift = refl;
+      phase = refl;
+      read = read_here c l;
+      cause = (sym b.0, b.0, b.1);
+    }
 
 pub begun_now : (c : Core) → IsSound c → Begun c
 begun_now c l = begun_here c c.first c.outgoing l
@@ -211,8 +241,9 @@ part_used piece part count used e le =
     let all : part ++ drop count piece ≡ piece = ap (λ (l : List ℕ). l ++ drop count piece) e ∙ sym cut in
     (sym (take-append-le used part (drop count piece) le) ∙ ap (take used) all, omega (arith, le, ap length all, length-append part (drop count piece)))
 
-pub fed_hand : (c d : Core) (piece part first : List ℕ) (n f : ℕ) (o : Owing) → part ≡ take n piece → d ≡ record c { first = first; outgoing = o; fed = f; y = c.y ++ part } → IsFed c piece d (drop (length part) piece)
-fed_hand c d piece part first n f o pe e =
+pub fed_hand : (c d : Core) (piece part first : List ℕ) (n f : ℕ) (o : Owing) → part ≡ take n piece → d ≡ record c { first = first; outgoing = o; fed = f; y = c.y ++ part }
+    → Apart c.outgoing o → IsFed c piece d (drop (length part) piece)
+fed_hand c d piece part first n f o pe e a =
     let all : take (length part) part ≡ part = take_all (length part) part (omega arith) in
     let cut : take (length part) part ≡ take (length part) piece = (part_used piece part n (length part) pe (omega arith)).0 in
     rw e (record {
@@ -220,6 +251,7 @@ fed_hand c d piece part first n f o pe e =
       split = ap (λ (b : List ℕ). b ++ drop (length part) piece) (sym all ∙ cut) ∙ take-append-drop (length part) piece;
       y = refl;
       fixed = refl;
+      others = a;
     })
 
 -- ---- bytes of chunks

@@ -1,12 +1,12 @@
 -- What is pending
-use Rattle.std.proofs.Common.{◌≡◌, ◌⊎◌, inl, inr, ℕ, ◌+◌, ◌-◌, ◌*◌, max, ◌<◌, ◌≤◌, List, [], ◌∷◌, ◌++◌, length, drop, Result, Ok, Err, OnOk, OnErr, refl, sym, ap, ◌∙◌, subst, arith, append-nil, append_assoc, length-append}
+use Rattle.std.proofs.Common.{◌≡◌, ◌⊎◌, inl, inr, ℕ, ◌+◌, ◌-◌, ◌*◌, max, ◌<◌, ◌≤◌, List, [], ◌∷◌, ◌++◌, length, drop, Result, Ok, Err, OnOk, OnErr, refl, sym, ap, ◌∙◌, arith, append-nil, append_assoc, length-append}
 use Rattle.std.proofs.lemmas.List.{drop-append-le, length-drop}
 use Rattle.av_unit.specs.declared.bytes.OutOfMemory.{OutOfMemory}
 use Rattle.chunk_wire.specs.declared.message.Message.{Message}
 use Rattle.chunk_writer.specs.WriterKnown.{WriterKnown}
 use Rattle.chunk_writer.specs.Written.{after_all, bytes_of, next, written}
 use Rattle.chunk_writer.proofs.Going.{after_joined, written_joined}
-use Rattle.rtmp_client.specs.Owing.{Apart, IsOwing, IsSayable, IsSized, Owing, Says, Shows, cost_of, owing}
+use Rattle.rtmp_client.specs.Owing.{Apart, IsOwing, IsSayable, Owing, Says, Shows, cost_of, owing}
 use Rattle.rtmp_client.proofs.Lengths.{bytes_most, bytes_wide, next_sized}
 
 pub written_one : (w : WriterKnown) (m : Message) → written w (m ∷ []) ≡ bytes_of w m

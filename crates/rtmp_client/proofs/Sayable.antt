@@ -1,5 +1,5 @@
 -- What a client says can be written, and is short
-use Rattle.std.proofs.Common.{◌≡◌, ℕ, ◌+◌, ◌*◌, ◌<◌, ◌≤◌, ◌^◌, Bool, true, false, nat_eq, nat_le, ◌&&◌, List, [], ◌∷◌, ◌++◌, length, take, drop, length-drop, refl, sym, ap, ◌∙◌, subst, arith, length-append}
+use Rattle.std.proofs.Common.{◌≡◌, ℕ, ◌+◌, ◌<◌, ◌≤◌, ◌^◌, Bool, true, false, nat_eq, nat_le, ◌&&◌, List, [], ◌∷◌, length, take, drop, length-drop, refl, sym, ap, ◌∙◌, arith, length-append}
 use Rattle.std.proofs.lemmas.Bool.Decides.{nat_tests}
 use Rattle.std.proofs.lemmas.List.{length-take}
 use Rattle.std.specs.Prelude.{codes}
@@ -8,18 +8,16 @@ use Rattle.amf0_value.specs.Tree.{Tree, number, text, object, null, Items, item,
 use Rattle.amf0_value.specs.Pattern.{pattern}
 use Rattle.amf0_value.specs.Encoding.{items_spelling, members_spelling, spelling}
 use Rattle.amf0_value.specs.Spelling.{be}
-use Rattle.ack_window.specs.Controls.{message_of}
-use Rattle.ack_window.specs.declared.control.Control.TheVariants as control
 use Rattle.chunk_wire.specs.declared.message.Message.{Message}
 use Rattle.chunk_writer.specs.Rule.{is_written}
-use Rattle.chunk_writer.specs.Written.{IsWritable, sets_size}
+use Rattle.chunk_writer.specs.Written.{sets_size}
 use Rattle.flv_tags.specs.Layout.{is_kind}
 use Rattle.client_owed.specs.declared.types.Asked.{Asked}
 use Rattle.client_owed.specs.declared.types.Wish.{Wish}
 use Rattle.client_owed.specs.declared.types.Wish.TheVariants as wish
-use Rattle.client_owed.specs.Client.{ask, asks, called, chunk_size, command, connect, connects, create_stream, creates, delete_stream, deletes}
+use Rattle.client_owed.specs.Client.{ask, asks, called, chunk_size, command, connects, create_stream, creates, delete_stream, deletes}
 use Rattle.rtmp_client.specs.Keeping.{IsNamed}
-use Rattle.rtmp_client.specs.Owing.{IsSayable, IsSized, cost_of}
+use Rattle.rtmp_client.specs.Owing.{IsSayable, cost_of}
 
 -- ---- how long the commands are
 

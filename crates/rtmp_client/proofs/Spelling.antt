@@ -1,5 +1,5 @@
 -- Bodies that are written value by value
-use Rattle.std.proofs.Common.{◌≡◌, ℕ, List, [], ◌∷◌, ◌++◌, refl, sym, ap, ◌∙◌, append_assoc, append-nil}
+use Rattle.std.proofs.Common.{◌≡◌, ℕ, List, [], ◌∷◌, ◌++◌, sym, ap, ◌∙◌, append_assoc, append-nil}
 use Rattle.std.specs.Prelude.{codes}
 use Rattle.amf0_value.specs.Tree.{member, no_members, object, text}
 use Rattle.amf0_value.specs.Encoding.{spelling}

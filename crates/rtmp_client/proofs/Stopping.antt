@@ -14,6 +14,7 @@ use Rattle.chunk_reader.specs.Sound.{IsRead}
 use Rattle.chunk_reader.specs.Stops.{Stops}
 use Rattle.chunk_reader.proofs.Before.{before_last}
 use Rattle.chunk_reader.proofs.Settled.{stays_refused}
+use Rattle.rtmp_handshake.specs.Answer.{bad_version}
 use Rattle.ack_window.specs.Controls.{control_in}
 use Rattle.ack_window.specs.declared.control.Control.{Control}
 use Rattle.ack_window.specs.declared.control.BadControl.{BadControl}
@@ -29,16 +30,16 @@ use Rattle.client_owed.specs.declared.types.Phase.{Phase}
 use Rattle.client_owed.specs.News.{news_in}
 use Rattle.client_owed.specs.Client.{does}
 use Rattle.client_owed.specs.Pulled.{gift_for}
-use Rattle.client_owed.specs.Standing.{count_of, listed, took}
+use Rattle.client_owed.specs.Standing.{listed, took}
 use Rattle.client_owed.proofs.Standing.{stands_fed}
 use Rattle.rtmp_client.specs.Feeding.{Decides, Hears, IsFed, IsHeard, IsRefused, IsStopped, fixed_of, read_end}
-use Rattle.rtmp_client.specs.Keeping.{Begun, IsAll, IsOver, IsSound, keeps_of, past_of}
-use Rattle.rtmp_client.specs.Owing.{Owing}
+use Rattle.rtmp_client.specs.Keeping.{Begun, IsAll, IsSound, keeps_of, past_of}
+use Rattle.rtmp_client.specs.Owing.{Apart, Owing}
 use Rattle.rtmp_client.specs.Refusing.{ended_by, refused, refused_by}
 use Rattle.rtmp_client.specs.declared.core_fields.Core.{Core}
 use Rattle.rtmp_client.specs.declared.end.ClientEnd.{ClientEnd}
 use Rattle.rtmp_client.specs.declared.end.ClientEnd.TheVariants as end
-use Rattle.rtmp_client.proofs.Living.{fixed_read, part_used}
+use Rattle.rtmp_client.proofs.Living.{fixed_read, part_used, read_here, version_kept}
 
 take_past : (x p : List ℕ) (k : ℕ) → take (length x + k) (x ++ p) ≡ x ++ take k p
 take_past [] p k = ap (λ (n : ℕ). take n p) (omega arith)
@@ -48,15 +49,16 @@ abbrev pub fixed_with : Core → ℕ → Rattle.rtmp_client.specs.Feeding.Fixed
 fixed_with c n = record { asked = c.asked; max = n; gave = c.gave; sent = c.sent; taken = c.taken; finished = c.finished }
 
 pub fed_chunk : (c : Core) (piece part y : List ℕ) (count used n : ℕ) (m : Option Message) (r : ReaderKnown) (i : InWindow) (p : Phase) (o : Owing) (g : Option Gift)
-    → part ≡ take count piece → IsFedTo c.reader part used m r → y ≡ c.y ++ take used part
+    → part ≡ take count piece → IsFedTo c.reader part used m r → y ≡ c.y ++ take used part → Apart c.outgoing o
     → IsFed c piece (record c { reader = r; inbound = i; phase = p; outgoing = o; gift = g; fed = n; y = y }) (drop used piece)
-fed_chunk c piece part y count used n m r i p o g pe f ye =
+fed_chunk c piece part y count used n m r i p o g pe f ye a =
     let u = part_used piece part count used pe f.within in
     record {
       fed = take used piece;
       split = take-append-drop used piece;
       y = ye ∙ ap (λ (l : List ℕ). c.y ++ l) u.0;
       fixed = ap (fixed_with c) (fixed_read c part used m r f);
+      others = a;
     }
 
 pub loud_heard : (c : Core) (part y : List ℕ) (used last n : ℕ) (m : Message) (r : ReaderKnown) (i : InWindow) (p : Phase) (o : Owing) (g : Option Gift) → IsSound c → hand_bytes ≤ length c.y
@@ -104,6 +106,10 @@ read_last c part used m r l h f =
     let cut : take (length (c.reader.fed ++ q) - 1) (c.reader.fed ++ q) ≡ c.reader.fed ++ take (used - 1) part =
     ap (λ (k : ℕ). take k (c.reader.fed ++ q)) n ∙ take_past c.reader.fed q (used - 1) ∙ ap (λ (k : List ℕ). c.reader.fed ++ k) t in
     subst (λ (k : List ℕ). IsRead c.reader.max k c.reader.given) (cut ∙ sym (dropped c (take (used - 1) part) l h)) b
+
+-- bytes of chunks don't change the version
+version_more : (c : Core) (q y : List ℕ) → IsSound c → hand_bytes ≤ length c.y → y ≡ c.y ++ q → bad_version y ≡ None
+version_more c q y l h ye = subst (λ (b : List ℕ). bad_version b ≡ None) (sym ye) (version_kept c.y q l.version (omega (arith, h)))
 
 -- where the reader refuses a byte
 pub refused_place : (c : Core) (part : List ℕ) (e : ReadFail) (r : ReaderKnown) (at before : ℕ) → IsSound c → hand_bytes ≤ length c.y → (f : reader.IsRefused c.reader part e r) → at ≡ min (e.at + 3073) (2 ^ 64 - 1) → before ≡ at - c.fed
@@ -159,9 +165,13 @@ stop_reader c piece part y count at before e r l h f pe ae be ye =
       left = drop before piece;
       split = take-append-drop before piece;
       y = ye ∙ ap (λ (b : List ℕ). c.y ++ b) u.0;
+      version = version_more c (take before part) y l h ye;
       counted = sym ly;
       fixed = ap (fixed_with c) (ap (λ (k : ReaderKnown). k.max) f.now);
       gift = refl;
+      phase = refl;
+      read = subst (λ (b : List ℕ). IsRead c.reader.max (drop hand_bytes b) c.reader.given) (sym ye)
+          (subst (λ (k : ℕ). IsRead c.reader.max (drop hand_bytes (c.y ++ take k part)) c.reader.given) (sym p.0) (read_some c part e r l h f));
       cause = decides_read c (c.y ++ piece) (length y) at e.cause (sym ly) (omega (arith, ly, p, h))
           (stops_by c.reader.max ((c.reader.fed ++ part) ++ rest) (drop hand_bytes (c.y ++ piece)) e.cause e.at (length y - hand_bytes) whole place (stops_more c.reader.max (c.reader.fed ++ part) rest e.cause e.at f.cause));
     }
@@ -173,9 +183,12 @@ stop_acknowledge c piece part used m r i o l f = record {
   left = piece;
   split = refl;
   y = sym (append-nil c.y);
+  version = l.version;
   counted = l.counted;
   fixed = ap (fixed_with c) (fixed_read c part used m r f);
   gift = refl;
+  phase = refl;
+  read = read_here c l;
   cause = tt;
 }
 
@@ -241,9 +254,9 @@ refused_by_end c y n last m s r e reads len le (inr i) =
     inr (refused_at n m e j, record { m = m; s = s; r = r; reads = reads; why = ap (λ (v : ℕ). refused v m) k ∙ j })
 
 pub stop_message : (c : Core) (piece part y : List ℕ) (count used n last : ℕ) (m : Message) (r : ReaderKnown) (i : InWindow) (p : Phase) (o : Owing) (e : ClientEnd) → IsSound c → hand_bytes ≤ length c.y → IsFedTo c.reader part used (Some m) r
-    → part ≡ take count piece → n ≡ c.fed + used - 1 → last ≡ n → y ≡ c.y ++ take (used - 1) part → (e ≡ end.OutOfMemory) ⊎ (refused last m ≡ Some e)
+    → part ≡ take count piece → n ≡ c.fed + used - 1 → last ≡ n → y ≡ c.y ++ take (used - 1) part → (e ≡ end.OutOfMemory) ⊎ (refused last m ≡ Some e) → p ≡ c.phase
     → IsStopped c piece e (record c { reader = r; inbound = i; phase = p; outgoing = o; fed = n; y = y })
-stop_message c piece part y count used n last m r i p o e l h f pe ne le ye ee =
+stop_message c piece part y count used n last m r i p o e l h f pe ne le ye ee he =
     let some : 0 < used = f.some refl in
     let q = take used part in
     let lq : length q ≡ used = length-take-le used part f.within in
@@ -264,9 +277,12 @@ stop_message c piece part y count used n last m r i p o e l h f pe ne le ye ee =
       left = drop (used - 1) piece;
       split = take-append-drop (used - 1) piece;
       y = ye ∙ ap (λ (k : List ℕ). c.y ++ k) u.0;
+      version = version_more c (take (used - 1) part) y l h ye;
       counted = sym ly;
       fixed = ap (fixed_with c) (fixed_read c part used (Some m) r f);
       gift = refl;
+      phase = he;
+      read = subst (λ (b : List ℕ). IsRead c.reader.max (drop hand_bytes b) c.reader.given) (sym ye) (read_last c part used m r l h f);
       cause = decides_message c z (length y) e (refused_by_end c z (length y) last m g.s g.r e reads lf (omega (arith, le, ly)) ee);
     }
 

@@ -1,10 +1,9 @@
 -- What a message tells
-use Rattle.std.proofs.Common.{◌≡◌, ◌⊎◌, inl, inr, ℕ, ◌+◌, ◌≤◌, Bool, true, false, ◌==◌, ◌&&◌, if◌then◌else◌, List, [], ◌∷◌, length, Option, Some, None, Result, Ok, Err, refl, sym, ap, ◌∙◌, subst, arith}
+use Rattle.std.proofs.Common.{◌≡◌, ◌⊎◌, inl, inr, ℕ, ◌+◌, ◌≤◌, Bool, true, false, ◌==◌, ◌&&◌, if◌then◌else◌, List, [], ◌∷◌, length, Option, Some, None, Result, Ok, Err, refl, sym, ap, ◌∙◌, arith}
 use Rattle.std.proofs.lemmas.Bool.{eqb-true}
 use Rattle.chunk_wire.specs.declared.message.Message.{Message}
 use Rattle.rtmp_command.specs.declared.command.CommandFail.{CommandFail}
 use Rattle.ack_window.specs.Controls.{control_in, ping_answer_of, read_by, row_of}
-use Rattle.ack_window.specs.Inbound.{InWindow}
 use Rattle.ack_window.specs.declared.control.Control.{Control}
 use Rattle.ack_window.specs.declared.control.BadControl.{BadControl}
 use Rattle.session_owed.specs.Acks.{window_by, windowed_by}
@@ -19,8 +18,8 @@ use Rattle.client_owed.specs.declared.types.Phase.TheVariants.{Connecting, Creat
 use Rattle.client_owed.specs.declared.types.Wish.{Wish}
 use Rattle.client_owed.specs.declared.types.Wish.TheVariants as wish
 use Rattle.client_owed.specs.News.{is_text, news_in}
-use Rattle.client_owed.specs.Client.{Did, does, does_by, learns, learns_by, pongs, stays}
-use Rattle.client_owed.specs.Pulled.{gift_for, gift_in, tag_of, tag_on, told_by, told_in}
+use Rattle.client_owed.specs.Client.{does, does_by, learns, learns_by, pongs, stays}
+use Rattle.client_owed.specs.Pulled.{gift_for, gift_in, tag_of, tag_on, told_in}
 use Rattle.client_owed.specs.Standing.{listed}
 use Rattle.rtmp_client.specs.Bounds.{gift_bytes}
 use Rattle.rtmp_client.specs.Refusing.{ended_by, refused, refused_by}

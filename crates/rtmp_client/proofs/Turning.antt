@@ -1,7 +1,6 @@
 -- What is small stays so through the steps of a turn
-use Rattle.std.proofs.Common.{◌≡◌, ◌≤◌, ◌<◌, ◌⊎◌, inl, inr, ℕ, ◌+◌, ◌-◌, ◌*◌, min, Bool, true, false, not, ◌&&◌, nat_le, is_some, List, [], ◌∷◌, ◌++◌, length, take, drop, append-nil, Option, Some, None, Result, Ok, Err, refl, sym, ap, ◌∙◌, subst, arith, length-drop}
+use Rattle.std.proofs.Common.{◌≡◌, ◌≤◌, ℕ, ◌-◌, ◌*◌, Bool, true, false, not, ◌&&◌, nat_le, is_some, List, [], ◌∷◌, ◌++◌, length, take, drop, append-nil, Option, Some, None, Result, refl, sym, ap, ◌∙◌, subst, arith, length-drop}
 use Rattle.std.proofs.lemmas.Bool.Decides.{nat_tests}
-use Rattle.chunk_wire.specs.declared.message.Message.{Message}
 use Rattle.client_owed.specs.declared.types.Asked.{Asked}
 use Rattle.client_owed.specs.declared.types.Gave.{Gave}
 use Rattle.client_owed.specs.declared.types.Gift.{Gift}
@@ -12,12 +11,12 @@ use Rattle.client_owed.specs.Standing.{Stands, gift_now, is_finished, listed}
 use Rattle.client_owed.proofs.Standing.{stands_taken}
 use Rattle.relay_outside.specs.Heard.{Came}
 use Rattle.relay_outside.specs.declared.link.Said.{Said}
-use Rattle.rtmp_client.specs.Bounds.{IsLight, IsSmall, Parts, finish_cost, gift_bytes}
+use Rattle.rtmp_client.specs.Bounds.{IsLight, IsSmall, Parts, gift_bytes}
 use Rattle.rtmp_client.specs.ClientState.{HasEnded, IsClient, IsLiving, without_gift}
-use Rattle.rtmp_client.specs.Feeding.{Decides, Fixed, Heard, Hears, IsSent, IsStopped, fixed_of, heard_of}
-use Rattle.rtmp_client.specs.Keeping.{Begun, IsAll, IsOver, IsSound, StandsNow, keeps_of, past_of}
+use Rattle.rtmp_client.specs.Feeding.{Fixed, Heard, Hears, IsSent, IsStopped, fixed_of}
+use Rattle.rtmp_client.specs.Keeping.{Begun, IsAll, IsSound, StandsNow, keeps_of, past_of}
 use Rattle.rtmp_client.specs.Owing.{Apart}
-use Rattle.rtmp_client.specs.Turns.{Finish, Life, SendBy, Sent, SentAs, is_done, is_hungry, is_nil}
+use Rattle.rtmp_client.specs.Turns.{Finish, Life, SendBy, Sent, SentAs, StandsFed, is_done, is_hungry, is_nil}
 use Rattle.rtmp_client.specs.declared.core_fields.Core.{Core}
 use Rattle.rtmp_client.specs.declared.end.ClientEnd.{ClientEnd}
 use Rattle.rtmp_client.specs.declared.end.ClientEnd.TheVariants as end
@@ -37,6 +36,11 @@ hungry_open c e = (hungry_case c.gift (nat_le c.outgoing.others 8192) e).0
 
 pub hungry_few : (c : Core) → is_hungry c ≡ true → c.outgoing.others ≤ 8192
 hungry_few c e = let h = (hungry_case c.gift (nat_le c.outgoing.others 8192) e).1 in grind (arith, nat_tests, h)
+
+-- ---- what a sound client stands for
+
+pub stands_by_sound : (c : Core) → IsSound c → StandsFed c
+stands_by_sound c l = record { version = l.version; counted = l.counted; read = read_here c l; stands = l.stands }
 
 -- ---- bounds
 

@@ -1,5 +1,5 @@
 -- The chunk size of what a client says
-use Rattle.std.proofs.Common.{◌≡◌, ℕ, Bool, true, false, ◌==◌, if◌then◌else◌, List, [], ◌∷◌, Option, Some, None, Result, Ok, Err, refl, sym, ap, ◌∙◌, subst}
+use Rattle.std.proofs.Common.{◌≡◌, ℕ, Bool, true, false, ◌==◌, if◌then◌else◌, [], ◌∷◌, Option, Some, None, Result, Ok, Err, refl, sym, subst}
 use Rattle.amf0_value.specs.Pattern.{pattern}
 use Rattle.rtmp_command.specs.declared.command.CommandFail.{CommandFail}
 use Rattle.relay_base.specs.Numbers.{be32_of}

@@ -1,6 +1,7 @@
 -- What feeding input does
 use Rattle.std.specs.Prelude.{◌≡◌, ◌≤◌, ℕ, ◌+◌, ◌-◌, Bool, true, false, List, [], ◌∷◌, ◌++◌, length, min, take, drop, Option, None, Some, is_some, not, ◌==◌, ◌&&◌}
 use Rattle.chunk_reader.specs.Reads.{Reads}
+use Rattle.chunk_reader.specs.Sound.{IsRead}
 use Rattle.chunk_reader.specs.Stops.{Stops}
 use Rattle.chunk_reader.specs.declared.fail.ReadCause.{ReadCause}
 use Rattle.chunk_reader.specs.declared.fail.ReadCause.TheVariants as cause
@@ -16,6 +17,7 @@ use Rattle.client_owed.specs.Client.{does}
 use Rattle.client_owed.specs.Pulled.{gift_for}
 use Rattle.client_owed.specs.Standing.{count_of, listed, pending_now, sent_more}
 use Rattle.rtmp_client.specs.Keeping.{keeps_of, past_of}
+use Rattle.rtmp_client.specs.Owing.{Apart}
 use Rattle.rtmp_client.specs.Refusing.{refused}
 use Rattle.rtmp_client.specs.declared.core_fields.Core.{Core}
 use Rattle.rtmp_client.specs.declared.end.ClientEnd.{ClientEnd}
@@ -53,12 +55,13 @@ abbrev pub Hears : Core → Core → Bool → Type 0
 Hears old new false = heard_of new ≡ heard_of old
 Hears old new true = (m : Message) × IsHeard old new m
 
--- the first bytes of an input were fed, up to those that are left
+-- the first bytes of an input were fed, up to those that are left, and what came to be pending is of no tag
 pub record IsFed (old : Core) (input : List ℕ) (new : Core) (left : List ℕ) : Type 0 where
   pub fed : List ℕ
   pub split : fed ++ left ≡ input
   pub y : new.y ≡ old.y ++ fed
   pub fixed : fixed_of new ≡ fixed_of old
+  pub others : Apart old.outgoing new.outgoing
 
 -- ---- why the client ends at a byte
 
@@ -82,15 +85,19 @@ Decides max given y n end.PeerClosed = ⊥
 Decides max given y n end.LinkFault = ⊥
 Decides max given y n end.Done = ⊥
 
--- the bytes before it were fed, and nothing else was received or sent
+-- the bytes before it were fed, whose version is taken and which complete no message, nothing else was received or sent, and the
+-- dialogue stands where it did
 pub record IsStopped (old : Core) (input : List ℕ) (e : ClientEnd) (new : Core) : Type 0 where
   pub fed : List ℕ
   pub left : List ℕ
   pub split : fed ++ left ≡ input
   pub y : new.y ≡ old.y ++ fed
+  pub version : bad_version new.y ≡ None
   pub counted : new.fed ≡ length new.y
   pub fixed : fixed_of new ≡ fixed_of old
   pub gift : new.gift ≡ old.gift
+  pub phase : new.phase ≡ old.phase
+  pub read : IsRead old.reader.max (drop hand_bytes new.y) old.reader.given
   pub cause : Decides old.reader.max old.reader.given (old.y ++ input) (length new.y) e
 
 -- why the reader's refusal ends the client, where so many bytes stand before the byte

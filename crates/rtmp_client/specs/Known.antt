@@ -1,11 +1,10 @@
 -- What a client reads of a command
-use Rattle.std.specs.Prelude.{◌≡◌, ℕ, List, [], ◌∷◌, codes, Option, Some, None, option_map, if◌then◌else◌, Result, Ok, Err}
+use Rattle.std.specs.Prelude.{◌≡◌, ℕ, List, [], codes, Option, Some, None, if◌then◌else◌, Result, Ok, Err}
 use Rattle.amf0_value.specs.declared.fail.AmfFail.{AmfFail}
 use Rattle.amf0_value.specs.declared.walk.Brief.{Brief}
 use Rattle.amf0_value.specs.declared.walk.Brief.TheVariants as brief
 use Rattle.amf0_value.specs.Tree.{Tree, Items, no_items, item}
 use Rattle.amf0_value.specs.Brief.{brief_of}
-use Rattle.amf0_value.specs.Reader.{values_in}
 use Rattle.amf0_value.specs.Reading.{ReadsItems, ReadsValue}
 use Rattle.rtmp_command.specs.Commands.{command_fail}
 use Rattle.rtmp_command.specs.Heard.{number_in_brief}

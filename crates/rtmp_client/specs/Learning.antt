@@ -1,9 +1,9 @@
 -- What a client says as its dialogue goes on
-use Rattle.std.specs.Prelude.{◌≡◌, ℕ, ◌+◌, List, [], ◌∷◌, length}
+use Rattle.std.specs.Prelude.{List, [], ◌∷◌}
 use Rattle.chunk_wire.specs.declared.message.Message.{Message}
 use Rattle.client_owed.specs.declared.types.Asked.{Asked}
 use Rattle.client_owed.specs.declared.types.Phase.{Phase}
-use Rattle.client_owed.specs.declared.types.Phase.TheVariants.{Connecting, Creating, Asking, Started}
+use Rattle.client_owed.specs.declared.types.Phase.TheVariants.{Connecting, Creating, Asking}
 use Rattle.client_owed.specs.Client.{ask, chunk_size, create_stream}
 use Rattle.rtmp_client.specs.declared.learning.Due.{Due}
 use Rattle.rtmp_client.specs.declared.learning.Due.TheVariants as due

@@ -4,6 +4,8 @@ use Rattle.relay_base.specs.Numbers.{be32_of}
 use Rattle.chunk_wire.specs.declared.message.Message.{Message}
 use Rattle.chunk_writer.specs.WriterKnown.{WriterKnown, fresh}
 use Rattle.chunk_writer.specs.Written.{IsWritable, after_all, sets_size, written}
+use Rattle.client_owed.specs.declared.types.Given.{Given}
+use Rattle.client_owed.specs.declared.types.Given.TheVariants.{Finish, Send}
 
 -- a chunk size that a client tells: 128 at first, and then 4,096 (5.4.1)
 pub record IsSized (size : ℕ) : Type 0 where
@@ -64,3 +66,8 @@ pub record IsOwing (bytes : List ℕ) (offset tag : ℕ) (writer : WriterKnown) 
 -- what came to be pending is of no tag
 abbrev pub Apart : Owing → Owing → Type 0
 Apart old new = length old.pending + new.others ≡ old.others + length new.pending
+
+-- this was given: where it is a tag, all that is pending is of it
+abbrev pub Counts : Given → Owing → Owing → Type 0
+Counts (Send t) old new = new.others ≡ 0
+Counts Finish old new = Apart old new

@@ -1,5 +1,5 @@
 -- What a message tells, where it is a command, and where it is none
-use Rattle.std.specs.Prelude.{ℕ, List, [], Result}
+use Rattle.std.specs.Prelude.{List, [], Result}
 use Rattle.chunk_wire.specs.declared.message.Message.{Message}
 use Rattle.rtmp_command.specs.declared.command.CommandFail.{CommandFail}
 use Rattle.client_owed.specs.declared.types.Gift.{Gift}

@@ -1,12 +1,17 @@
 -- ONE TURN OF A CLIENT, as a relation: by what the link answered in it, each step with those after it
-use Rattle.std.specs.Prelude.{◌≡◌, ◌⊎◌, ℕ, ◌<◌, Bool, true, false, not, ◌&&◌, ◌||◌, nat_le, List, [], ◌∷◌, length, take, Option, Some, None, is_some, Result, Ok, Err}
+use Rattle.std.specs.Prelude.{◌≡◌, ◌⊎◌, ℕ, ◌<◌, Bool, true, false, not, ◌&&◌, ◌||◌, nat_le, List, [], ◌∷◌, drop, length, take, Option, Some, None, is_some, Result, Ok, Err}
 use Rattle.relay_outside.specs.Heard.{Came, CameBytes, CameEnd, CameNotYet, CameFailed}
 use Rattle.relay_outside.specs.declared.link.Said.{Said}
 use Rattle.relay_outside.specs.declared.link.Said.TheVariants as said
+use Rattle.chunk_reader.specs.Sound.{IsRead}
+use Rattle.rtmp_handshake.specs.Answer.{bad_version}
+use Rattle.session_owed.specs.Talk.{hand_bytes}
 use Rattle.client_owed.specs.declared.types.Asked.{Asked}
 use Rattle.client_owed.specs.declared.types.Gave.{Gave}
 use Rattle.client_owed.specs.declared.types.Gift.{Gift}
+use Rattle.client_owed.specs.declared.types.Phase.{Phase}
 use Rattle.rtmp_client.specs.Feeding.{Hears, IsFed, IsSent, IsStopped}
+use Rattle.rtmp_client.specs.Keeping.{StandsNow}
 use Rattle.rtmp_client.specs.declared.core_fields.Core.{Core}
 use Rattle.rtmp_client.specs.declared.end.ClientEnd.{ClientEnd}
 use Rattle.rtmp_client.specs.declared.end.ClientEnd.TheVariants as end
@@ -45,6 +50,14 @@ is_hungry c = not (is_some c.gift) && nat_le c.outgoing.others 8192
 abbrev pub is_done : Core → Bool
 is_done c = c.finished && is_nil c.outgoing.pending
 
+-- IT STANDS FOR THE BYTES FED: their version is taken, they are counted, the messages read are theirs, and what was sent and what is
+-- pending is what it owes for them
+pub record StandsFed (c : Core) : Type 0 where
+  pub version : bad_version c.y ≡ None
+  pub counted : c.fed ≡ length c.y
+  pub read : IsRead c.reader.max (drop hand_bytes c.y) c.reader.given
+  pub stands : StandsNow c
+
 -- ---- how it ends
 
 -- what is left of a client that has ended
@@ -58,9 +71,23 @@ pub record Gone : Type 0 where
   pub gift : Option Gift
   pub finished : Bool
   pub fed : ℕ
+  pub phase : Phase
+  pub pending : List ℕ
 
 abbrev pub gone_of : Core → Gone
-gone_of c = record { asked = c.asked; max = c.reader.max; y = c.y; gave = c.gave; sent = c.sent; taken = c.taken; gift = c.gift; finished = c.finished; fed = c.fed }
+gone_of c = record {
+  asked = c.asked;
+  max = c.reader.max;
+  y = c.y;
+  gave = c.gave;
+  sent = c.sent;
+  taken = c.taken;
+  gift = c.gift;
+  finished = c.finished;
+  fed = c.fed;
+  phase = c.phase;
+  pending = c.outgoing.pending;
+}
 
 -- it ended so, and nothing else was received, sent or fed
 pub record IsEnded (e : ClientEnd) (v : Life) (a : Result Bool ClientEnd) (w : Life) : Type 0 where
@@ -75,8 +102,10 @@ pub data FedBy : Type 0 where
 
 -- ---- STEP 4: input is fed until a message is complete and handled, or none is left
 abbrev pub FedAs : FedBy → Life → Bool → Result Bool ClientEnd → Life → Type 0
-FedAs Quietly v moved a w = IsFed v.parts v.input w.parts [] × Hears v.parts w.parts false × (w.input ≡ []) × (a ≡ Ok (moved || not (is_nil v.input)))
-FedAs Loudly v moved a w = IsFed v.parts v.input w.parts w.input × Hears v.parts w.parts true × (length v.parts.y < length w.parts.y) × (a ≡ Ok true)
+FedAs Quietly v moved a w =
+    IsFed v.parts v.input w.parts [] × Hears v.parts w.parts false × (w.input ≡ []) × (a ≡ Ok (moved || not (is_nil v.input))) × StandsFed w.parts
+FedAs Loudly v moved a w =
+    IsFed v.parts v.input w.parts w.input × Hears v.parts w.parts true × (length v.parts.y < length w.parts.y) × (a ≡ Ok true) × StandsFed w.parts
 FedAs (Stopping e) v moved a w = IsStopped v.parts v.input e w.parts × (a ≡ Err e)
 
 abbrev pub Fed : Life → Bool → Result Bool ClientEnd → Life → Type 0

@@ -1,5 +1,5 @@
 //! What a message does: what it is answered, and what it tells.
-ghost use Rattle.std.specs.Prelude.{◌≡◌, ◌≤◌, ◌+◌, ◌*◌, ◌⊎◌, ◌==◌, true, false, None, Some, Ok, Err, OnOk, IfOk, IfErr, MatchResult};
+ghost use Rattle.std.specs.Prelude.{◌≡◌, ◌≤◌, ◌+◌, ◌*◌, ◌⊎◌, ◌==◌, true, false, None, Some, Ok, Err, OnErr, OnOk, IfOk, IfErr, MatchResult};
 ghost use Rattle.ack_window.specs.Controls.{ping_answer_of};
 ghost use Rattle.session_owed.specs.Acks.{window_by, windowed};
 ghost use Rattle.client_owed.specs.Client.{does, pongs};
@@ -173,6 +173,7 @@ fn answer_command(
     requires named { IsNamed asked.now }
     requires command { (message.kind == 20) ≡ true }
     ensures phase { OnOk result (phase.new ≡ (does asked.now phase.old message).phase) }
+    ensures still { OnErr result (phase.new ≡ phase.old) }
     ensures said { OnOk result (Says outgoing.old (does asked.now phase.old message).says outgoing.new) }
     ensures gift { IfOk result (λ g. listed g ≡ gift_for asked.now.wish phase.old message) }
     ensures ok { OnOk result (refused last message ≡ None) }
@@ -234,6 +235,7 @@ pub(crate) fn answer(
 ) -> Result<Option<Gift>, ClientEnd>
     requires { IsNamed asked.now }
     ensures phase { OnOk result (phase.new ≡ (does asked.now phase.old message).phase) }
+    ensures still { OnErr result (phase.new ≡ phase.old) }
     ensures said { OnOk result (Says outgoing.old (does asked.now phase.old message).says outgoing.new) }
     ensures window { OnOk result (inbound.new ≡ record { window = window_by inbound.old.window message; taken = inbound.old.taken }) }
     ensures gift { IfOk result (λ g. listed g ≡ gift_for asked.now.wish phase.old message) }

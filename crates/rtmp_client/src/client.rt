@@ -7,6 +7,7 @@ ghost use Rattle.rtmp_client.specs.Bounds.{IsHolding, IsWithin};
 ghost use Rattle.rtmp_client.specs.Causes.{Did, MayBe};
 ghost use Rattle.rtmp_client.specs.ClientState.{StandsFor, TurnMade, has_started, lasting_of, life_of, untouched_of, without_gift};
 ghost use Rattle.rtmp_client.specs.Keeping.{keeps_of, past_of};
+ghost use Rattle.rtmp_client.specs.Owing.{Counts};
 ghost use Rattle.rtmp_client.specs.Turns.{EndedBy};
 
 use crate::giving::{give_finish, give_tag, take_gift};
@@ -62,6 +63,7 @@ impl Client {
         ensures max { IfOk result (λ c. c.parts.reader.max ≡ max_message) }
         ensures past { IfOk result (λ c. past_of c.parts ≡ new_past) }
         ensures keeps { IfOk result (λ c. keeps_of c.parts ≡ new_keeps) }
+        ensures others { IfOk result (λ c. c.parts.outgoing.others ≡ length c.parts.outgoing.pending) }
         ensures input { IfOk result (λ c. c.input ≡ []) }
         ensures lives { IfOk result (λ c. c.ended ≡ None) }
         ensures stands { IfOk result (λ c. StandsFor c) }
@@ -138,6 +140,7 @@ impl Client {
         requires most { length tag.body ≤ self.old.parts.reader.max }
         ensures past { OnOk result (past_of self.new.parts ≡ with_given (past_of self.old.parts) (record { at = length self.old.parts.y; given = given.Send tag })) }
         ensures keeps { OnOk result (keeps_of self.new.parts ≡ gave_more (keeps_of self.old.parts) (given.Send tag)) }
+        ensures counts { OnOk result (Counts (given.Send tag) self.old.parts.outgoing self.new.parts.outgoing) }
         ensures err { OnErr result (self.new ≡ self.old) }
         ensures others { untouched_of self.new ≡ untouched_of self.old }
     {
@@ -156,6 +159,7 @@ impl Client {
         requires open { self.old.parts.finished ≡ false }
         ensures past { OnOk result (past_of self.new.parts ≡ with_given (past_of self.old.parts) (record { at = length self.old.parts.y; given = given.Finish })) }
         ensures keeps { OnOk result (keeps_of self.new.parts ≡ gave_more (keeps_of self.old.parts) given.Finish) }
+        ensures counts { OnOk result (Counts given.Finish self.old.parts.outgoing self.new.parts.outgoing) }
         ensures err { OnErr result (self.new ≡ self.old) }
         ensures others { untouched_of self.new ≡ untouched_of self.old }
     {

@@ -7,6 +7,7 @@ ghost use Rattle.client_owed.specs.Standing.{gave_more, with_given};
 ghost use Rattle.flv_tags.specs.Layout.{is_kind};
 ghost use Rattle.rtmp_client.specs.ClientState.{IsLiving, without_gift};
 ghost use Rattle.rtmp_client.specs.Keeping.{keeps_of, past_of};
+ghost use Rattle.rtmp_client.specs.Owing.{Counts};
 
 use crate::Core;
 use crate::spelled::delete_stream;
@@ -28,6 +29,7 @@ pub(crate) fn give_tag(core: &mut Core, id: u32, tag: Tag) -> Result<(), OutOfMe
     ensures living { IsLiving core.new }
     ensures past { OnOk result (past_of core.new ≡ with_given (past_of core.old) (record { at = core.old.fed; given = given.Send tag })) }
     ensures keeps { OnOk result (keeps_of core.new ≡ gave_more (keeps_of core.old) (given.Send tag)) }
+    ensures counts { OnOk result (Counts (given.Send tag) core.old.outgoing core.new.outgoing) }
     ensures err { OnErr result (core.new ≡ core.old) }
     ensures fixed { (core.new.asked ≡ core.old.asked) × (core.new.reader ≡ core.old.reader) }
 {
@@ -60,6 +62,7 @@ pub(crate) fn give_finish(core: &mut Core, alloc: Global, id: u32) -> Result<(),
     ensures living { IsLiving core.new }
     ensures past { OnOk result (past_of core.new ≡ with_given (past_of core.old) (record { at = core.old.fed; given = given.Finish })) }
     ensures keeps { OnOk result (keeps_of core.new ≡ gave_more (keeps_of core.old) given.Finish) }
+    ensures counts { OnOk result (Counts given.Finish core.old.outgoing core.new.outgoing) }
     ensures err { OnErr result (core.new ≡ core.old) }
     ensures fixed { (core.new.asked ≡ core.old.asked) × (core.new.reader ≡ core.old.reader) }
 {

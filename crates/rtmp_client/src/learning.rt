@@ -1,5 +1,5 @@
 //! What a client does with what is made known to it: each of the three answers counts once, in its turn.
-ghost use Rattle.std.specs.Prelude.{◌≡◌, ◌≤◌, ◌+◌, ◌*◌, ◌∷◌, [], OnOk};
+ghost use Rattle.std.specs.Prelude.{◌≡◌, ◌≤◌, ◌+◌, ◌*◌, ◌∷◌, [], OnErr, OnOk};
 ghost use Rattle.client_owed.specs.declared.types.Asked.{Asked as TheAsked};
 ghost use Rattle.client_owed.specs.declared.types.Phase.TheVariants as phase;
 ghost use Rattle.client_owed.specs.Client.{ask as ask_of, chunk_size, create_stream as create_of, created as created_by, learns, start_code as code_of};
@@ -229,6 +229,7 @@ pub(crate) fn learn(
     requires { IsNamed asked.now }
     ensures phase { OnOk result (phase.new ≡ (learns asked.now phase.old news.now).phase) }
     ensures said { OnOk result (Says outgoing.old (learns asked.now phase.old news.now).says outgoing.new) }
+    ensures still { OnErr result (phase.new ≡ phase.old) }
     ensures light { 16 * outgoing.new.others ≤ 16 * outgoing.old.others + 5600 }
     ensures apart { Apart outgoing.old outgoing.new }
 {

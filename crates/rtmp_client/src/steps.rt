@@ -91,6 +91,7 @@ pub(crate) fn new_core(alloc: Global, asked: Asked, max_message: u32) -> Result<
     ensures small { IfOk result (λ c. IsSmall c) }
     ensures past { IfOk result (λ c. past_of c ≡ new_past) }
     ensures keeps { IfOk result (λ c. keeps_of c ≡ new_keeps) }
+    ensures others { IfOk result (λ c. c.outgoing.others ≡ length c.outgoing.pending) }
     ensures fixed { IfOk result (λ c. (c.asked ≡ asked) × (c.reader.max ≡ max_message) × (c.gift ≡ None)) }
 {
     let mut outgoing = Outgoing::new(alloc);

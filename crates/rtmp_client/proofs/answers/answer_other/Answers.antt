@@ -1,4 +1,4 @@
-use Rattle.std.proofs.Common.{◌≡◌, ℕ, inr, sym, ap, ◌∙◌, subst, Ok, Err, Some, None}
+use Rattle.std.proofs.Common.{ℕ, inr, sym, ap, ◌∙◌, subst, Ok}
 use Rattle.client_owed.specs.Client.{Did}
 use Rattle.rtmp_client.specs.Owing.{Says}
 use Rattle.rtmp_client.proofs.Pending.{says_nothing}

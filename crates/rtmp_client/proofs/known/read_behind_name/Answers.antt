@@ -1,4 +1,4 @@
-use Rattle.std.proofs.Common.{refl, ap, ◌∙◌, arith, ◌<◌, length, ◌≡◌}
+use Rattle.std.proofs.Common.{ap, ◌∙◌, arith, ◌<◌, length}
 use Rattle.std.proofs.lemmas.Result.{err_from_is_err_and}
 use Rattle.amf0_value.specs.Tree.{item, no_items}
 use Rattle.rtmp_command.specs.Heard.{number_in_brief}

@@ -1,6 +1,5 @@
-use Rattle.std.proofs.Common.{◌≡◌, List, sym, ap, ◌∙◌, subst}
+use Rattle.std.proofs.Common.{List, sym, ap, ◌∙◌, subst}
 use Rattle.chunk_wire.specs.declared.message.Message.{Message}
-use Rattle.client_owed.specs.declared.types.Phase.{Phase}
 use Rattle.rtmp_client.specs.Learning.{said_between}
 use Rattle.rtmp_client.specs.Owing.{Says}
 use Rattle.rtmp_client.proofs.Answering.{between}

@@ -1,7 +1,6 @@
-use Rattle.std.proofs.Common.{◌≡◌, ◌∷◌, [], ap, ap₂, arith, subst, sym, List, OnOk}
-use Rattle.chunk_wire.specs.declared.message.Message.{Message}
+use Rattle.std.proofs.Common.{ap, arith, subst, sym}
 use Rattle.client_owed.specs.Client.{chunk_size, create_stream}
-use Rattle.rtmp_client.specs.Owing.{IsSayable, Says, cost_of}
+use Rattle.rtmp_client.specs.Owing.{IsSayable, cost_of}
 use Rattle.rtmp_client.proofs.Answering.{said_two}
 use Rattle.rtmp_client.proofs.Sayable.{create_cost, create_sayable, size_cost, size_sayable}
 use Rattle.rtmp_client.proofs.learning.say_create.Goals as goal

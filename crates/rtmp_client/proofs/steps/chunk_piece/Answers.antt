@@ -4,7 +4,6 @@ use Rattle.chunk_reader.specs.ReaderKnown.{ReaderKnown}
 use Rattle.chunk_reader.proofs.Short.{fed_short}
 use Rattle.rtmp_client.specs.Bounds.{gift_bytes}
 use Rattle.rtmp_client.specs.Feeding.{IsStopped}
-use Rattle.rtmp_client.specs.Keeping.{Begun}
 use Rattle.rtmp_client.specs.declared.end.ClientEnd.{ClientEnd}
 use Rattle.rtmp_client.proofs.Living.{far, fixed_read, part_used, sound_loud, sound_quiet, took_size}
 use Rattle.rtmp_client.proofs.Stopping.{fed_chunk, fixed_with, loud_heard, over_acknowledge, over_message, over_reader, part_room, stop_acknowledge, stop_message, stop_reader}
@@ -59,7 +58,7 @@ pub returns-in-None-clause-fed : goal.returns-in-None-clause-fed
 returns-in-None-clause-fed c =
     let d = c.args.core.now in
     fed_chunk d c.args.piece.now c.first-part.result.now c.add_all-in-None.new.self c.min-count.result c.in-Ok.fed.used (d.fed + c.in-Ok.fed.used) c.in-Ok.fed.message c.feed.new.self c.acknowledge.new.inbound d.phase
-    c.acknowledge.new.outgoing d.gift c.first-part.ensures (c.in-Ok.ensures.ok c.requires.sound.reads) (search rules)
+    c.acknowledge.new.outgoing d.gift c.first-part.ensures (c.in-Ok.ensures.ok c.requires.sound.reads) (search rules) c.acknowledge.ensures.apart
 
 pub returns-in-None-clause-gift : goal.returns-in-None-clause-gift
 returns-in-None-clause-gift c = omega (arith, ap gift_bytes c.requires.open)
@@ -94,6 +93,7 @@ returns-in-Ok-answer-clause-fed c =
     let d = c.args.core.now in
     fed_chunk d c.args.piece.now c.first-part.result.now c.add_all-in-Ok-answer.new.self c.min-count.result c.in-Ok.fed.used (d.fed + c.in-Ok.fed.used) c.in-Ok.fed.message c.feed.new.self c.answer.new.inbound c.answer.new.phase
     c.answer.new.outgoing c.in-Ok-answer.gift c.first-part.ensures (c.in-Ok.ensures.ok c.requires.sound.reads) (search rules)
+    (omega (arith, c.acknowledge.ensures.apart, c.answer.ensures.apart))
 
 pub returns-in-Ok-answer-clause-heard : goal.returns-in-Ok-answer-clause-heard
 returns-in-Ok-answer-clause-heard c =
@@ -141,6 +141,7 @@ returns-in-Err-answer-clause-stopped c =
     let n = d.fed + c.in-Ok.fed.used - 1 in
     stop_message d c.args.piece.now c.first-part.result.now c.add_all-in-Err-answer.new.self c.min-count.result c.in-Ok.fed.used n n c.in-Some.message c.feed.new.self c.answer.new.inbound c.answer.new.phase
     c.answer.new.outgoing c.in-Err-answer.why c.requires.sound c.requires.late f c.first-part.ensures refl refl (search rules) c.in-Err-answer.ensures.err
+    c.in-Err-answer.ensures.still
 
 pub returns-in-Err-answer-clause-over : goal.returns-in-Err-answer-clause-over
 returns-in-Err-answer-clause-over c =

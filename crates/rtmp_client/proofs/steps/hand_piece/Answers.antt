@@ -10,7 +10,7 @@ hand_part-requires-clause-version c =
 pub returns-in-Ok-clause-fed : goal.returns-in-Ok-clause-fed
 returns-in-Ok-clause-fed c =
     let d = c.hand_part.new.core in
-    fed_hand c.args.core.now d c.args.piece.now c.first-part.result.now d.first _ d.fed d.outgoing c.first-part.ensures c.in-Ok.ensures.changed
+    fed_hand c.args.core.now d c.args.piece.now c.first-part.result.now d.first _ d.fed d.outgoing c.first-part.ensures c.in-Ok.ensures.changed c.hand_part.ensures.apart
 
 pub returns-in-Err-clause-over : goal.returns-in-Err-clause-over
 returns-in-Err-clause-over c =

@@ -1,4 +1,4 @@
-use Rattle.std.proofs.Common.{◌≡◌, ◌∷◌, [], ◌++◌, List, ℕ, replicate, ap, ◌∙◌, append_assoc}
+use Rattle.std.proofs.Common.{◌∷◌, [], ◌++◌, List, ℕ, replicate, ap, ◌∙◌, append_assoc}
 use Rattle.rtmp_client.proofs.steps.say_hello.Goals as goal
 
 pub returns-clause-bytes : goal.returns-clause-bytes

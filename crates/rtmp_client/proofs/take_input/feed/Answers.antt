@@ -1,4 +1,4 @@
-use Rattle.std.proofs.Common.{List, ℕ, ap, length, subst, arith, ◌∙◌}
+use Rattle.std.proofs.Common.{List, ℕ, ap, length, subst}
 use Rattle.rtmp_client.specs.Feeding.{IsStopped}
 use Rattle.rtmp_client.proofs.Going.{fed_left, fed_light, fed_then, feeding_step, grows_then, stopped_then}
 use Rattle.rtmp_client.proofs.take_input.feed.Goals as goal

@@ -1,8 +1,7 @@
-use Rattle.std.proofs.Common.{◌≡◌, ap, length, subst, sym, ◌≤◌}
-use Rattle.rtmp_client.specs.Causes.{Did, MayBe}
+use Rattle.std.proofs.Common.{◌≡◌, subst}
+use Rattle.rtmp_client.specs.Causes.{Did}
 use Rattle.rtmp_client.specs.ClientState.{ClientState, client_of, lasting_of, life_of}
-use Rattle.rtmp_client.specs.Turns.{EndedBy}
-use Rattle.rtmp_client.proofs.Causing.{stands_by, within_by}
+use Rattle.rtmp_client.proofs.Causing.{within_by}
 use Rattle.rtmp_client.proofs.Lasting.{made_same}
 use Rattle.rtmp_client.proofs.Turned.{did_made, may_made}
 use Rattle.rtmp_client.proofs.client.Client.turn.Goals as goal
