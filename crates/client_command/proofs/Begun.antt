@@ -1,5 +1,5 @@
 -- New clients
-use Rattle.std.proofs.Common.{◌≡◌, Option, None, Result, Ok, Err, subst}
+use Rattle.std.proofs.Common.{◌≡◌, length, Option, None, Result, Ok, Err, subst}
 use Rattle.std.specs.Prelude.{IfOk, []}
 use Rattle.av_unit.specs.declared.bytes.OutOfMemory.{OutOfMemory}
 use Rattle.client_owed.specs.Standing.{new_keeps, new_past}
@@ -13,6 +13,7 @@ pub new_live : (r : Result ClientState OutOfMemory) → IfOk r (λ c. c.ended �
 new_live (Ok c) e m s = record { lives = e; max = m; stands = subst (λ (o : Option ClientEnd). StandsBy o c.parts) e s }
 new_live (Err f) e m s = tt
 
-pub new_is : (r : Result ClientState OutOfMemory) → IfOk r (λ c. past_of c.parts ≡ new_past) → IfOk r (λ c. keeps_of c.parts ≡ new_keeps) → IfOk r (λ c. c.input ≡ []) → IfOk r IsNew
-new_is (Ok c) p k i = record { past = p; keeps = k; input = i }
-new_is (Err f) p k i = tt
+pub new_is : (r : Result ClientState OutOfMemory) → IfOk r (λ c. past_of c.parts ≡ new_past) → IfOk r (λ c. keeps_of c.parts ≡ new_keeps)
+    → IfOk r (λ c. c.parts.outgoing.others ≡ length c.parts.outgoing.pending) → IfOk r (λ c. c.input ≡ []) → IfOk r IsNew
+new_is (Ok c) p k o i = record { past = p; keeps = k; others = o; input = i }
+new_is (Err f) p k o i = tt

@@ -1,5 +1,5 @@
 -- A client that runs over a link, and what its turns come to
-use Rattle.std.specs.Prelude.{◌≡◌, ◌⊎◌, ◌++◌, ℕ, true, List, [], Option, Some, None}
+use Rattle.std.specs.Prelude.{◌≡◌, ◌⊎◌, ◌++◌, ℕ, true, List, [], length, Option, Some, None}
 use Rattle.relay_outside.specs.Counts.{Rose}
 use Rattle.relay_outside.specs.Told.{LinkCounts, LinkTold}
 use Rattle.client_owed.specs.declared.types.Asked.{Asked}
@@ -34,6 +34,7 @@ StillLives Ended c = Unit {0}
 pub record IsNew (c : ClientState) : Type 0 where
   pub past : past_of c.parts ≡ new_past
   pub keeps : keeps_of c.parts ≡ new_keeps
+  pub others : c.parts.outgoing.others ≡ length c.parts.outgoing.pending
   pub input : c.input ≡ []
 
 -- a client that lives and runs since the link was so

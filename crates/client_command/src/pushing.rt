@@ -7,6 +7,7 @@ ghost use Rattle.client_owed.specs.declared.types.Given.TheVariants as given;
 ghost use Rattle.flv_tags.specs.Written.{IsWritable};
 ghost use Rattle.rtmp_client.specs.ClientState.{has_started, untouched_of};
 ghost use Rattle.rtmp_client.specs.Keeping.{keeps_of, past_of};
+ghost use Rattle.rtmp_client.specs.Owing.{Counts};
 ghost use Rattle.client_command.specs.Giving.{Gives, HasGiven, IsOpen, IsReading, PushEnds, PushSteps, PushStops, StillOpen};
 ghost use Rattle.client_command.specs.Pushes.{PushOutcome, PushSeen, push_seen};
 ghost use Rattle.client_command.specs.Turned.{IsLive};
@@ -39,6 +40,7 @@ pub fn give_tag(client: &mut Client, tag: Tag) -> Result<(), OutOfMemory>
     ensures range { tag.time < 2 ^ 32 }
     ensures past { OnOk result (past_of client.new.parts ≡ with_given (past_of client.old.parts) (record { at = length client.old.parts.y; given = given.Send tag })) }
     ensures keeps { OnOk result (keeps_of client.new.parts ≡ gave_more (keeps_of client.old.parts) (given.Send tag)) }
+    ensures counts { OnOk result (Counts (given.Send tag) client.old.parts.outgoing client.new.parts.outgoing) }
     ensures others { untouched_of client.new ≡ untouched_of client.old }
     ensures err { OnErr result (client.new ≡ client.old) }
 {
