@@ -52,12 +52,14 @@ new_passed l e f n m = record {
   back = subst (λ (k : ℕ). IsPassed l.far l.near k) (sym m) (new_passed_one l.far l.near f e);
 }
 
-first_line : (w : Wish) (who : ℕ) (l : Line) → l.client.parts.asked ≡ asked_by w → IsNew l.client → l.near ≡ new_link → IsNewSession who l.session
-    → l.far ≡ new_link → IsFirstLine w who l
-first_line w who l asked client near s far = record {
+first_line : (w : Wish) (who : ℕ) (l : Line) → l.client.parts.asked ≡ asked_by w → IsNew l.client → IsLive l.client → l.near ≡ new_link → l.forth ≡ 0
+    → IsNewSession who l.session → l.far ≡ new_link → IsFirstLine w who l
+first_line w who l asked client live near forth s far = record {
   asked = asked;
   client = client;
+  live = live;
   near = near;
+  forth = forth;
   past = s.past;
   who_is = s.who_is;
   window_is = s.window_is;
@@ -65,6 +67,10 @@ first_line w who l asked client near s far = record {
   input = s.input;
   lives = s.lives;
   goes_on = s.goes_on;
+  fed = s.fed;
+  outbound = s.outbound;
+  others = s.others;
+  stands = s.stands;
   place = s.place;
   spot = s.spot;
   visits = s.visits;
@@ -79,7 +85,7 @@ line_begins w who c s l e asked new live fresh =
       live = live;
       runs = new_client w c new_link asked new live refl refl refl;
       serves = λ p none. new_serves who p s new_link fresh none refl refl refl;
-      first = first_line w who (fresh_line c s) asked new refl fresh refl;
+      first = first_line w who (fresh_line c s) asked new live refl refl fresh refl;
     })
 
 -- what is known of a new run

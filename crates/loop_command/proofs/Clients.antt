@@ -250,9 +250,10 @@ client_goes lives k c d link near far far' passes g = goes_at lives k c d link n
     (took_same link near passes.handed) g
 
 pub client_turned : (l : Line) (c : ClientState) (link near far : MemLinkState) (forth : ℕ) (a : ClientTurn) (lives : Bool)
-    → TurnMade (EndedBy MemHears MemSays) l.client l.near a c link → Passes link l.far near far → LivesBy (Ok lives) a c.ended
-    → TurnsClient (Ok lives) l (turned_line l c near far forth)
-client_turned l c link near far forth a lives t passes h = (a, h.0, record { link = link; turn = t; passed = passes; session = refl; all_sent = h.1 })
+    → TurnMade (EndedBy MemHears MemSays) l.client l.near a c link → Passes link l.far near far → forth ≡ l.forth + length link.sent
+    → LivesBy (Ok lives) a c.ended → TurnsClient (Ok lives) l (turned_line l c near far forth)
+client_turned l c link near far forth a lives t passes count h =
+    (a, h.0, record { link = link; turn = t; passed = passes; forth = count; session = refl; all_sent = h.1 })
 
 pub client_stops : (stop : Stop) (l m : Line) (c : ClientState) (link : MemLinkState) (a : ClientTurn) → LivesBy (Err stop) a c.ended
     → TurnMade (EndedBy MemHears MemSays) l.client l.near a c link → StandsBy c.ended c.parts → lasting_of c.parts ≡ lasting_of l.client.parts

@@ -81,7 +81,7 @@ pub turned_so : (p q : SoleState) (l : Line) (w : SessionState SeenState) (link 
     → IsTurn l.session p l.far a w q link → w.ended ≡ ended_by a → ended_by a ≡ None → w.quit ≡ l.session.quit → Passes link l.near far near
     → SessionTurned p q l (served_line l w far near back)
 turned_so p q l w link far near back a turn ended lives quit passes =
-    record { answer = a; link = link; turn = turn; lives = lives; ended = ended ∙ lives; quit = quit; passed = passes; client = refl }
+    record { answer = a; link = link; turn = turn; lives = lives; ended = ended ∙ lives; quit = quit; passed = passes; forth = refl; client = refl }
 
 -- one that has ended in it
 pub session_stops : (stop : Stop) (p q : SoleState) (l m : Line) (w : SessionState SeenState) (link : MemLinkState) (a : Turn) → LastsBy (Err stop) a

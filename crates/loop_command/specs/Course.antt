@@ -4,6 +4,7 @@ use Rattle.std.specs.Prelude.{Some, None}
 use Rattle.std.specs.Option.{is_some}
 use Rattle.flv_tags.specs.declared.tag.Tag.{Tag}
 use Rattle.relay_outside.specs.MemLinks.{MemHears, MemLinkState, MemSays}
+use Rattle.ack_window.specs.Outbound.{new_out}
 use Rattle.client_owed.specs.declared.types.Gift.{Gift}
 use Rattle.client_owed.specs.declared.types.Given.{Given}
 use Rattle.client_owed.specs.declared.types.Given.TheVariants.{Finish, Send}
@@ -12,13 +13,14 @@ use Rattle.client_owed.specs.declared.types.Wish.TheVariants as wish
 use Rattle.client_owed.specs.Standing.{gave_more, with_given}
 use Rattle.rtmp_client.specs.ClientState.{ClientState, TurnMade, has_started, untouched_of, without_gift}
 use Rattle.rtmp_client.specs.Keeping as client_keeping
+use Rattle.rtmp_client.specs.Owing.{Counts}
 use Rattle.rtmp_client.specs.Turns as client_turns
 use Rattle.rtmp_client.specs.declared.end.ClientEnd.TheVariants as client_end
 use Rattle.rtmp_client.specs.declared.end.ClientTurn.{ClientTurn}
 use Rattle.rtmp_client.specs.declared.end.ClientTurn.TheVariants as client_turn
 use Rattle.client_command.specs.Gifts.{pull_text}
 use Rattle.client_command.specs.Telling.{is_last}
-use Rattle.client_command.specs.Turned.{IsNew}
+use Rattle.client_command.specs.Turned.{IsLive, IsNew}
 use Rattle.session_owed.specs.Standing as session_standing
 use Rattle.stream_model.specs.declared.calls.Entry.{Entry}
 use Rattle.stream_registry.specs.Books.{FitsSole, SeenState, SoleState, journal_at, sole_rules}
@@ -27,7 +29,7 @@ use Rattle.client_law.specs.Pull.{item_in}
 use Rattle.relay_session.specs.Keeping as session_keeping
 use Rattle.relay_session.specs.Places.{AskedAlone}
 use Rattle.relay_session.specs.SeatState.{SeatState}
-use Rattle.relay_session.specs.SessionState.{SessionState, ended_by, life_at, pending_by}
+use Rattle.relay_session.specs.SessionState.{SessionState, StandsBy, ended_by, life_at, pending_by}
 use Rattle.relay_session.specs.Turns.{EndedBy}
 use Rattle.relay_session.specs.declared.seat_answers.Made.{Made}
 use Rattle.relay_session.specs.declared.turn.Turn.{Turn}
@@ -55,11 +57,12 @@ is_on client_turn.Moved = true
 is_on client_turn.Idle = true
 is_on client_turn.Ended = false
 
--- the turn, and what its link took comes to the session
+-- the turn, and what its link took comes to the session, and is counted
 pub record ClientTurned (answer : ClientTurn) (l m : Line) : Type 0 where
   pub link : MemLinkState
   pub turn : TurnMade (client_turns.EndedBy MemHears MemSays) l.client l.near answer m.client link
   pub passed : Passes link l.far m.near m.far
+  pub forth : m.forth ≡ l.forth + length link.sent
   pub session : m.session ≡ l.session
   pub all_sent : is_on answer ≡ false → m.client.ended ≡ Some client_end.Done
 
@@ -79,6 +82,7 @@ pub record SessionTurned (p q : SoleState) (l m : Line) : Type 0 where
   pub ended : m.session.ended ≡ None
   pub quit : m.session.quit ≡ l.session.quit
   pub passed : Passes link l.near m.far m.near
+  pub forth : m.forth ≡ l.forth
   pub client : m.client ≡ l.client
 
 -- ---- the client that plays, and its session
@@ -119,6 +123,7 @@ pub record Plays (r s : Run) : Type 0 where
 pub record Gives (g : Given) (c d : ClientState) : Type 0 where
   pub past : client_keeping.past_of d.parts ≡ with_given (client_keeping.past_of c.parts) (record { at = length c.parts.y; given = g })
   pub keeps : client_keeping.keeps_of d.parts ≡ gave_more (client_keeping.keeps_of c.parts) g
+  pub counts : Counts g c.parts.outgoing d.parts.outgoing
   pub others : untouched_of d ≡ untouched_of c
 
 -- the next tag, or that no more will come
@@ -228,7 +233,9 @@ new_link = record {
 pub record IsFirstLine (w : Wish) (who : ℕ) (l : Line) : Type 0 where
   pub asked : l.client.parts.asked ≡ asked_by w
   pub client : IsNew l.client
+  pub live : IsLive l.client
   pub near : l.near ≡ new_link
+  pub forth : l.forth ≡ 0
   pub past : session_keeping.past_of l.session.parts ≡ session_standing.new_past
   pub who_is : l.session.parts.who ≡ who
   pub window_is : l.session.parts.window ≡ window
@@ -236,6 +243,10 @@ pub record IsFirstLine (w : Wish) (who : ℕ) (l : Line) : Type 0 where
   pub input : l.session.input ≡ []
   pub lives : l.session.ended ≡ None
   pub goes_on : l.session.quit ≡ false
+  pub fed : l.session.parts.fed ≡ 0
+  pub outbound : l.session.parts.outbound ≡ new_out window
+  pub others : l.session.parts.outgoing.others ≡ 0
+  pub stands : StandsBy l.session.ended granted l.session.parts
   pub place : l.session.parts.place ≡ None
   pub spot : l.session.seat.spot ≡ None
   pub visits : l.session.seat.visits ≡ []

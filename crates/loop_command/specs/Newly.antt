@@ -1,6 +1,7 @@
 -- Only proofs and private functions use it.
 -- A client and a session of which nothing was done
 use Rattle.std.specs.Prelude.{◌≡◌, ◌≢◌, ℕ, false, [], None}
+use Rattle.ack_window.specs.Outbound.{new_out}
 use Rattle.client_owed.specs.declared.types.Wish.{Wish}
 use Rattle.rtmp_client.specs.ClientState.{ClientState}
 use Rattle.client_command.specs.Turned.{IsLive}
@@ -23,6 +24,9 @@ pub record IsNewSession (who : ℕ) (s : SessionState SeenState) : Type 0 where
   pub input : s.input ≡ []
   pub lives : s.ended ≡ None
   pub goes_on : s.quit ≡ false
+  pub fed : s.parts.fed ≡ 0
+  pub outbound : s.parts.outbound ≡ new_out window
+  pub others : s.parts.outgoing.others ≡ 0
   pub place : s.parts.place ≡ None
   pub spot : s.seat.spot ≡ None
   pub visits : s.seat.visits ≡ []

@@ -1,3 +1,5 @@
+use Rattle.std.proofs.Common.{ap}
+use Rattle.relay_session.specs.Owing.{Owing}
 use Rattle.loop_command.specs.Desk.{granted}
 use Rattle.loop_command.proofs.line.new_session.Goals as goal
 
@@ -12,6 +14,9 @@ returns-then-is_idle-clause-new c =
       input = e.input;
       lives = e.lives.1;
       goes_on = e.lives.0;
+      fed = e.fed;
+      outbound = e.outbound;
+      others = ap (λ (o : Owing). o.others) e.outgoing;
       place = e.at.0;
       spot = e.at.1;
       visits = e.at.2;

@@ -41,4 +41,4 @@ pub returns-clause-turned : goal.returns-clause-turned
 returns-clause-turned c =
     let t = c.turn-answer in
     client_turned c.args.line.now t.new.self t.new.link c.pass.new.from c.pass.new.to _ t.result c.in_ok-lives.lives t.ensures.turn
-    c.in_ok-line.ensures.passed c.in_ok-lives.ensures
+    c.in_ok-line.ensures.passed c.in_ok-line.ensures.total c.in_ok-lives.ensures

@@ -33,7 +33,7 @@ returns-in_ok-give_tag-in-Some-clause-sound c =
     let live = live_given c.give_step.ensures r.push.client d (Send c.in-Some.tag) opened.0 can.0
     (may_send r.push.client c.in-Some.tag opened.0 c.give_tag.ensures.range fine) e.past e.keeps c.give_tag.ensures.others in
     tag_sound r (record r { push = record r.push { client = d }; tags = c.pop_front.new.self }) c.in-Some.tag c.requires.giving items refl
-    (record { past = e.past; keeps = e.keeps; others = c.give_tag.ensures.others }) live c.requires.sound
+    (record { past = e.past; keeps = e.keeps; counts = e.counts; others = c.give_tag.ensures.others }) live c.requires.sound
 
 pub returns-in_ok-give_tag-in-Some-clause-goes : goal.returns-in_ok-give_tag-in-Some-clause-goes
 returns-in_ok-give_tag-in-Some-clause-goes c = λ file old now h.
@@ -47,7 +47,7 @@ returns-in_ok-give_tag-in-Some-clause-goes c = λ file old now h.
     let live = live_given c.give_step.ensures r.push.client d (Send c.in-Some.tag) opened.0 can.0
     (may_send r.push.client c.in-Some.tag opened.0 c.give_tag.ensures.range fine) e.past e.keeps c.give_tag.ensures.others in
     tag_goes file old now r (record r { push = record r.push { client = d }; tags = c.pop_front.new.self }) c.in-Some.tag c.requires.giving items refl
-    (record { past = e.past; keeps = e.keeps; others = c.give_tag.ensures.others }) live h
+    (record { past = e.past; keeps = e.keeps; counts = e.counts; others = c.give_tag.ensures.others }) live h
 
 pub finish-requires-clause-lives : goal.finish-requires-clause-lives
 finish-requires-clause-lives c = (can_open c.args.run.now c.requires.giving c.requires.sound).0.live.lives
@@ -73,4 +73,5 @@ returns-in_ok-finish-in-None-clause-goes c = λ file old now h.
     let same = c.pop_front.ensures.items ∙ ap (λ (o : Option Tag). option_to_list o ++ tags.items) c.in-None.is in
     let none = no_tags r.tags.items r.tags.len r.tags.ok.0 c.in-None.ensures.cases.0 in
     let live = live_given c.give_step.ensures r.push.client d Finish opened.0 can.0 tt e.past e.keeps c.finish.ensures.others in
-    end_goes file old now r _ c.requires.giving none (sym same ∙ none) refl (record { past = e.past; keeps = e.keeps; others = c.finish.ensures.others }) live h
+    end_goes file old now r _ c.requires.giving none (sym same ∙ none) refl
+    (record { past = e.past; keeps = e.keeps; counts = e.counts; others = c.finish.ensures.others }) live h
