@@ -17,4 +17,6 @@ mod stop;
 mod talk;
 mod words;
 
+pub use line::Line;
+pub use rounds::{Run, Stage};
 pub use run::loop_run;

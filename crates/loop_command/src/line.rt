@@ -28,13 +28,13 @@ const MOST_PASSED: u64 = 1 << 61;
 
 /// A client and the session that serves it, the link of each, and how many bytes came from each to the other.
 #[derive(Drop)]
-pub(crate) struct Line {
-    pub(crate) client: Client,
-    pub(crate) near: MemLink,
-    pub(crate) session: Session<Sole>,
-    pub(crate) far: MemLink,
-    pub(crate) forth: u64,
-    pub(crate) back: u64,
+pub struct Line {
+    pub client: Client,
+    pub near: MemLink,
+    pub session: Session<Sole>,
+    pub far: MemLink,
+    pub forth: u64,
+    pub back: u64,
 }
 
 // Whether a session is granted nothing.

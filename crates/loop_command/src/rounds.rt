@@ -25,7 +25,7 @@ use stream_registry::{Name, NameList, OpenList, Sole};
 
 /// How far the client that publishes has come.
 #[derive(Clone, Copy, Debug, Drop, PartialEq, Eq)]
-pub(crate) enum Stage {
+pub enum Stage {
     /// It is given the tags of the film.
     Giving,
     /// It was told that no more will come.
@@ -36,18 +36,18 @@ pub(crate) enum Stage {
 
 /// A run: the stream, both lines, the tags that are still to be given, and what has come back.
 #[derive(Drop)]
-pub(crate) struct Run {
-    pub(crate) port: Sole,
-    pub(crate) pull: Line,
-    pub(crate) push: Line,
-    pub(crate) tags: VecDeque<Tag>,
-    pub(crate) stage: Stage,
+pub struct Run {
+    pub port: Sole,
+    pub pull: Line,
+    pub push: Line,
+    pub tags: VecDeque<Tag>,
+    pub stage: Stage,
     /// Something was written.
-    pub(crate) begun: bool,
+    pub begun: bool,
     /// The stream is over for the client that plays.
-    pub(crate) over: bool,
+    pub over: bool,
     /// How much it was told.
-    pub(crate) told: u64,
+    pub told: u64,
 }
 
 /// The session of the client that publishes.
