@@ -1,0 +1,5 @@
+pub mod Growing
+pub mod Lines
+pub mod Rounds
+pub mod Courses
+pub mod Outputs

@@ -1,0 +1,28 @@
+-- WHAT A RUN OF A FILM COMES TO
+use Rattle.std.specs.Prelude.{◌≡◌, ◌⊎◌, ℕ, Bool, true, false, List}
+use Rattle.std.specs.Io.KnownBytes.{append_known}
+use Rattle.relay_base.specs.declared.limits.Status.{Status}
+use Rattle.file_commands.specs.Outcome.{Seen}
+use Rattle.flv_tags.specs.declared.tag.Tag.{Tag}
+use Rattle.loop_command.specs.Course.{CameBack, CameNot}
+
+-- a run of the film of these tags, which has so many bytes: whether it has come back within its rounds, and the text that came
+abbrev pub ComesTo : List Tag → ℕ → Bool → List ℕ → Type 0
+ComesTo tags bytes true text = CameBack tags bytes text
+ComesTo tags bytes false text = CameNot tags bytes text
+
+-- TWO RUNS CAME TO THE SAME
+pub record SameEnd (back : Bool) (text : List ℕ) (back' : Bool) (text' : List ℕ) : Type 0 where
+  pub back_same : back' ≡ back
+  pub text_same : text' ≡ text
+
+-- by its code the film was run: it has come back, or hasn't
+abbrev pub WasRun : Status → Type 0
+WasRun s = (s.code ≡ 0) ⊎ (s.code ≡ 9)
+
+-- TWO COMMANDS ENDED THE SAME, and wrote the same text
+pub record SameOutput (old new : Seen) (status : Status) (old' new' : Seen) (status' : Status) : Type 0 where
+  pub status_same : status' ≡ status
+  pub text : List ℕ
+  pub first : new.held ≡ append_known old.held text
+  pub second : new'.held ≡ append_known old'.held text

@@ -1,0 +1,20 @@
+ghost use Rattle.std.specs.Prelude.{◌≡◌, ◌≤◌, Bool, List, Some, ℕ};
+ghost use Rattle.relay_base.specs.declared.limits.Status.{Status};
+ghost use Rattle.file_commands.specs.Outcome.{Seen};
+ghost use Rattle.flv_tags.specs.declared.tag.Tag.{Tag};
+ghost use Rattle.loop_command.specs.Films.{most_bytes};
+ghost use Rattle.loop_command.specs.Outcome.{Outcome};
+ghost use Rattle.loop_law.specs.Ends.{ComesTo, SameEnd, SameOutput, WasRun};
+
+/// Two runs of one film, of no more bytes than may be read, come to the same: both have come back with the same text, or neither has, and
+/// what came is the same.
+pub fn two_runs_of_a_film_come_to_the_same()
+    ensures { (tags : List Tag) (bytes : ℕ) (back back' : Bool) (text text' : List ℕ) → bytes ≤ most_bytes → ComesTo tags bytes back text
+        → ComesTo tags bytes back' text' → SameEnd back text back' text' }
+{}
+
+/// Two commands that ran one film end with the same status and write the same text.
+pub fn two_commands_that_ran_a_film_write_the_same()
+    ensures { (film : List ℕ) (old new old' new' : Seen) (status status' : Status) → old.left ≡ Some film → old'.left ≡ Some film
+        → Outcome old new status → Outcome old' new' status' → WasRun status → WasRun status' → SameOutput old new status old' new' status' }
+{}
