@@ -1,5 +1,5 @@
 -- WHAT A RUN OF A FILM COMES TO
-use Rattle.std.specs.Prelude.{◌≡◌, ◌⊎◌, ℕ, Bool, true, false, List}
+use Rattle.std.specs.Prelude.{◌≡◌, ◌≢◌, ◌⊎◌, ℕ, Bool, true, false, List}
 use Rattle.std.specs.Io.KnownBytes.{append_known}
 use Rattle.relay_base.specs.declared.limits.Status.{Status}
 use Rattle.file_commands.specs.Outcome.{Seen}
@@ -16,13 +16,14 @@ pub record SameEnd (back : Bool) (text : List ℕ) (back' : Bool) (text' : List 
   pub back_same : back' ≡ back
   pub text_same : text' ≡ text
 
--- by its code the film was run: it has come back, or hasn't
-abbrev pub WasRun : Status → Type 0
-WasRun s = (s.code ≡ 0) ⊎ (s.code ≡ 9)
+-- by its code neither want of memory nor its source or sink ended it: the film has come back, it is refused, or it hasn't come back
+abbrev pub WasDecided : Status → Type 0
+WasDecided s = (s.code ≡ 0) ⊎ ((s.code ≡ 4) ⊎ (s.code ≡ 9))
 
--- TWO COMMANDS ENDED THE SAME, and wrote the same text
+-- TWO COMMANDS ENDED WITH THE SAME CODE, and wrote the same text; at the same place, unless the film is refused
 pub record SameOutput (old new : Seen) (status : Status) (old' new' : Seen) (status' : Status) : Type 0 where
-  pub status_same : status' ≡ status
+  pub code_same : status'.code ≡ status.code
+  pub place_same : status.code ≢ 4 → status'.place ≡ status.place
   pub text : List ℕ
   pub first : new.held ≡ append_known old.held text
   pub second : new'.held ≡ append_known old'.held text
