@@ -133,6 +133,3 @@ impl<W: Write + Drop> Sink for Writing<W> {
 
     ghost takes_mean = { λ s piece answer t some step. step };
 }
-
-#[cfg(test)]
-mod tests;
