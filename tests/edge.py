@@ -127,11 +127,11 @@ def nobody(relay, folder):
     port = free.getsockname()[1]
     here = edge(relay, folder, port, "accept = 1")
     lines = lines_of(here)
+    want = f"origin 127.0.0.1:{port} ended: the link failed: Connection refused (os error 111)"
+    expect(wait_for(lambda: says(here.said + lines, want)), f"nobody: the edge says {here.said}, {lines}")
     Client(here.port).open("play", "cam").close()
     out, status = here.process.stdout.read().decode(), here.process.wait(30)
     here.reading.join(30)
-    want = f"origin 127.0.0.1:{port} ended: the link failed: Connection refused (os error 111)"
-    expect(says(here.said, want) or says(lines, want), f"nobody: the edge says {here.said}, {lines}")
     expect((status, out) == (0, "stream 0 began 0 pushed 0 ended 0 joined 1 skips 0\nedge linkfault\n"), f"nobody: {status}, {out!r}")
     free.close()
 
