@@ -1,5 +1,5 @@
 //! A sink that runs out of memory.
-use relay_outside::{Put, Sink};
+use relay_outside::{Put, Sink, SinkNews};
 
 /// Takes whole pieces, or one byte of each where it is slow, and has no memory once it has taken so many more.
 #[derive(Drop)]
@@ -30,6 +30,8 @@ impl Sink for Starved {
             Err(_) => Put::OutOfMemory,
         }
     }
+
+    fn tell(&self, _news: SinkNews) {}
 
     ghost takes_mean = { λ s piece answer t some step. step };
 }

@@ -3,7 +3,7 @@ ghost use Rattle.relay_outside.specs.Put.{PutStep};
 
 use crate::keys::guards;
 use relay_base::Status;
-use relay_outside::{MemSink, MemSource, Put, Sink};
+use relay_outside::{MemSink, MemSource, Put, Sink, SinkNews};
 use relay_program::{drill, run};
 use std::alloc::{AllocError, Global};
 use std::test::Fail;
@@ -666,6 +666,8 @@ impl Sink for SinkWithoutMemory {
     fn put(&mut self, _piece: &[u8]) -> Put {
         Put::OutOfMemory
     }
+
+    fn tell(&self, _news: SinkNews) {}
 
     ghost takes_mean = { λ s piece answer t some step. step };
 }

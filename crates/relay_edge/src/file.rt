@@ -5,7 +5,7 @@ ghost use Rattle.relay_outside.specs.Put.{PutStep};
 
 use crate::shown::say;
 use libc::types::rlimit;
-use relay_outside::{Put, Sink};
+use relay_outside::{Put, Sink, SinkNews};
 use std::fs::File;
 use std::io;
 use std::io::{Eprint, Write};
@@ -127,6 +127,8 @@ impl<R: Eprint> Sink for RealFile<'_, R> {
         self.failed = self.failed.saturating_add(1);
         Put::Failed
     }
+
+    fn tell(&self, _news: SinkNews) {}
 
     ghost takes_mean = { λ f piece answer g some step. step };
 }

@@ -28,6 +28,7 @@ mod segments;
 mod shown;
 mod stats;
 mod watch;
+mod words;
 
 pub use door::RealDoor;
 pub use file::RealFile;

@@ -3,6 +3,8 @@
 use crate::post::Post;
 use crate::seats::Doing;
 use crate::shown::Written;
+use crate::words;
+use crate::words::Words;
 use log::{Level, log};
 use relay_outside::{Ending, News};
 use std::cell::Cell;
@@ -204,6 +206,7 @@ impl Life {
                 ending: Ending::Answered(_),
                 at: _,
             } => self.answered.set(true),
+            News::HeldBack | News::Resumed => return,
             News::Denied(_) | News::Ended { .. } => {}
         }
         let line = Line {
@@ -232,7 +235,7 @@ struct Line<'a> {
 impl Line<'_> {
     fn level(&self) -> Level {
         match self.news {
-            News::Connected => Level::Debug,
+            News::Connected | News::HeldBack | News::Resumed => Level::Debug,
             News::Publishes | News::Plays | News::Left => Level::Info,
             News::Denied(_) => Level::Warn,
             News::Ended { ending, at: _ } => match ending {
@@ -247,9 +250,9 @@ impl Line<'_> {
     fn write_cause<W: fmt::Write>(&self, f: &mut Formatter<W>) -> fmt::Result {
         match (self.cause, &self.error) {
             (Cause::Silent { seconds }, _) => write!(f, "ended: silent for {seconds} s"),
-            (Cause::Stopped, _) => write!(f, "ended: {}", Ending::Quit),
-            (Cause::Peer, Some(error)) => write!(f, "{}: {error}", self.news),
-            (Cause::Peer, None) => write!(f, "{}", self.news),
+            (Cause::Stopped, _) => write!(f, "ended: {}", words::Cause(Ending::Quit)),
+            (Cause::Peer, Some(error)) => write!(f, "{}: {error}", Words(self.news)),
+            (Cause::Peer, None) => write!(f, "{}", Words(self.news)),
         }
     }
 }
@@ -263,9 +266,9 @@ impl Display for Line<'_> {
                 ending: Ending::LinkFault | Ending::PeerClosed,
                 at: _,
             } => self.write_cause(f),
-            News::Ended { .. } => write!(f, "{}", self.news),
-            News::Connected => write!(f, "{} {app}", self.news),
-            _ => write!(f, "{} {app}/{name}", self.news),
+            News::Ended { .. } => write!(f, "{}", Words(self.news)),
+            News::Connected => write!(f, "{} {app}", Words(self.news)),
+            _ => write!(f, "{} {app}/{name}", Words(self.news)),
         }
     }
 }

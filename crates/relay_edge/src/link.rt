@@ -501,6 +501,12 @@ impl Link for RealLink {
 
     ghost says = { λ l piece answer m. SayStep piece None None l m answer };
 
+    ghost ready = { λ l answer. Unit {0} };
+
+    fn is_ready(&self) -> bool {
+        true
+    }
+
     fn recv(&mut self, into: &mut [u8]) -> Heard {
         self.wire.cell.ask();
         if self.wire.settle() == Flushed::Failed || self.wire.broken {

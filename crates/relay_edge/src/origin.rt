@@ -9,6 +9,8 @@ use crate::life::Cause;
 use crate::post::Post;
 use crate::seats::Doing;
 use crate::shown::Written;
+use crate::words;
+use crate::words::Words;
 use log::{Level, log};
 use mio::net::TcpStream;
 use mio::{Interest, Registry, Token};
@@ -275,6 +277,12 @@ impl Link for OriginLink {
 
     ghost says = { λ l piece answer m. SayStep piece None None l m answer };
 
+    ghost ready = { λ l answer. Unit {0} };
+
+    fn is_ready(&self) -> bool {
+        true
+    }
+
     fn recv(&mut self, into: &mut [u8]) -> Heard {
         self.pipe.ask();
         if self.pipe.is_stopped() {
@@ -353,9 +361,9 @@ impl Line<'_> {
     fn write_cause<W: fmt::Write>(&self, f: &mut Formatter<W>) -> fmt::Result {
         match (self.cause, &self.error) {
             (Cause::Silent { seconds }, _) => write!(f, "ended: silent for {seconds} s"),
-            (Cause::Stopped, _) => write!(f, "ended: {}", Ending::Quit),
-            (Cause::Peer, Some(error)) => write!(f, "{}: {error}", self.news),
-            (Cause::Peer, None) => write!(f, "{}", self.news),
+            (Cause::Stopped, _) => write!(f, "ended: {}", words::Cause(Ending::Quit)),
+            (Cause::Peer, Some(error)) => write!(f, "{}: {error}", Words(self.news)),
+            (Cause::Peer, None) => write!(f, "{}", Words(self.news)),
         }
     }
 
@@ -384,7 +392,7 @@ impl Display for Line<'_> {
                 ending: Ending::LinkFault | Ending::PeerClosed,
                 at: _,
             } => self.write_cause(f),
-            _ => write!(f, "{}", self.news),
+            _ => write!(f, "{}", Words(self.news)),
         }
     }
 }

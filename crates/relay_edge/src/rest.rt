@@ -253,4 +253,12 @@ impl Rest for RealRest {
             self.wait(0);
         }
     }
+
+    fn pushed(&mut self, _stream: u32) {}
+
+    fn plays(&mut self, _stream: u32) {}
+
+    fn pushes(&self, _stream: u32) -> u64 {
+        0
+    }
 }

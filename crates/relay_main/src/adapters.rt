@@ -3,7 +3,7 @@ ghost use Rattle.std.specs.Prelude.{◌≡◌, ◌↔◌, None};
 ghost use Rattle.relay_outside.specs.Get.{GetStep};
 ghost use Rattle.relay_outside.specs.Put.{PutStep};
 
-use relay_outside::{Got, Put, Sink, Source};
+use relay_outside::{Got, Put, Sink, SinkNews, Source};
 use std::io;
 use std::io::{Read, Write};
 use std::marker::Model;
@@ -130,6 +130,8 @@ impl<W: Write + Drop> Sink for Writing<W> {
         self.failed = self.failed.saturating_add(1);
         Put::Failed
     }
+
+    fn tell(&self, _news: SinkNews) {}
 
     ghost takes_mean = { λ s piece answer t some step. step };
 }

@@ -12,6 +12,18 @@ pub trait Rest: Drop {
 
     /// Called after a turn that moved something. It never waits.
     fn moved(&mut self);
+
+    /// Called after a unit may have been pushed to this stream, or its publisher may have left. It never waits.
+    ///
+    /// `stream` is a number of the stream, for hints alone: two streams may share one, which costs time and nothing else.
+    fn pushed(&mut self, stream: u32);
+
+    /// Called when a link or a recorder of this worker begins to play this stream. It never waits.
+    fn plays(&mut self, stream: u32);
+
+    /// The number of times that `pushed` was called for this stream by any worker, as far as this worker knows. A hint that comes
+    /// late, or never, costs time and nothing else.
+    fn pushes(&self, stream: u32) -> u64;
 }
 
 /// Gives workers their doors and rests and recorders their files, and takes doors and files back.

@@ -1,4 +1,4 @@
-ghost use Rattle.std.specs.Prelude.{◌<◌, length, List, ℕ};
+ghost use Rattle.std.specs.Prelude.{◌<◌, length, Bool, List, ℕ};
 ghost use Rattle.std.specs.declared.option.Option.{Option};
 ghost use Rattle.relay_outside.specs.declared.link.Said.{Said};
 ghost use Rattle.relay_outside.specs.Told.{LinkTold, LinkCounts};
@@ -50,6 +50,13 @@ pub trait Link: Drop {
 
     /// A send of these bytes may answer so, and leave the link so.
     ghost says: { Self → List ℕ → Said → Self → Type 0 };
+
+    /// `is_ready` may answer so.
+    ghost ready: { Self → Bool → Type 0 };
+
+    /// Whether a recv or a send may now answer anything but `NotYet`. A link that can't tell answers `true`.
+    fn is_ready(&self) -> bool
+        ensures { ready self.now result };
 
     /// Gives some of the bytes that are left. After each other answer what it tells is as before.
     fn recv(&mut self, into: &mut [u8]) -> Heard

@@ -1,4 +1,4 @@
-ghost use Rattle.std.specs.Prelude.{◌≡◌, ◌<◌, ◌^◌, [], ◌++◌, ◌∷◌, All, None, Some, OnOk, OnErr, false};
+ghost use Rattle.std.specs.Prelude.{◌≡◌, ◌<◌, ◌^◌, [], ◌++◌, ◌∷◌, All, None, Some, OnOk, OnErr, true, false};
 ghost use Rattle.relay_outside.specs.Doors.{Knocks, returned, with_back};
 ghost use Rattle.std.specs.Option.{option_copied};
 ghost use Rattle.relay_outside.specs.MemDoors.{IsNewMemLink, MemKnocks, door_told, link_took};
@@ -57,6 +57,12 @@ impl Link for DoorLink {
     ghost hears = { MemHears };
 
     ghost says = { MemSays };
+
+    ghost ready = { λ l answer. answer ≡ true };
+
+    fn is_ready(&self) -> bool {
+        true
+    }
 
     fn recv(&mut self, into: &mut [u8]) -> Heard {
         self.link.recv(into)

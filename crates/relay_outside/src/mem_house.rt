@@ -20,6 +20,14 @@ impl Rest for MemRest {
     fn pause(&mut self) {}
 
     fn moved(&mut self) {}
+
+    fn pushed(&mut self, _stream: u32) {}
+
+    fn plays(&mut self, _stream: u32) {}
+
+    fn pushes(&self, _stream: u32) -> u64 {
+        0
+    }
 }
 
 // A file that was kept under a name.

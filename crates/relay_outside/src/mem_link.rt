@@ -182,6 +182,12 @@ impl Link for MemLink {
 
     ghost says = { MemSays };
 
+    ghost ready = { λ l answer. answer ≡ true };
+
+    fn is_ready(&self) -> bool {
+        true
+    }
+
     fn recv(&mut self, into: &mut [u8]) -> Heard {
         if std::mem::replace(&mut self.recv_due, false) {
             self.tally.add_fault();

@@ -1,8 +1,5 @@
 //! What a link is told of what is done over it, for those who watch a relay run.
 
-use std::fmt;
-use std::fmt::{Display, Formatter};
-
 /// Why a publish or a play was refused.
 #[derive(Clone, Copy, Debug, PartialEq, Eq)]
 pub enum Denied {
@@ -54,54 +51,12 @@ pub enum News {
     Plays,
     /// It publishes or plays no longer, and is still there.
     Left,
+    /// What it is sent waits until it acknowledges more of what it was sent before.
+    HeldBack,
+    /// It has acknowledged enough, and is sent more.
+    Resumed,
     /// It was refused.
     Denied(Denied),
     /// It ended. `at` is the byte of what the peer sent at which it did, where one is to blame.
     Ended { ending: Ending, at: Option<u64> },
-}
-
-impl Display for Denied {
-    fn fmt<W: fmt::Write>(&self, f: &mut Formatter<W>) -> fmt::Result {
-        f.write_str(match self {
-            Denied::NoName => "no such stream,",
-            Denied::WrongKey => "wrong key for",
-            Denied::InUse => "somebody publishes",
-            Denied::Full => "no place is left at",
-        })
-    }
-}
-
-impl Display for Ending {
-    fn fmt<W: fmt::Write>(&self, f: &mut Formatter<W>) -> fmt::Result {
-        f.write_str(match self {
-            Ending::PeerClosed => "the peer closed the link",
-            Ending::LinkFault => "the link failed",
-            Ending::BadVersion => "asked for another version of RTMP",
-            Ending::BadChunk => "sent a chunk that is no chunk",
-            Ending::BadControl => "sent a control message that is too short",
-            Ending::BadCommand => "sent a command that is no command",
-            Ending::TooManyStreams => "asked for too many message streams",
-            Ending::Quit => "the relay stops",
-            Ending::Worn => "its stream has had as many calls as can be counted",
-            Ending::OutOfMemory => "out of memory",
-            Ending::Answered(status) => return write!(f, "answered {status}"),
-        })
-    }
-}
-
-impl Display for News {
-    fn fmt<W: fmt::Write>(&self, f: &mut Formatter<W>) -> fmt::Result {
-        match self {
-            News::Connected => f.write_str("connected to"),
-            News::Publishes => f.write_str("publishes"),
-            News::Plays => f.write_str("plays"),
-            News::Left => f.write_str("left"),
-            News::Denied(why) => write!(f, "refused: {why}"),
-            News::Ended { ending, at: None } => write!(f, "ended: {ending}"),
-            News::Ended {
-                ending,
-                at: Some(at),
-            } => write!(f, "ended: {ending}, at byte {at}"),
-        }
-    }
 }

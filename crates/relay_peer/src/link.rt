@@ -113,6 +113,12 @@ impl Link for PeerLink {
 
     ghost says = { λ l piece answer m. SayStep piece None None l m answer };
 
+    ghost ready = { λ l answer. Unit {0} };
+
+    fn is_ready(&self) -> bool {
+        true
+    }
+
     fn recv(&mut self, into: &mut [u8]) -> Heard {
         let Some(stream) = &mut self.stream else {
             self.failed = self.failed.saturating_add(1);

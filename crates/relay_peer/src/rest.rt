@@ -29,4 +29,12 @@ impl Rest for PeerRest {
     }
 
     fn moved(&mut self) {}
+
+    fn pushed(&mut self, _stream: u32) {}
+
+    fn plays(&mut self, _stream: u32) {}
+
+    fn pushes(&self, _stream: u32) -> u64 {
+        0
+    }
 }

@@ -1,6 +1,6 @@
 ghost use Rattle.std.specs.Prelude.{◌≡◌, [], true, false};
 
-use relay_outside::{Put, Sink};
+use relay_outside::{Put, Sink, SinkNews};
 use std::alloc::Global;
 use std::marker::Model;
 
@@ -66,6 +66,8 @@ impl Sink for File {
             Err(_) => Put::OutOfMemory,
         }
     }
+
+    fn tell(&self, _news: SinkNews) {}
 
     ghost takes_mean = { file_takes_mean };
 }

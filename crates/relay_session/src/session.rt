@@ -17,13 +17,13 @@ ghost use Rattle.relay_session.specs.Places.{AskedAlone, IsAt, IsOffered};
 ghost use Rattle.relay_session.specs.SeatState.{GoOn, HasFit, IsElsewhere, LeaveFails, LeaveTries, LeavesFrom, StandsAt, known, left_at, place_of};
 ghost use Rattle.relay_session.specs.SessionState.{BeginsOwed, IsUnsent, IsWhole, Publishes, Rises, StandsFor};
 ghost use Rattle.relay_session.specs.SessionState.{end_or_quit, ended_by, lasting_of, life_at, pending_by};
-ghost use Rattle.relay_session.specs.Turns.{EndedBy};
+ghost use Rattle.relay_session.specs.Turns.{EndedBy, is_held_back};
 ghost use Rattle.relay_session.specs.declared.seat_answers.Leaving.TheVariants as left;
 
 use crate::body::Body;
 use crate::held::{held_in, pending_in};
 use crate::input::Input;
-use crate::six_steps::kept_on;
+use crate::six_steps::{held_back, kept_on};
 use crate::steps::new_core;
 use crate::{Active, Desk, End, Leaving, Seat, Turn};
 use command_dialog::App;
@@ -221,6 +221,13 @@ impl<P: StreamPort> Session<P> {
         ensures { result ≡ is_some self.now.parts.kept }
     {
         self.body.core.kept.is_some()
+    }
+
+    /// Whether what it owes waits for an acknowledgement: its peer ever sent one, and a window of bytes or more isn't acknowledged.
+    pub fn is_held_back(&self) -> bool
+        ensures { result ≡ is_held_back self.now.parts.outbound }
+    {
+        held_back(&self.body.core.outbound)
     }
 
     /// The application to which its peer has connected, if it has, where that is kept.

@@ -37,8 +37,8 @@ fn first(bytes: &[u8], count: usize) -> &[u8]
     &bytes[..count.min(bytes.len())]
 }
 
-// Whether the sender is held back.
-fn held_back(outbound: &Outbound) -> bool
+/// Whether the sender is held back.
+pub(crate) fn held_back(outbound: &Outbound) -> bool
     ensures { result ≡ is_held_back outbound.now }
 {
     outbound.held_back()

@@ -23,3 +23,4 @@ pub mod Since
 pub mod OwnNames
 pub mod Shapes
 pub mod Spares
+pub mod Others

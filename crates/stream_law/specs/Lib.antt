@@ -8,3 +8,4 @@ pub mod IsBeginning
 pub mod IsRuled
 pub mod HasTaken
 pub mod KeepsUp
+pub mod Alone

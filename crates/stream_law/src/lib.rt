@@ -13,8 +13,8 @@ mod pools;
 
 pub use definitions::{chain_law, configuration_law, join_law, live_law, window_law};
 pub use players::{
-    chains_law, configurations_law, items_law, numbers_law, spares_law, takes_alone, turns_law,
-    viewers_law,
+    alone_law, chains_law, configurations_law, items_law, numbers_law, spares_law, takes_alone,
+    turns_law, viewers_law,
 };
 pub use pools::{
     names_law, own_name_law, since_law, slots_law, tables_law, takes_alone_at_pools, three_items,

@@ -1,6 +1,8 @@
 pub mod Counted
 pub mod Tells
 pub mod Rooting
+pub mod Kinning
+pub mod Owning
 pub mod Forking
 pub mod Alone
 pub mod Placing

@@ -10,7 +10,7 @@ use Rattle.stream_model.specs.declared.calls.Shape.{Shape}
 use Rattle.stream_model.specs.declared.replies.Reply.{Reply}
 use Rattle.stream_model.specs.History.{History}
 use Rattle.stream_model.specs.Shape.{shape_reply, IsShapeLawful, IsLegalAt}
-use Rattle.turn_gate.specs.Histories.{Begins, AreOwn}
+use Rattle.turn_gate.specs.Histories.{Begins, AreOwn, longer}
 use Rattle.turn_gate.specs.Known.{IsWorn, PassKnown, GateId, RepliedAfter}
 use Rattle.stream_registry.specs.Pasts.{Attempt, past_of, IsLawfulAt}
 use Rattle.stream_registry.specs.Roots.{Root, Later, Remembers, Unlearned, seen_of, seen_at, kin_at, gates}
@@ -30,7 +30,7 @@ use Rattle.stream_registry.specs.Gates.{told, told_at, numbers}
 use Rattle.stream_registry.specs.Wants.{IsTake}
 use Rattle.stream_registry.specs.Refusals.{IsFull, IsRefusedMemory}
 use Rattle.stream_registry.proofs.Wanting.{refused_take, refused_sent, last_lawful}
-use Rattle.stream_registry.proofs.Tells.{begins_told, told_more, told_back, past_more, numbers_placed, numbers_begin}
+use Rattle.stream_registry.proofs.Tells.{begins_told, told_more, told_back, past_more, numbers_placed, numbers_begin, told_longer}
 
 abbrev pub Known : Type 0
 Known = PassKnown Site Attempt
@@ -124,6 +124,10 @@ call_splits roots roots' place kin kin' result h o = record { here = h; others =
 
 pub later_told : (a b : List At) → Later (seen_at a) (seen_at b) → Later (told_at a) (told_at b)
 later_told a b l = record { at = λ p. begins_told (seen_at a p) (seen_at b p) (l.at p) }
+
+-- of two of which each begins a third, the longer tells what the third does
+pub longest_told : (a b c : List At) → Later (seen_at a) (seen_at c) → Later (seen_at b) (seen_at c) → ((q : ℕ) → seen_at c q ≡ longer (seen_at a q) (seen_at b q)) → (q : ℕ) → told_at c q ≡ longer (told_at a q) (told_at b q)
+longest_told a b c l m h q = ap told (h q) ∙ told_longer (seen_at a q) (seen_at b q) (subst (λ (x : List Attempt). Begins (seen_at a q) x) (h q) (l.at q)) (subst (λ (x : List Attempt). Begins (seen_at b q) x) (h q) (m.at q))
 
 -- what stands in a list with one more stood there before, or is that one
 get_either : (roots : List At) (x : At) (q : ℕ) (k : At) → slice_get (roots ++ x ∷ []) q ≡ Some k → (slice_get roots q ≡ Some k) ⊎ ((q ≡ length roots) × (x ≡ k))

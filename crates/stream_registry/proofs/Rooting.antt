@@ -1,23 +1,27 @@
 -- Roots that grow
-use Rattle.std.proofs.Common.{◌≡◌, ◌≢◌, ℕ, zero, suc, ◌+◌, ◌<◌, ◌≤◌, List, [], ◌∷◌, ◌++◌, length, slice_get, slice_set, Some, refl, sym, ap, ◌∙◌, subst, append_assoc, append-nil, arith, get_or, take, drop, map, length-append, inl, inr}
-use Rattle.std.proofs.lemmas.Bool.{cases_eq}
+use Rattle.std.proofs.Common.{◌≡◌, ◌≢◌, ℕ, zero, suc, ◌+◌, ◌<◌, ◌≤◌, List, [], ◌∷◌, ◌++◌, length, slice_get, slice_set, Some, refl, sym, ap, ◌∙◌, subst, append_assoc, append-nil, arith, get_or, take, drop, map, length-append, inl, inr, nat_lt, false}
+use Rattle.std.proofs.lemmas.Bool.{cases_eq, cases_lt}
+use Rattle.std.proofs.lemmas.Bool.Decides.{nat_tests}
 use Rattle.std.specs.Option.{option_map}
 use Rattle.std.proofs.lemmas.Option.{slice_get_within, slice_get_read, slice_get_past, slice_get-map, slice_get-get_or}
 use Rattle.std.proofs.lemmas.List.{length-map, take-append-le, take_all}
-use Rattle.turn_gate.specs.Histories.{Begins, longer}
+use Rattle.turn_gate.specs.Histories.{Begins, longer, AreOwn, AreAll}
 use Rattle.turn_gate.specs.Known.{GateId, PassKnown, newcomer, SplitOnce}
-use Rattle.turn_gate.specs.Branches.{trunk, cut_off, offshoot}
+use Rattle.turn_gate.specs.Branches.{trunk, cut_off, offshoot, at_depth, IsWhole}
 use Rattle.turn_gate.specs.declared.gate.CallFail.{CallFail}
 use Rattle.std.specs.declared.result.Result.{Result}
 use Rattle.turn_gate.specs.declared.view.Branch.{Branch}
-use Rattle.stream_registry.specs.Roots.{Root, Stays, Unlearned, AreTrunks, root_with, seen_of, seen_at, kin_of, kin_at, gates, Grown, Gathers, Later}
-use Rattle.stream_registry.specs.Splits.{SplitsOff, TakesIn, TakesAll, Forks}
+use Rattle.stream_registry.specs.Roots.{Root, Stays, Unlearned, AreTrunks, root_with, root_shoot, seen_of, seen_at, kin_of, kin_at, mine_of, mine_at, OwnsAll, OwnsAllAt, AreOwnAll, gates, Grown, Gathers, Later}
+use Rattle.stream_registry.specs.Splits.{SplitsOff, TakesIn, TakesAll, Forks, OwnsMore, OwnsBoth}
 
 pub begins_same : {E : Type 0} (xs : List E) → Begins xs xs
 begins_same xs = ([], append-nil xs)
 
 pub begins_trans : {E : Type 0} (xs ys zs : List E) → Begins xs ys → Begins ys zs → Begins xs zs
 begins_trans {E} xs ys zs b c = (b.0 ++ c.0, sym (append_assoc xs b.0 c.0) ∙ (ap (λ (l : List E). l ++ c.0) b.1 ∙ c.1))
+
+longer_nil : {E : Type 0} (xs : List E) → longer xs [] ≡ xs
+longer_nil xs = let t : nat_lt (length xs) 0 ≡ false = grind (arith, nat_tests) in rw t refl
 
 module _ {A E : Type 0} where
   pub grown_same : (roots : List (Root A E)) → Grown roots roots
@@ -78,6 +82,43 @@ module _ {A E : Type 0} where
   pub kin_past : (roots : List (Root A E)) (p : ℕ) → length roots ≤ p → kin_at roots p ≡ []
   kin_past roots p far = ap kin_of (slice_get_past roots p far)
 
+  pub seen_set_else : (roots : List (Root A E)) (place : ℕ) (w : Root A E) (q : ℕ) → q ≢ place → seen_at (slice_set roots place w) q ≡ seen_at roots q
+  seen_set_else [] place w q d = refl
+  seen_set_else (k ∷ ks) zero w zero d = absurd (d refl)
+  seen_set_else (k ∷ ks) zero w (suc q) d = refl
+  seen_set_else (k ∷ ks) (suc place) w zero d = refl
+  seen_set_else (k ∷ ks) (suc place) w (suc q) d = seen_set_else ks place w q (λ e. d (ap suc e))
+
+  pub mine_past : (roots : List (Root A E)) (p : ℕ) → length roots ≤ p → mine_at roots p ≡ []
+  mine_past roots p far = ap mine_of (slice_get_past roots p far)
+
+  pub mine_set_here : (roots : List (Root A E)) (place : ℕ) (w : Root A E) → place < length roots → mine_at (slice_set roots place w) place ≡ w.mine
+  mine_set_here [] place w l = absurd (omega (arith, l))
+  mine_set_here (k ∷ ks) zero w l = refl
+  mine_set_here (k ∷ ks) (suc place) w l = mine_set_here ks place w (omega (arith, l))
+
+  pub mine_set_else : (roots : List (Root A E)) (place : ℕ) (w : Root A E) (q : ℕ) → q ≢ place → mine_at (slice_set roots place w) q ≡ mine_at roots q
+  mine_set_else [] place w q d = refl
+  mine_set_else (k ∷ ks) zero w zero d = absurd (d refl)
+  mine_set_else (k ∷ ks) zero w (suc q) d = refl
+  mine_set_else (k ∷ ks) (suc place) w zero d = refl
+  mine_set_else (k ∷ ks) (suc place) w (suc q) d = mine_set_else ks place w q (λ e. d (ap suc e))
+
+  -- what a root owns is said of its place
+  pub owns_here : (roots : List (Root A E)) (place : ℕ) (v w : Root A E) → slice_get roots place ≡ Some v → OwnsAll w → OwnsAllAt (slice_set roots place w) place
+  owns_here roots place v w at o = let within = slice_get_within roots place v at in
+      subst (λ (x : List Branch × List ℕ × List E). IsWhole x.0 → AreAll x.1 (length x.2))
+      (λ i. (sym (kin_set_here roots place w within) i, sym (mine_set_here roots place w within) i, sym (seen_set_here roots place v w at) i)) o
+
+  pub owns_else : (roots : List (Root A E)) (place : ℕ) (w : Root A E) (q : ℕ) → q ≢ place → OwnsAllAt roots q → OwnsAllAt (slice_set roots place w) q
+  owns_else roots place w q d o =
+      subst (λ (x : List Branch × List ℕ × List E). IsWhole x.0 → AreAll x.1 (length x.2))
+      (λ i. (sym (kin_set_else roots place w q d) i, sym (mine_set_else roots place w q d) i, sym (seen_set_else roots place w q d) i)) o
+
+  -- where there is no root, none is whole
+  pub owns_past : (roots : List (Root A E)) (q : ℕ) → length roots ≤ q → OwnsAllAt roots q
+  owns_past roots q far w = let e = ap (at_depth 0) (kin_past roots q far) in let f = w.first in absurd (omega arith)
+
   pub gathers_first : (others roots : List (Root A E)) → Gathers others others roots roots
   gathers_first others roots = record {
     rest = [];
@@ -86,6 +127,12 @@ module _ {A E : Type 0} where
     done = λ p far. subst (λ (l : List E). Begins l (seen_at roots p)) (sym (seen_past others p far)) (seen_at roots p, refl);
     taken = λ p far. sym (append-nil (kin_at roots p)) ∙ ap (λ (l : List Branch). kin_at roots p ++ l) (sym (kin_past others p far));
     untaken = λ p l. refl;
+    longest = λ p far. sym (ap (λ (l : List E). longer (seen_at roots p) l) (seen_past others p far) ∙ longer_nil (seen_at roots p));
+    unseen = λ p l. refl;
+    owned = λ p far. sym (append-nil (mine_at roots p)) ∙ ap (λ (l : List ℕ). mine_at roots p ++ l) (sym (mine_past others p far));
+    unowned = λ p l. refl;
+    whole = λ p far l. absurd (omega arith);
+    own = λ p far l. absurd (omega arith);
   }
 
   pub gathers_next : (others left ys roots roots' : List (Root A E)) (x : Root A E) → Gathers others left roots roots' → left ≡ ys ++ x ∷ [] → (rest : List (Root A E)) × (others ≡ ys ++ x ∷ rest)
@@ -99,9 +146,9 @@ module _ {A E : Type 0} where
       let b : slice_get (gates roots') (length ys) ≡ Some v.gate = slice_get-map (λ (k : Root A E). k.gate) roots' (length ys) ∙ ap (option_map (λ (k : Root A E). k.gate)) at in
       let n : Some x.gate ≡ Some v.gate = sym a ∙ (ap (λ (l : List (GateId A)). slice_get l (length ys)) (same ∙ sym i.grown.gates) ∙ b) in cc
 
-  pub gathers_more : (others left ys roots roots' : List (Root A E)) (x v w : Root A E) → Gathers others left roots roots' → left ≡ ys ++ x ∷ [] → slice_get roots' (length ys) ≡ Some v → Stays v w → Begins x.seen w.seen → w.kin ≡ v.kin ++ x.kin
+  pub gathers_more : (others left ys roots roots' : List (Root A E)) (x v w : Root A E) → Gathers others left roots roots' → left ≡ ys ++ x ∷ [] → slice_get roots' (length ys) ≡ Some v → Stays v w → Begins x.seen w.seen → w.kin ≡ v.kin ++ x.kin → w.seen ≡ longer v.seen x.seen → w.mine ≡ v.mine ++ x.mine → OwnsAll w → AreOwn v.mine (length v.seen) × AreOwn x.mine (length x.seen)
       → Gathers others ys roots (slice_set roots' (length ys) w)
-  gathers_more others left ys roots roots' x v w i is at s b takes =
+  gathers_more others left ys roots roots' x v w i is at s b takes long owns all fit =
       let o = gathers_next others left ys roots roots' x i is in
       let step = grown_set roots' (length ys) v w at s in
       record {
@@ -127,11 +174,47 @@ module _ {A E : Type 0} where
           | inr d ↦ kin_set_else roots' (length ys) w p d ∙ i.taken p (omega (arith, ap length is, length-append ys (x ∷ [])))
         ];
         untaken = λ p l. kin_set_else roots' (length ys) w p (λ e. absurd (omega arith)) ∙ i.untaken p (omega (arith, ap length is, length-append ys (x ∷ [])));
+        longest = λ p far. elim (cases_eq p (length ys)) [
+          | inl e ↦
+              let here : seen_at others (length ys) ≡ x.seen = ap seen_of (subst (λ (l : List (Root A E)). slice_get l (length ys) ≡ Some x) (sym o.1) (get_middle ys x o.0)) in
+              let was : seen_at roots (length ys) ≡ v.seen = sym (i.unseen (length ys) (omega (arith, ap length is, length-append ys (x ∷ [])))) ∙ ap seen_of at in
+              ap (seen_at (slice_set roots' (length ys) w)) e
+              ∙ (seen_set_here roots' (length ys) v w at
+              ∙ (long ∙ (λ j. longer ((sym was ∙ ap (seen_at roots) (sym e)) j) ((sym here ∙ ap (seen_at others) (sym e)) j))))
+          | inr d ↦ seen_set_else roots' (length ys) w p d ∙ i.longest p (omega (arith, ap length is, length-append ys (x ∷ [])))
+        ];
+        unseen = λ p l. seen_set_else roots' (length ys) w p (λ e. absurd (omega arith)) ∙ i.unseen p (omega (arith, ap length is, length-append ys (x ∷ [])));
+        owned = λ p far. elim (cases_eq p (length ys)) [
+          | inl e ↦
+              let here : mine_at others (length ys) ≡ x.mine = ap mine_of (subst (λ (l : List (Root A E)). slice_get l (length ys) ≡ Some x) (sym o.1) (get_middle ys x o.0)) in
+              let was : mine_at roots (length ys) ≡ v.mine = sym (i.unowned (length ys) (omega (arith, ap length is, length-append ys (x ∷ [])))) ∙ ap mine_of at in
+              ap (mine_at (slice_set roots' (length ys) w)) e
+              ∙ (mine_set_here roots' (length ys) w (slice_get_within roots' (length ys) v at)
+              ∙ (owns ∙ (λ j. (sym was ∙ ap (mine_at roots) (sym e)) j ++ (sym here ∙ ap (mine_at others) (sym e)) j)))
+          | inr d ↦ mine_set_else roots' (length ys) w p d ∙ i.owned p (omega (arith, ap length is, length-append ys (x ∷ [])))
+        ];
+        unowned = λ p l. mine_set_else roots' (length ys) w p (λ e. absurd (omega arith)) ∙ i.unowned p (omega (arith, ap length is, length-append ys (x ∷ [])));
+        whole = λ p far within. elim (cases_eq p (length ys)) [
+          | inl e ↦ subst (λ (q : ℕ). OwnsAllAt (slice_set roots' (length ys) w) q) (sym e) (owns_here roots' (length ys) v w at all)
+          | inr d ↦ owns_else roots' (length ys) w p d (i.whole p (omega (arith, ap length is, length-append ys (x ∷ []))) within)
+        ];
+        own = λ p far within. elim (cases_eq p (length ys)) [
+          | inl e ↦
+              let there = subst (λ (l : List (Root A E)). slice_get l (length ys) ≡ Some x) (sym o.1) (get_middle ys x o.0) in
+              let early : length ys < length left = omega (arith, ap length is, length-append ys (x ∷ [])) in
+              let was : mine_at roots (length ys) ≡ v.mine = sym (i.unowned (length ys) early) ∙ ap mine_of at in
+              let had : seen_at roots (length ys) ≡ v.seen = sym (i.unseen (length ys) early) ∙ ap seen_of at in
+              subst (λ (q : ℕ). AreOwn (mine_at roots q) (length (seen_at roots q)) × AreOwn (mine_at others q) (length (seen_at others q))) (sym e) (
+                subst (λ (y : List ℕ × List E). AreOwn y.0 (length y.1)) (λ j. (sym was j, sym had j)) fit.0,
+                subst (λ (y : List ℕ × List E). AreOwn y.0 (length y.1)) (λ j. (sym (ap mine_of there) j, sym (ap seen_of there) j)) fit.1,
+              )
+          | inr d ↦ i.own p (omega (arith, ap length is, length-append ys (x ∷ []))) within
+        ];
       }
 
   -- roots without their places among the passes
   abbrev pub bare : Root A E → Root A E
-  bare k = root_with k []
+  bare k = root_shoot k []
 
   abbrev pub bared : List (Root A E) → List (Root A E)
   bared roots = map bare roots
@@ -224,7 +307,7 @@ module _ {A E : Type 0} where
   cut k = root_with k (cut_off k.kin)
 
   abbrev pub shoot : Root A E → Root A E
-  shoot k = root_with k (offshoot k.kin)
+  shoot k = root_shoot k (offshoot k.kin)
 
   -- the first n were cut, and these are what was split off from them
   abbrev pub cut_first : ℕ → List (Root A E) → List (Root A E)
@@ -314,7 +397,7 @@ module _ {A E : Type 0} where
   pub cut_as : (v x w : Root A E) → v ≡ x → w ≡ root_with x w.kin → w.kin ≡ cut_off x.kin → w ≡ cut v
   cut_as v x w e k c = k ∙ (λ i. root_with (sym e i) ((c ∙ ap (λ (r : Root A E). cut_off r.kin) (sym e)) i))
 
-  pub shoot_as : (v x p : Root A E) → v ≡ x → p ≡ root_with x (offshoot x.kin) → p ≡ shoot v
+  pub shoot_as : (v x p : Root A E) → v ≡ x → p ≡ root_shoot x (offshoot x.kin) → p ≡ shoot v
   shoot_as v x p e k = k ∙ ap shoot (sym e)
 
   -- one root more
@@ -337,18 +420,11 @@ module _ {A E : Type 0} where
   gathers_gate_at others left ys roots roots' x d k i same is at =
       gathers_gate others left ys roots roots' x (get_or roots' k d) i same is (subst (λ (j : ℕ). slice_get roots' j ≡ Some (get_or roots' k d)) at (slice_get-get_or roots' k d (gathers_within others left ys roots roots' x k i same is at)))
 
-  pub gathers_more_at : (others left ys roots roots' : List (Root A E)) (x d w : Root A E) (k : ℕ) → Gathers others left roots roots' → gates others ≡ gates roots → left ≡ ys ++ x ∷ [] → k ≡ length ys → Stays (get_or roots' k d) w → Begins x.seen w.seen → w.kin ≡ (get_or roots' k d).kin ++ x.kin
+  pub gathers_more_at : (others left ys roots roots' : List (Root A E)) (x d w : Root A E) (k : ℕ) → Gathers others left roots roots' → gates others ≡ gates roots → left ≡ ys ++ x ∷ [] → k ≡ length ys → Stays (get_or roots' k d) w → Begins x.seen w.seen → w.kin ≡ (get_or roots' k d).kin ++ x.kin → w.seen ≡ longer (get_or roots' k d).seen x.seen → w.mine ≡ (get_or roots' k d).mine ++ x.mine → OwnsAll w → AreOwn (get_or roots' k d).mine (length (get_or roots' k d).seen) × AreOwn x.mine (length x.seen)
       → Gathers others ys roots (slice_set roots' k w)
-  gathers_more_at others left ys roots roots' x d w k i same is at s b takes =
+  gathers_more_at others left ys roots roots' x d w k i same is at s b takes long owns all fit =
       subst (λ (j : ℕ). Gathers others ys roots (slice_set roots' j w)) (sym at)
-      (gathers_more others left ys roots roots' x (get_or roots' k d) w i is (subst (λ (j : ℕ). slice_get roots' j ≡ Some (get_or roots' k d)) at (slice_get-get_or roots' k d (gathers_within others left ys roots roots' x k i same is at))) s b takes)
-
-  pub seen_set_else : (roots : List (Root A E)) (place : ℕ) (w : Root A E) (q : ℕ) → q ≢ place → seen_at (slice_set roots place w) q ≡ seen_at roots q
-  seen_set_else [] place w q d = refl
-  seen_set_else (k ∷ ks) zero w zero d = absurd (d refl)
-  seen_set_else (k ∷ ks) zero w (suc q) d = refl
-  seen_set_else (k ∷ ks) (suc place) w zero d = refl
-  seen_set_else (k ∷ ks) (suc place) w (suc q) d = seen_set_else ks place w q (λ e. d (ap suc e))
+      (gathers_more others left ys roots roots' x (get_or roots' k d) w i is (subst (λ (j : ℕ). slice_get roots' j ≡ Some (get_or roots' k d)) at (slice_get-get_or roots' k d (gathers_within others left ys roots roots' x k i same is at))) s b takes long owns all fit)
 
   pub here_longer : (roots items : List (Root A E)) (place : ℕ) (g : GateId A) (v w : Root A E) (seen : List E) → items ≡ roots → slice_get (gates roots) place ≡ Some g → v ≡ get_or items place v → w.seen ≡ longer v.seen seen
       → seen_at (slice_set items place w) place ≡ longer (seen_at roots place) seen
@@ -384,9 +460,86 @@ module _ {A E : Type 0} where
       let long : length new ≡ n = sym (length-map new g) ∙ (ap length u.gates ∙ (length-map mid g ∙ (ap length start ∙ len))) in
       subst (λ (x : List (Root A E) × List (Root A E)). Unlearned x.0 s × Forks (kin_at x.0) (kin_at x.1) (kin_at s)) (λ i. ((start ∙ is) i, sym (kept n new (drop (length new) old) long) i)) f
 
+  pub gathered_longest : (mid old new others roots gone : List (Root A E)) (n : ℕ) → mid ≡ old → length old ≡ n → old ≡ roots → others ≡ gone → Grown mid new → ((q : ℕ) → seen_at new q ≡ longer (seen_at mid q) (seen_at others q))
+      → (q : ℕ) → seen_at (take n (new ++ drop (length new) old)) q ≡ longer (seen_at roots q) (seen_at gone q)
+  gathered_longest mid old new others roots gone n start len is was grown h =
+      let f : Root A E → GateId A = λ (k : Root A E). k.gate in
+      let long : length new ≡ n = sym (length-map new f) ∙ (ap length grown.gates ∙ (length-map mid f ∙ (ap length start ∙ len))) in
+      subst (λ (x : List (Root A E) × List (Root A E) × List (Root A E)). (q : ℕ) → seen_at x.2 q ≡ longer (seen_at x.0 q) (seen_at x.1 q)) (λ i. ((start ∙ is) i, was i, sym (kept n new (drop (length new) old) long) i)) h
+
   pub gathered_kin : (mid old new others roots gone : List (Root A E)) (n : ℕ) → mid ≡ old → length old ≡ n → old ≡ roots → others ≡ gone → Grown mid new → TakesAll (kin_at mid) (kin_at others) (kin_at new)
       → TakesAll (kin_at roots) (kin_at gone) (kin_at (take n (new ++ drop (length new) old)))
   gathered_kin mid old new others roots gone n start len is was grown takes =
       let f : Root A E → GateId A = λ (k : Root A E). k.gate in
       let long : length new ≡ n = sym (length-map new f) ∙ (ap length grown.gates ∙ (length-map mid f ∙ (ap length start ∙ len))) in
       subst (λ (x : List (Root A E) × List (Root A E) × List (Root A E)). TakesAll (kin_at x.0) (kin_at x.1) (kin_at x.2)) (λ i. ((start ∙ is) i, was i, sym (kept n new (drop (length new) old) long) i)) takes
+
+  -- a root that gains no call
+  pub mine_kept : (roots items : List (Root A E)) (place : ℕ) (v w : Root A E) → items ≡ roots → v ≡ get_or items place v → place < length items → w ≡ root_with v w.kin → (q : ℕ) → mine_at (slice_set items place w) q ≡ mine_at roots q
+  mine_kept roots items place v w is read l e q =
+      let at : slice_get items place ≡ Some v = slice_get_read items (length items) place v refl l read in
+      elim (cases_eq q place) [
+        | inl d ↦
+            ap (mine_at (slice_set items place w)) d
+            ∙ (mine_set_here items place w l
+            ∙ (ap (λ (r : Root A E). r.mine) e
+            ∙ (sym (ap mine_of at) ∙ (ap (λ (x : List (Root A E)). mine_at x place) is ∙ ap (mine_at roots) (sym d)))))
+        | inr d ↦ mine_set_else items place w q d ∙ ap (λ (x : List (Root A E)). mine_at x q) is
+      ]
+
+  -- it took in the calls of a pass
+  pub owns_more : (roots items : List (Root A E)) (place : ℕ) (v w : Root A E) (mine : List ℕ) → items ≡ roots → v ≡ get_or items place v → place < length items → w.mine ≡ v.mine ++ mine → OwnsAll w
+      → OwnsMore (mine_at roots) mine (mine_at (slice_set items place w)) place × OwnsAllAt (slice_set items place w) place
+  owns_more roots items place v w mine is read l e o =
+      let at : slice_get items place ≡ Some v = slice_get_read items (length items) place v refl l read in
+      let was : mine_at roots place ≡ v.mine = ap (λ (x : List (Root A E)). mine_at x place) (sym is) ∙ ap mine_of at in (
+        record {
+          here = mine_set_here items place w l ∙ (e ∙ ap (λ (x : List ℕ). x ++ mine) (sym was));
+          others = λ q d. mine_set_else items place w q d ∙ ap (λ (x : List (Root A E)). mine_at x q) is;
+        },
+        owns_here items place v w at o,
+      )
+
+  -- all were gathered
+  pub gathered_all : (others left roots roots' : List (Root A E)) → Gathers others left roots roots' → gates others ≡ gates roots → length left ≡ 0 → OwnsBoth (mine_at roots) (mine_at others) (mine_at roots') × ((q : ℕ) → OwnsAllAt roots' q)
+  gathered_all others left roots roots' i same none = (
+    record { at_each = λ q. i.owned q (omega arith) },
+    λ q. elim (cases_lt q (length others)) [
+      | inl l ↦ i.whole q (omega arith) l
+      | inr far ↦
+          let f : Root A E → GateId A = λ (r : Root A E). r.gate in
+          owns_past roots' q (omega (arith, far, ap length same, ap length i.grown.gates, length-map others f, length-map roots f, length-map roots' f))
+    ],
+  )
+
+  own_past : (roots : List (Root A E)) (q : ℕ) → length roots ≤ q → AreOwn (mine_at roots q) (length (seen_at roots q))
+  own_past roots q far = subst (λ (y : List ℕ). AreOwn y (length (seen_at roots q))) (sym (mine_past roots q far)) (λ p. (omega arith, λ some_own. absurd (omega arith)))
+
+  pub gathered_own : (others left roots roots' : List (Root A E)) → Gathers others left roots roots' → gates others ≡ gates roots → length left ≡ 0 → AreOwnAll roots × AreOwnAll others
+  gathered_own others left roots roots' i same none =
+      let f : Root A E → GateId A = λ (r : Root A E). r.gate in
+      let long : length roots ≡ length others = omega (arith, ap length same, length-map others f, length-map roots f) in (
+        λ q. elim (cases_lt q (length others)) [
+          | inl l ↦ (i.own q (omega arith) l).0
+          | inr far ↦ own_past roots q (omega (arith, far, long))
+        ],
+        λ q. elim (cases_lt q (length others)) [
+          | inl l ↦ (i.own q (omega arith) l).1
+          | inr far ↦ own_past others q far
+        ],
+      )
+
+  pub own_at : (roots items : List (Root A E)) (place : ℕ) (v : Root A E) → items ≡ roots → v ≡ get_or items place v → place < length items → AreOwn v.mine (length v.seen) → AreOwn (mine_at roots place) (length (seen_at roots place))
+  own_at roots items place v is read l own =
+      let at : slice_get items place ≡ Some v = slice_get_read items (length items) place v refl l read in
+      subst (λ (x : List (Root A E)). AreOwn (mine_at x place) (length (seen_at x place))) is
+      (subst (λ (y : List ℕ × List E). AreOwn y.0 (length y.1)) (λ j. (sym (ap mine_of at) j, sym (ap seen_of at) j)) own)
+
+  pub gathered_mine : (mid old new others roots gone : List (Root A E)) (n : ℕ) → mid ≡ old → length old ≡ n → old ≡ roots → others ≡ gone → Grown mid new → OwnsBoth (mine_at mid) (mine_at others) (mine_at new) → ((q : ℕ) → OwnsAllAt new q)
+      → OwnsBoth (mine_at roots) (mine_at gone) (mine_at (take n (new ++ drop (length new) old))) × ((q : ℕ) → OwnsAllAt (take n (new ++ drop (length new) old)) q)
+  gathered_mine mid old new others roots gone n start len is was grown takes whole =
+      let f : Root A E → GateId A = λ (k : Root A E). k.gate in
+      let long : length new ≡ n = sym (length-map new f) ∙ (ap length grown.gates ∙ (length-map mid f ∙ (ap length start ∙ len))) in (
+        subst (λ (x : List (Root A E) × List (Root A E) × List (Root A E)). OwnsBoth (mine_at x.0) (mine_at x.1) (mine_at x.2)) (λ i. ((start ∙ is) i, was i, sym (kept n new (drop (length new) old) long) i)) takes,
+        subst (λ (x : List (Root A E)). (q : ℕ) → OwnsAllAt x q) (sym (kept n new (drop (length new) old) long)) whole,
+      )

@@ -3,7 +3,7 @@ use Rattle.std.specs.Prelude.{ℕ, List, [], ◌∷◌, ◌++◌, reverse, lengt
 use Rattle.std.specs.declared.result.Result.TheVariants.{Ok, Err}
 use Rattle.stream_registry.specs.declared.place_table.Site.{Site}
 use Rattle.stream_registry.specs.Pasts.{Attempt, past_of}
-use Rattle.stream_registry.specs.Roots.{Root, seen_at}
+use Rattle.stream_registry.specs.Roots.{Root, seen_at, mine_at}
 use Rattle.stream_registry.specs.Told.{Step, Histories}
 
 -- the calls that were answered, the oldest first
@@ -31,3 +31,7 @@ told_at roots place = told (seen_at roots place)
 -- what histories tell that have the calls refused for memory as well
 abbrev pub tells : (ℕ → List Attempt) → Histories
 tells attempts place = told (attempts place)
+
+-- the numbers of the calls that the root at each place owns: those of all passes that it took in
+abbrev pub made_at : List (Root Site Attempt) → ℕ → List ℕ
+made_at roots place = numbers (seen_at roots place) (mine_at roots place)

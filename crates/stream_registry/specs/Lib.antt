@@ -10,3 +10,4 @@ pub mod SharedState
 pub mod Books
 pub mod Wants
 pub mod Refusals
+pub mod Callers

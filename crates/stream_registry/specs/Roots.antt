@@ -1,15 +1,17 @@
 -- What a port's root has seen at each place
 use Rattle.std.specs.Prelude.{◌≡◌, ℕ, ◌<◌, ◌≤◌, List, [], ◌++◌, length, map, slice_get, Option, Some, None}
 use Rattle.turn_gate.specs.declared.view.Branch.{Branch}
-use Rattle.turn_gate.specs.Branches.{trunk}
-use Rattle.turn_gate.specs.Histories.{Begins}
+use Rattle.turn_gate.specs.Branches.{trunk, IsWhole}
+use Rattle.turn_gate.specs.Histories.{Begins, longer, AreOwn, AreAll}
 use Rattle.turn_gate.specs.Known.{PassKnown, GateId}
 
--- a gate, what was seen of its history, and the place of the root among the passes of its gate
+-- a gate, what was seen of its history, the place of the root among the passes of its gate, and the places in the history of the calls
+-- that are its own: those of all passes that it took in
 pub record Root (A E : Type 0) : Type 0 where
   pub gate : GateId A
   pub seen : List E
   pub kin : List Branch
+  pub mine : List ℕ
 
 module _ {A E : Type 0} where
   -- the same gate, and nothing that was seen is forgotten
@@ -37,10 +39,34 @@ module _ {A E : Type 0} where
 
   -- a root that differs in its place among the passes alone
   abbrev pub root_with : Root A E → List Branch → Root A E
-  root_with k kin = record { gate = k.gate; seen = k.seen; kin = kin }
+  root_with k kin = record { gate = k.gate; seen = k.seen; kin = kin; mine = k.mine }
+
+  -- the root that is split off from one: it has no calls of its own
+  abbrev pub root_shoot : Root A E → List Branch → Root A E
+  root_shoot k kin = record { gate = k.gate; seen = k.seen; kin = kin; mine = [] }
+
+  abbrev pub mine_of : Option (Root A E) → List ℕ
+  mine_of None = []
+  mine_of (Some k) = k.mine
+
+  -- the own calls of the root at each place
+  abbrev pub mine_at : List (Root A E) → ℕ → List ℕ
+  mine_at roots place = mine_of (slice_get roots place)
+
+  -- WHERE A ROOT HAS TAKEN IN EVERY OTHER PASS OF ITS GATE, its own calls are all calls, each once
+  abbrev pub OwnsAll : Root A E → Type 0
+  OwnsAll k = IsWhole k.kin → AreAll k.mine (length k.seen)
+
+  -- so it is at a place
+  abbrev pub OwnsAllAt : List (Root A E) → ℕ → Type 0
+  OwnsAllAt roots place = IsWhole (kin_at roots place) → AreAll (mine_at roots place) (length (seen_at roots place))
 
   abbrev pub gates : List (Root A E) → List (GateId A)
   gates roots = map (λ k. k.gate) roots
+
+-- the own calls at each place have places in what was seen there
+abbrev pub AreOwnAll : {A E : Type 0} → List (Root A E) → Type 0
+AreOwnAll roots = (q : ℕ) → AreOwn (mine_at roots q) (length (seen_at roots q))
 
 -- each history begins with what was known of it
 pub record Later {E : Type 0} (hs ks : ℕ → List E) : Type 0 where
@@ -67,3 +93,9 @@ pub record Gathers {A E : Type 0} (others left roots roots' : List (Root A E)) :
   pub done : (place : ℕ) → length left ≤ place → Begins (seen_at others place) (seen_at roots' place)
   pub taken : (place : ℕ) → length left ≤ place → kin_at roots' place ≡ kin_at roots place ++ kin_at others place
   pub untaken : (place : ℕ) → place < length left → kin_at roots' place ≡ kin_at roots place
+  pub owned : (place : ℕ) → length left ≤ place → mine_at roots' place ≡ mine_at roots place ++ mine_at others place
+  pub unowned : (place : ℕ) → place < length left → mine_at roots' place ≡ mine_at roots place
+  pub whole : (place : ℕ) → length left ≤ place → place < length others → OwnsAllAt roots' place
+  pub own : (place : ℕ) → length left ≤ place → place < length others → AreOwn (mine_at roots place) (length (seen_at roots place)) × AreOwn (mine_at others place) (length (seen_at others place))
+  pub longest : (place : ℕ) → length left ≤ place → seen_at roots' place ≡ longer (seen_at roots place) (seen_at others place)
+  pub unseen : (place : ℕ) → place < length left → seen_at roots' place ≡ seen_at roots place

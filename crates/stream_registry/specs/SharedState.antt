@@ -83,3 +83,8 @@ pub record AreNewPorts (names : List Name) (opens : List OpenName) (limits : Str
   pub each : All (IsNewPort names opens ids) ports
   pub all : length ports ≡ count
   pub kin : 1 ≤ count → AreSplit (length ids) ports
+
+-- the branches of the roots of all these ports at a place
+abbrev pub all_kin : List Streams → ℕ → List Branch
+all_kin [] place = []
+all_kin (p ∷ ps) place = kin_at p.roots place ++ all_kin ps place

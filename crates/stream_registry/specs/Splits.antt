@@ -1,10 +1,11 @@
 -- What a port's roots and passes split off and take in. At a port of one thread there are no branches, and nothing of this says anything
-use Rattle.std.specs.Prelude.{◌≡◌, ◌≢◌, ℕ, ◌+◌, List, [], ◌∷◌, ◌++◌}
+use Rattle.std.specs.Prelude.{◌≡◌, ◌≢◌, ℕ, ◌+◌, ◌<◌, List, [], ◌∷◌, ◌++◌}
 use Rattle.std.specs.declared.result.Result.{Result}
 use Rattle.std.specs.declared.result.Result.TheVariants.{Ok, Err}
 use Rattle.stream_model.specs.declared.replies.Reply.{Reply}
 use Rattle.turn_gate.specs.declared.view.Branch.{Branch}
 use Rattle.turn_gate.specs.Branches.{branch, cut_off, offshoot}
+use Rattle.turn_gate.specs.Histories.{times}
 use Rattle.stream_registry.specs.declared.port.PortFail.{PortFail}
 use Rattle.stream_registry.specs.declared.port.PortFail.TheVariants.{Busy, Worn, OutOfMemory}
 
@@ -47,3 +48,20 @@ SplitBy root pass (Err (OutOfMemory e)) root' pass' = (root' ≡ cut_off root) �
 pub record CallSplits (kin : Kin) (branches : List Branch) (result : Result Reply PortFail) (kin' : Kin) (branches' : List Branch) (place : ℕ) : Type 0 where
   pub here : SplitBy (kin place) branches result (kin' place) branches'
   pub others : (q : ℕ) → q ≢ place → kin' q ≡ kin q
+
+-- the own calls of the root at each place
+abbrev pub Owns : Type 0
+Owns = ℕ → List ℕ
+
+-- THE CALLS OF A PASS ARE NOT LOST: with the pass the root at this place took in its own calls, and no other root took in any
+pub record OwnsMore (owns : Owns) (mine : List ℕ) (owns' : Owns) (place : ℕ) : Type 0 where
+  pub here : owns' place ≡ owns place ++ mine
+  pub others : (q : ℕ) → q ≢ place → owns' q ≡ owns q
+
+-- the root at each place took in the own calls of another port's
+pub record OwnsBoth (owns others owns' : Owns) : Type 0 where
+  pub at_each : (q : ℕ) → owns' q ≡ owns q ++ others q
+
+-- each call of so many is among these numbers
+abbrev pub HasAll : List ℕ → ℕ → Type 0
+HasAll numbers count = (n : ℕ) → n < count → 0 < times n numbers

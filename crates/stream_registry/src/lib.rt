@@ -8,6 +8,7 @@
 
 mod again;
 mod book;
+mod callers;
 mod names;
 mod place;
 mod place_table;
@@ -17,6 +18,7 @@ mod shared;
 mod sole;
 mod ways;
 
+pub use callers::{callers_law, kindred_law};
 pub use names::{Name, NameList, NotFound, OpenList, OpenName};
 pub use place_table::{PlaceTable, Site, pasts_law};
 pub use port::{PortFail, StreamPort};

@@ -1,9 +1,9 @@
 //! One thread's way to one gate. It is generic in the machine, so that it is seen to cross threads.
-ghost use Rattle.std.specs.Prelude.{◌≡◌, ◌++◌, [], IfOk, IfErr};
-ghost use Rattle.turn_gate.specs.Histories.{Begins, longer};
+ghost use Rattle.std.specs.Prelude.{◌≡◌, ◌++◌, [], length, IfOk, IfErr};
+ghost use Rattle.turn_gate.specs.Histories.{Begins, longer, AreOwn};
 ghost use Rattle.turn_gate.specs.Branches.{trunk, cut_off, offshoot};
 ghost use Rattle.turn_gate.specs.Known.{newcomer, RepliedAfter, Failed, SplitOnce};
-ghost use Rattle.stream_registry.specs.Roots.{Stays, Remembers, root_with};
+ghost use Rattle.stream_registry.specs.Roots.{Stays, Remembers, root_with, root_shoot, OwnsAll};
 
 use std::alloc::{AllocError, Global};
 use std::marker::Model;
@@ -11,7 +11,7 @@ use std::sync::Arc;
 use turn_gate::{CallFail, Gate, Machine, Pass};
 
 /// A gate that other threads have too, and a pass of its own: the root. Contracts see the gate, what the root has
-/// seen, and its place among the passes.
+/// seen, its place among the passes, and which calls are its own.
 #[derive(Drop)]
 pub struct Place<T: Machine + Drop> {
     gate: Arc<Gate<T>, Global>,
@@ -25,7 +25,7 @@ impl<T: Machine + Drop> Model for Place<T> {
 
     ghost Value = { Root T.About (T.Call × T.Reply) };
 
-    ghost view = { λ p. record { gate = p.root.gate; seen = p.root.seen; kin = p.root.kin } };
+    ghost view = { λ p. record { gate = p.root.gate; seen = p.root.seen; kin = p.root.kin; mine = p.root.mine } };
 
     ghost invariant = { λ p. p.root.gate ≡ arc_value p.gate };
 }
@@ -34,7 +34,7 @@ impl<T: Machine + Drop> Place<T> {
     /// A gate with no calls yet.
     pub fn new(alloc: Global, machine: T, about: &T::About) -> Result<Place<T>, AllocError>
         requires { T.stands machine [] × (about.now ≡ T.about machine) }
-        ensures { IfOk result (λ p. (p.seen ≡ []) × (p.kin ≡ trunk) × (p.gate.about ≡ about.now)) }
+        ensures { IfOk result (λ p. (p.seen ≡ []) × (p.kin ≡ trunk) × (p.mine ≡ []) × (p.gate.about ≡ about.now)) }
     {
         let (gate, root) = Gate::new(alloc, machine, about)?;
         let Ok(gate) = Arc::new(alloc, gate) else {
@@ -45,7 +45,7 @@ impl<T: Machine + Drop> Place<T> {
 
     /// Another thread's way to the same gate.
     pub fn fork(&mut self) -> Result<Place<T>, AllocError>
-        ensures fork { IfOk result (λ p. (p ≡ root_with self.old (offshoot self.old.kin)) × (self.new.kin ≡ cut_off self.old.kin)) }
+        ensures fork { IfOk result (λ p. (p ≡ root_shoot self.old (offshoot self.old.kin)) × (self.new.kin ≡ cut_off self.old.kin)) }
         ensures same { self.new ≡ root_with self.old self.new.kin }
     {
         let Ok(gate) = Arc::try_clone(&self.gate) else {
@@ -69,7 +69,12 @@ impl<T: Machine + Drop> Place<T> {
         ensures stays { Stays self.old self.new × Begins pass.seen self.new.seen }
         ensures longer { self.new.seen ≡ longer self.old.seen pass.seen }
         ensures kin { self.new.kin ≡ self.old.kin ++ pass.kin }
+        ensures mine { self.new.mine ≡ self.old.mine ++ pass.mine }
+        ensures own { AreOwn self.old.mine (length self.old.seen) × AreOwn pass.mine (length pass.seen) }
+        ensures whole { OwnsAll self.new }
     {
+        let _ = self.root.seen();
+        let _ = pass.seen();
         self.gate.join(&mut self.root, pass);
     }
 
@@ -77,10 +82,16 @@ impl<T: Machine + Drop> Place<T> {
     pub fn gather(&mut self, other: Place<T>)
         requires { other.gate ≡ self.old.gate }
         ensures stays { Stays self.old self.new × Begins other.seen self.new.seen }
+        ensures longer { self.new.seen ≡ longer self.old.seen other.seen }
         ensures kin { self.new.kin ≡ self.old.kin ++ other.kin }
+        ensures mine { self.new.mine ≡ self.old.mine ++ other.mine }
+        ensures own { AreOwn self.old.mine (length self.old.seen) × AreOwn other.mine (length other.seen) }
+        ensures whole { OwnsAll self.new }
     {
         let Place { gate, root } = other;
         drop(gate);
+        let _ = self.root.seen();
+        let _ = root.seen();
         self.gate.join(&mut self.root, root);
     }
 

@@ -2,12 +2,12 @@
 ghost use Rattle.std.specs.Prelude.{◌≡◌, ◌≢◌, ◌<◌, ◌≤◌, ◌^◌, ℕ, List, [], ◌++◌, length, IfOk, IfErr};
 ghost use Rattle.stream_model.specs.declared.calls.Shape.{Shape};
 ghost use Rattle.turn_gate.specs.declared.view.Branch.{Branch};
-ghost use Rattle.turn_gate.specs.Branches.{offshoot};
+ghost use Rattle.turn_gate.specs.Branches.{offshoot, IsWhole};
 ghost use Rattle.turn_gate.specs.Histories.{Begins, longer};
 ghost use Rattle.stream_registry.specs.Names.{PortRules, IsPlaceOf, places};
 ghost use Rattle.stream_registry.specs.Told.{Step, Histories, Keeps};
 ghost use Rattle.stream_registry.specs.Placed.{Placed, Failed, TriedOnce, answered};
-ghost use Rattle.stream_registry.specs.Splits.{Kin, SplitsOff, TakesIn, CallSplits};
+ghost use Rattle.stream_registry.specs.Splits.{Kin, Owns, SplitsOff, TakesIn, CallSplits, HasAll};
 ghost use Rattle.stream_registry.specs.Wants.{IsWanted};
 ghost use Rattle.stream_model.specs.declared.calls.Entry.{Entry};
 
@@ -59,6 +59,12 @@ pub trait StreamPort: Drop {
 
     ghost branches: { Self.Pass → List Branch };
 
+    // The numbers of the calls that the root at each place owns: those of all passes that it took in.
+    ghost owns: { Self → Owns };
+
+    // What the roots own once the one at a place has taken in a pass with calls of these numbers. A port of one thread tells nothing.
+    ghost gains: { Owns → List ℕ → Owns → ℕ → Type 0 };
+
     // What calls add to the history of their place, which was the first and is the last. A port that shares its places tells nothing.
     ghost adds: { List Step → List Step → List Step → Type 0 };
 
@@ -76,6 +82,10 @@ pub trait StreamPort: Drop {
         ensures there { IfOk result (λ place. place < places (rules self.now)) }
         ensures few { IfOk result (λ _. length name.now ≤ 64) };
 
+    /// How many calls were answered Busy.
+    fn busies(&self) -> u64
+        ensures { result ≡ busies self.now };
+
     /// A pass that has made no call, and has seen what the root has.
     fn attach(&mut self, place: u32) -> Self::Pass
         requires { place < places (rules self.old) }
@@ -83,6 +93,7 @@ pub trait StreamPort: Drop {
         ensures seen { (seen result ≡ root self.old place) × (mine result ≡ []) }
         ensures fixed { (rules self.new ≡ rules self.old) × (busies self.new ≡ busies self.old) }
         ensures root { (q : ℕ) → root self.new q ≡ root self.old q }
+        ensures owns { (q : ℕ) → owns self.new q ≡ owns self.old q }
         ensures split { SplitsOff (kin self.old) (kin self.new) place × (branches result ≡ offshoot (kin self.old place)) }
         ensures fits { (q : ℕ) (p : Self.Pass) → fits self.old q p → fits self.new q p };
 
@@ -91,6 +102,9 @@ pub trait StreamPort: Drop {
         requires { fits self.old place pass }
         ensures here { root self.new place ≡ longer (root self.old place) (seen pass) }
         ensures taken { TakesIn (kin self.old) (branches pass) (kin self.new) place }
+        ensures gains { gains (owns self.old) (mine pass) (owns self.new) place }
+        // where the root has then taken in every other pass, nobody else called
+        ensures all { IsWhole (kin self.new place) → HasAll (owns self.new place) (length (root self.new place)) }
         ensures adds { adds (root self.old place) [] (root self.new place) }
         ensures both { Begins (root self.old place) (root self.new place) × Begins (seen pass) (root self.new place) }
         ensures others { (q : ℕ) → q ≢ place → root self.new q ≡ root self.old q }
@@ -111,6 +125,7 @@ pub trait StreamPort: Drop {
         ensures once { TriedOnce (busies self.old) (busies self.new) result }
         ensures busies { busies self.old ≤ busies self.new }
         ensures here { Begins (root self.old place) (root self.new place) }
+        ensures owns { (q : ℕ) → owns self.new q ≡ owns self.old q }
         ensures split { CallSplits (kin self.old) (branches pass.old) result (kin self.new) (branches pass.new) place }
         ensures adds { adds (root self.old place) (answered entry result) (root self.new place) }
         ensures others { (q : ℕ) → q ≢ place → root self.new q ≡ root self.old q }

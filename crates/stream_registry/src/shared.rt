@@ -1,9 +1,10 @@
 //! The port of one thread to streams and pools that many serve.
 ghost use Rattle.std.specs.Prelude.{◌≡◌, ◌≤◌, ◌+◌, ℕ, [], length, IfOk, All};
 ghost use Rattle.turn_gate.specs.Branches.{trunk, cut_off};
-ghost use Rattle.stream_registry.specs.Roots.{Later, AreTrunks, kin_at, gates};
-ghost use Rattle.stream_registry.specs.Splits.{TakesAll, cut_times};
-ghost use Rattle.stream_registry.specs.Gates.{told_at};
+ghost use Rattle.turn_gate.specs.Histories.{longer};
+ghost use Rattle.stream_registry.specs.Roots.{Later, AreTrunks, kin_at, mine_at, OwnsAllAt, gates};
+ghost use Rattle.stream_registry.specs.Splits.{TakesAll, OwnsBoth, cut_times};
+ghost use Rattle.stream_registry.specs.Gates.{told_at, made_at};
 ghost use Rattle.stream_registry.specs.SharedState.{HasKin, IsFork, IsAsBefore, IsNewPort, AreNewPorts, shared_rules};
 ghost use Rattle.stream_registry.specs.Names.{AreFew, AreTables, shapes_of};
 ghost use Rattle.stream_registry.specs.Sites.{AreNewRoots, AreSites, site};
@@ -167,7 +168,12 @@ impl Shared<PlaceTable> {
         ensures same { (shared_rules self.new ≡ shared_rules self.old) × (self.new.busies ≡ self.old.busies) }
         ensures grown { Later (told_at self.old.roots) (told_at self.new.roots) }
         ensures later { Later (told_at other.roots) (told_at self.new.roots) }
+        ensures longest { (q : ℕ) → told_at self.new.roots q ≡ longer (told_at self.old.roots q) (told_at other.roots q) }
         ensures kin { TakesAll (kin_at self.old.roots) (kin_at other.roots) (kin_at self.new.roots) }
+        ensures mine { OwnsBoth (mine_at self.old.roots) (mine_at other.roots) (mine_at self.new.roots) }
+        ensures made { OwnsBoth (made_at self.old.roots) (made_at other.roots) (made_at self.new.roots) }
+        // at each place where it has then taken in every other pass, nobody else called
+        ensures whole { (q : ℕ) → OwnsAllAt self.new.roots q }
     {
         let Shared {
             ways,
@@ -191,10 +197,10 @@ impl StreamPort for Shared<PlaceTable> {
     ghost use Rattle.stream_registry.specs.Told.{Keeps};
     ghost use Rattle.stream_registry.specs.Placed.{Placed, Failed, TriedOnce};
     ghost use Rattle.stream_registry.specs.Refusals.{IsRefused};
-    ghost use Rattle.stream_registry.specs.Gates.{told, told_at, numbers};
-    ghost use Rattle.turn_gate.specs.Branches.{offshoot};
-    ghost use Rattle.stream_registry.specs.Roots.{Unlearned, gates, seen_at, kin_at};
-    ghost use Rattle.stream_registry.specs.Splits.{SplitsOff, TakesIn, CallSplits};
+    ghost use Rattle.stream_registry.specs.Gates.{told, told_at, numbers, made_at};
+    ghost use Rattle.turn_gate.specs.Branches.{offshoot, IsWhole};
+    ghost use Rattle.stream_registry.specs.Roots.{Unlearned, gates, seen_at, kin_at, mine_at, OwnsAllAt};
+    ghost use Rattle.stream_registry.specs.Splits.{SplitsOff, TakesIn, OwnsMore, CallSplits, HasAll};
     ghost use Rattle.stream_registry.specs.SharedState.{shared_rules, limits_at};
     ghost use Rattle.stream_registry.specs.Wants.{IsTake, IsWanted};
 
@@ -216,6 +222,10 @@ impl StreamPort for Shared<PlaceTable> {
 
     ghost branches = { λ p. p.kin };
 
+    ghost owns = { λ s. made_at s.roots };
+
+    ghost gains = { OwnsMore };
+
     ghost adds = { λ h xs i. Unit {0} };
 
     ghost count = { λ p. length p.seen };
@@ -226,6 +236,10 @@ impl StreamPort for Shared<PlaceTable> {
         let names: &NameList = &self.names;
         let opens: &OpenList = &self.opens;
         place_of(names, opens, app, name)
+    }
+
+    fn busies(&self) -> u64 {
+        self.busies
     }
 
     /// As the trait says. The calls that memory refused are among those that the pass has seen.
@@ -241,6 +255,8 @@ impl StreamPort for Shared<PlaceTable> {
         ensures split { SplitsOff (kin_at self.old.roots) (kin_at self.new.roots) place × (result.kin ≡ offshoot (kin_at self.old.roots place)) }
         ensures roots { Unlearned self.old.roots self.new.roots }
         ensures attempts { result.seen ≡ seen_at self.old.roots place }
+        ensures mine { (result.mine ≡ []) × ((q : ℕ) → mine_at self.new.roots q ≡ mine_at self.old.roots q) }
+        ensures owns { (q : ℕ) → made_at self.new.roots q ≡ made_at self.old.roots q }
     {
         let _ = &self.names;
         self.ways.attach(place as usize)
@@ -260,6 +276,11 @@ impl StreamPort for Shared<PlaceTable> {
         ensures adds { Unit {0} }
         ensures attempts { seen_at self.new.roots place ≡ longer (seen_at self.old.roots place) pass.seen }
         ensures apart { (q : ℕ) → q ≢ place → seen_at self.new.roots q ≡ seen_at self.old.roots q }
+        ensures mine { OwnsMore (mine_at self.old.roots) pass.mine (mine_at self.new.roots) place }
+        ensures gains { OwnsMore (made_at self.old.roots) (numbers pass.seen pass.mine) (made_at self.new.roots) place }
+        ensures all { IsWhole (kin_at self.new.roots place) → HasAll (made_at self.new.roots place) (length (told_at self.new.roots place)) }
+        // where the root has then taken in every other pass, nobody else called
+        ensures whole { OwnsAllAt self.new.roots place }
     {
         self.ways.detach(place as usize, pass);
     }
@@ -295,6 +316,8 @@ impl StreamPort for Shared<PlaceTable> {
         ensures adds { Unit {0} }
         ensures roots { Unlearned self.old.roots self.new.roots }
         ensures attempts { Begins pass.old.seen pass.new.seen }
+        ensures mine { (q : ℕ) → mine_at self.new.roots q ≡ mine_at self.old.roots q }
+        ensures owns { (q : ℕ) → made_at self.new.roots q ≡ made_at self.old.roots q }
         ensures free { IfOk result (λ _. pass.new.met ≡ pass.old.met) }
         ensures refused { IfErr result (λ e. IsRefused pass.old entry e pass.new) }
     {

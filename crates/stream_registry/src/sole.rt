@@ -122,6 +122,10 @@ impl StreamPort for Sole {
 
     ghost branches = { λ p. [] };
 
+    ghost owns = { λ s q. [] };
+
+    ghost gains = { λ o ns p q. Unit {0} };
+
     ghost adds = { λ h xs i. i ≡ h ++ xs };
 
     ghost count = { λ p. length p.seen };
@@ -131,6 +135,11 @@ impl StreamPort for Sole {
     fn find(&self, app: &[u8], name: &[u8]) -> Result<u32, NotFound> {
         let _ = &self.limits;
         place_of(&self.names, &self.opens, app, name)
+    }
+
+    fn busies(&self) -> u64 {
+        let _ = &self.limits;
+        0
     }
 
     fn attach(&mut self, place: u32) -> SolePass {

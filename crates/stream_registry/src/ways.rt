@@ -1,10 +1,10 @@
 //! One thread's ways to the gates at all places.
 ghost use Rattle.std.specs.Prelude.{◌≡◌, ◌≢◌, ℕ, ◌<◌, Some, [], ◌++◌, ◌∷◌, length, IfOk, IfErr, OnOk, OnErr, slice_get};
-ghost use Rattle.turn_gate.specs.Histories.{Begins, longer};
+ghost use Rattle.turn_gate.specs.Histories.{Begins, longer, AreOwn};
 ghost use Rattle.turn_gate.specs.Branches.{cut_off, offshoot};
 ghost use Rattle.turn_gate.specs.Known.{newcomer, RepliedAfter, Failed, SplitOnce};
-ghost use Rattle.stream_registry.specs.Roots.{Remembers, Grown, Unlearned, gates, seen_at, kin_at, Later};
-ghost use Rattle.stream_registry.specs.Splits.{SplitsOff, TakesIn, TakesAll, Forks};
+ghost use Rattle.stream_registry.specs.Roots.{Remembers, Grown, Unlearned, gates, seen_at, kin_at, mine_at, OwnsAllAt, AreOwnAll, Later};
+ghost use Rattle.stream_registry.specs.Splits.{SplitsOff, TakesIn, TakesAll, Forks, OwnsMore, OwnsBoth};
 
 use crate::place::Place;
 use std::alloc::{AllocError, Global};
@@ -61,7 +61,11 @@ impl<T: Machine + Drop> Ways<T> {
         requires { gates other ≡ gates self.old }
         ensures grown { Grown self.old self.new }
         ensures later { Grown other self.new }
+        ensures longest { (q : ℕ) → seen_at self.new q ≡ longer (seen_at self.old q) (seen_at other q) }
         ensures kin { TakesAll (kin_at self.old) (kin_at other) (kin_at self.new) }
+        ensures mine { OwnsBoth (mine_at self.old) (mine_at other) (mine_at self.new) }
+        ensures own { AreOwnAll self.old × AreOwnAll other }
+        ensures whole { (q : ℕ) → OwnsAllAt self.new q }
     {
         let Ways { places } = other;
         gather_all(self.places.as_mut_slice(), places);
@@ -74,6 +78,7 @@ impl<T: Machine + Drop> Ways<T> {
         ensures new { result ≡ newcomer result.gate (offshoot (kin_at self.old place)) (seen_at self.old place) }
         ensures same { Unlearned self.old self.new }
         ensures kin { SplitsOff (kin_at self.old) (kin_at self.new) place }
+        ensures mine { (q : ℕ) → mine_at self.new q ≡ mine_at self.old q }
     {
         self.places[place].attach()
     }
@@ -86,6 +91,9 @@ impl<T: Machine + Drop> Ways<T> {
         ensures longer { seen_at self.new place ≡ longer (seen_at self.old place) pass.seen }
         ensures others { (q : ℕ) → q ≢ place → seen_at self.new q ≡ seen_at self.old q }
         ensures kin { TakesIn (kin_at self.old) pass.kin (kin_at self.new) place }
+        ensures mine { OwnsMore (mine_at self.old) pass.mine (mine_at self.new) place }
+        ensures own { AreOwn (mine_at self.old place) (length (seen_at self.old place)) × AreOwn pass.mine (length pass.seen) }
+        ensures whole { OwnsAllAt self.new place }
     {
         self.places[place].detach(pass);
     }
@@ -101,6 +109,7 @@ impl<T: Machine + Drop> Ways<T> {
         ensures port { Unlearned self.old self.new }
         ensures kin { SplitOnce (kin_at self.old place) pass.old.kin result (kin_at self.new place) pass.new.kin }
         ensures others { (q : ℕ) → q ≢ place → kin_at self.new q ≡ kin_at self.old q }
+        ensures mine { (q : ℕ) → mine_at self.new q ≡ mine_at self.old q }
         ensures pass { Remembers pass.old pass.new }
         ensures reply { IfOk result (λ r. RepliedAfter (T.lawful pass.old.gate.about) (seen_at self.old place) pass.old (call, r) pass.new) }
         ensures fails { IfErr result (λ e. Failed (T.lawful pass.old.gate.about) pass.old call e pass.new) }
@@ -130,7 +139,11 @@ fn gather_all<T: Machine + Drop>(places: &mut [Place<T>], mut others: Vec<Place<
     requires { gates others.items ≡ gates places.old }
     ensures grown { Grown places.old places.new }
     ensures later { Later (seen_at others.items) (seen_at places.new) }
+    ensures longest { (q : ℕ) → seen_at places.new q ≡ longer (seen_at places.old q) (seen_at others.items q) }
     ensures kin { TakesAll (kin_at places.old) (kin_at others.items) (kin_at places.new) }
+    ensures mine { OwnsBoth (mine_at places.old) (mine_at others.items) (mine_at places.new) }
+    ensures own { AreOwnAll places.old × AreOwnAll others.items }
+    ensures whole { (q : ℕ) → OwnsAllAt places.new q }
 {
     while let Some(other) = others.pop() {
         places[others.len()].gather(other);

@@ -11,6 +11,7 @@ use Rattle.turn_gate.specs.Histories.{Begins, grown, placed, total, times}
 use Rattle.turn_gate.specs.TurnTable.{opener, newcomer, cutting, spent, taking, noting, seizing, meeting, freeing, claims, Fits, Cuts, OneHolds, NoneHolds, TurnRule, Seizes, Frees, Learns}
 use Rattle.turn_gate.proofs.Places.{begins_less, begins_more, begins_both, longer_begins, longer_length, times-append, times_other, times_self, total-append, total-set, total_zero, term_le}
 use Rattle.turn_gate.proofs.Views.{off, bool_un, within, fits_set, fits_more, spent_fits, one_set, one_more, none_set, none_more, cuts_set, cuts_more, cuts_joined}
+use Rattle.turn_gate.proofs.Closing.{all_own}
 use Rattle.turn_gate.proofs.Branching.{cut_grows, length_more, trunk_deep, trunk_uncut}
 
 module _ {C R : Type 0} where
@@ -58,7 +59,7 @@ module _ {H C R A : Type 0} (inside : A → H → List (C × R) → Type 0) (key
           one_word = long;
           one_slot = length-set s.homes 0 _ ∙ o.one_slot;
           whole = o.whole;
-          each = fits_set key o.whole s.views id w (λ j u _ e. o.each j u e) record { named = f.named; holding = λ _. refl; grows = λ _. alive; seen_begins = f.seen_begins; noted_begins = f.noted_begins; own = f.own };
+          each = fits_set key o.whole s.views id w (λ j u _ e. o.each j u e) record { named = f.named; holding = λ _. refl; grows = λ _. alive; seen_begins = f.seen_begins; noted_begins = f.noted_begins; own = f.own; bears = f.bears };
           once = λ p l. let moved = total-set (claims p) s.views id m.0 w me in let b = o.once p l in omega arith;
           cuts = cuts_set s.views id m.0 w me refl o.cuts;
           free = λ e. absurd (omega arith);
@@ -93,7 +94,7 @@ module _ {H C R A : Type 0} (inside : A → H → List (C × R) → Type 0) (key
           one_word = long;
           one_slot = o.one_slot;
           whole = o.whole;
-          each = fits_set key o.whole s.views id w (λ j u _ e. o.each j u e) record { named = f.named; holding = λ e. absurd (off refl e); grows = λ e. absurd (off refl e); seen_begins = f.seen_begins; noted_begins = f.noted_begins; own = f.own };
+          each = fits_set key o.whole s.views id w (λ j u _ e. o.each j u e) record { named = f.named; holding = λ e. absurd (off refl e); grows = λ e. absurd (off refl e); seen_begins = f.seen_begins; noted_begins = f.noted_begins; own = f.own; bears = f.bears };
           once = λ p l. let moved = total-set (claims p) s.views id m.0 w me in let b = o.once p l in omega arith;
           cuts = cuts_set s.views id m.0 w me refl o.cuts;
           free = λ e. absurd (omega arith);
@@ -150,6 +151,7 @@ module _ {H C R A : Type 0} (inside : A → H → List (C × R) → Type 0) (key
                 seen_begins = begins_grown u.seen o.whole said g.seen_begins;
                 noted_begins = begins_grown u.noted o.whole said g.noted_begins;
                 own = g.own;
+                bears = g.bears;
               })
               record {
                 named = f.named;
@@ -158,6 +160,7 @@ module _ {H C R A : Type 0} (inside : A → H → List (C × R) → Type 0) (key
                 seen_begins = ([], nil_right (grown v.whole said) ∙ more);
                 noted_begins = (grown o.whole said, refl);
                 own = own_grown v.mine (length v.seen) v.whole said f.own (let l = ap length same in omega arith);
+                bears = λ p h. f.grows holds;
               };
           once = once_grown s o id v said me same;
           cuts = cuts_set s.views id v w me refl o.cuts;
@@ -187,7 +190,7 @@ module _ {H C R A : Type 0} (inside : A → H → List (C × R) → Type 0) (key
     changed s o (set s.words 0 (get_or s.words 0 0)) (set s.views id m.0) (length-set s.words 0 _) (get_or-set_same s.words 0 (get_or s.words 0 0) 0 (let l = o.one_word in omega arith))
         (fits_set key o.whole s.views id m.0 (λ j u _ e. o.each j u e) f) (λ p. let moved = total-set (claims p) s.views id m.0 m.0 me in omega arith)
         (cuts_set s.views id m.0 m.0 me refl o.cuts) (none_set s.views id m.0 m.0 me refl) (one_set s.views id m.0 m.0 me refl),
-    (refl, (λ l. begins_both m.0.noted m.0.seen o.whole f.noted_begins f.seen_begins l), λ p. (let b = at_most_once s o p in let part = term_le (claims p) s.views id m.0 me in omega arith, f.own p)),
+    (refl, (λ l. begins_both m.0.noted m.0.seen o.whole f.noted_begins f.seen_begins l), λ p. (let b = at_most_once s o p in let part = term_le (claims p) s.views id m.0 me in omega arith, f.own p), λ w. all_own s.views id m.0 o.whole me w o.cuts (λ j u e. (o.each j u e).bears) o.once (begins_less m.0.seen o.whole f.seen_begins)),
   )
 
   -- a new seat is cut off from one
@@ -196,8 +199,8 @@ module _ {H C R A : Type 0} (inside : A → H → List (C × R) → Type 0) (key
       changed s o s.words (set s.views id left ++ right ∷ []) refl refl
       (fits_more key o.whole (set s.views id left) right
       (fits_set key o.whole s.views id left (λ j u _ e. o.each j u e)
-      record { named = f.named; holding = f.holding; grows = λ so. cut_grows v.kin (f.grows so); seen_begins = f.seen_begins; noted_begins = f.noted_begins; own = f.own })
-      record { named = f.named; holding = λ e. absurd (off refl e); grows = λ e. absurd (off refl e); seen_begins = f.seen_begins; noted_begins = (o.whole, refl); own = λ p h. absurd (omega arith) })
+      record { named = f.named; holding = f.holding; grows = λ so. cut_grows v.kin (f.grows so); seen_begins = f.seen_begins; noted_begins = f.noted_begins; own = f.own; bears = λ p h. cut_grows v.kin (f.bears p h) })
+      record { named = f.named; holding = λ e. absurd (off refl e); grows = λ e. absurd (off refl e); seen_begins = f.seen_begins; noted_begins = (o.whole, refl); own = λ p h. absurd (omega arith); bears = λ p h. absurd (omega arith) })
       (λ p. omega (arith, total-append (claims p) (set s.views id left) (right ∷ []), total-set (claims p) s.views id v left me))
       (cuts_more s.views id v left right me refl refl o.cuts)
       (λ n. none_more (set s.views id left) right refl (none_set s.views id v left me refl n))
@@ -226,13 +229,15 @@ module _ {H C R A : Type 0} (inside : A → H → List (C × R) → Type 0) (key
         noted_begins = b.1;
         own = λ p h. let t = times-append p v.mine u.mine in dite (dec_le (times p v.mine) 0)
             (λ z. let x = g.own p (omega arith) in let l' = l.1 in omega arith) (λ z. let x = f.own p (omega arith) in let l' = l.0 in omega arith);
+        bears = λ p h. let t = times-append p v.mine u.mine in let long = length-append v.kin u.kin in dite (dec_le (times p v.mine) 0)
+            (λ z. let x = g.bears p (omega arith) in omega arith) (λ z. let x = f.bears p (omega arith) in omega arith);
       })
       (λ p. times-append p v.mine u.mine)
 
   -- the other has made no call
   pub notes : (id : ℕ) (v : View C R A) (other : ℕ) (u : View C R A) → u.holds ≡ false → u.mine ≡ [] → Joins (TurnRule inside key) id v other u (noting v u) spent
   notes id v other u un unmade = unites id v other u (noting v u) refl un refl
-      (λ whole f g. record { named = f.named; holding = f.holding; grows = λ so. length_more v.kin u.kin (f.grows so); seen_begins = f.seen_begins; noted_begins = g.seen_begins; own = f.own })
+      (λ whole f g. record { named = f.named; holding = f.holding; grows = λ so. length_more v.kin u.kin (f.grows so); seen_begins = f.seen_begins; noted_begins = g.seen_begins; own = f.own; bears = λ p h. length_more v.kin u.kin (f.bears p h) })
       (λ p. let e = ap (times p) unmade in omega arith)
 
   starts : (value : H) → inside key value [] → TurnRule inside key (opening (0 ∷ []) (Some value ∷ []) (opener key))
@@ -240,7 +245,7 @@ module _ {H C R A : Type 0} (inside : A → H → List (C × R) → Type 0) (key
     one_word = refl;
     one_slot = refl;
     whole = [];
-    each = λ j v e. subst (λ (u : View C R A). Fits key [] u) (first j v e) record { named = λ a e. sym (some_is a e); holding = λ e. absurd (off refl e); grows = λ e. absurd (off refl e); seen_begins = ([], refl); noted_begins = ([], refl); own = λ p h. absurd (omega arith) };
+    each = λ j v e. subst (λ (u : View C R A). Fits key [] u) (first j v e) record { named = λ a e. sym (some_is a e); holding = λ e. absurd (off refl e); grows = λ e. absurd (off refl e); seen_begins = ([], refl); noted_begins = ([], refl); own = λ p h. absurd (omega arith); bears = λ p h. absurd (omega arith) };
     once = λ p l. absurd (omega arith);
     cuts = record { one_first = refl; each_counted = λ d. let deep = trunk_deep d in let uncut = trunk_uncut d in omega arith };
     free = λ _. ((value, refl, ok), λ j v e. ap (λ (y : View C R A). y.holds) (sym (first j v e)));

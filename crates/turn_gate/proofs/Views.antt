@@ -37,7 +37,7 @@ module _ {C R A : Type 0} where
   fits_more key whole views w others here j u e = ⊎_elim (λ x. others j u x) (λ (x : w ≡ u). subst (λ (y : View C R A). Fits key whole y) x here) (at_snoc views w u j e)
 
   pub spent_fits : (key : A) (whole : List (C × R)) → Fits key whole spent
-  spent_fits key whole = record { named = λ a e. absurd (none_some a e); holding = λ e. absurd (off refl e); grows = λ e. absurd (off refl e); seen_begins = (whole, refl); noted_begins = (whole, refl); own = λ p h. absurd (omega arith) }
+  spent_fits key whole = record { named = λ a e. absurd (none_some a e); holding = λ e. absurd (off refl e); grows = λ e. absurd (off refl e); seen_begins = (whole, refl); noted_begins = (whole, refl); own = λ p h. absurd (omega arith); bears = λ p h. absurd (omega arith) }
     where
       none_some : (a : A) → None ≡ Some a → ⊥
       none_some a e = true≢false (ap (λ (x : Option A). is_none x) e)

@@ -37,3 +37,7 @@ times p (x ∷ xs) = (if nat_eq x p then 1 else 0) + times p xs
 -- no place stands twice, and each is below n
 abbrev pub AreOwn : List ℕ → ℕ → Type 0
 AreOwn places n = (p : ℕ) → (times p places ≤ 1) × (0 < times p places → p < n)
+
+-- each place below n stands there once
+abbrev pub AreAll : List ℕ → ℕ → Type 0
+AreAll places n = (p : ℕ) → p < n → times p places ≡ 1

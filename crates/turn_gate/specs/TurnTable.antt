@@ -7,8 +7,8 @@ use lib.ListN.{get_elem?}
 use Rattle.atomic_table.specs.Table.{State, Me}
 use Rattle.turn_gate.specs.declared.view.View.{View}
 use Rattle.turn_gate.specs.declared.view.Branch.{Branch}
-use Rattle.turn_gate.specs.Branches.{trunk, cut_off, offshoot, at_depth, cut_at}
-use Rattle.turn_gate.specs.Histories.{Begins, longer, shorter, grown, placed, total, times, AreOwn}
+use Rattle.turn_gate.specs.Branches.{trunk, cut_off, offshoot, at_depth, cut_at, IsWhole}
+use Rattle.turn_gate.specs.Histories.{Begins, longer, shorter, grown, placed, total, times, AreOwn, AreAll}
 
 -- what never changes of the machine, as a seat of the gate knows it
 abbrev pub about_of : {A : Type 0} → A → Option A → A
@@ -72,6 +72,8 @@ module _ {C R A : Type 0} where
     pub noted_begins : Begins v.noted whole
     -- own calls have places in what is seen
     pub own : (p : ℕ) → 0 < times p v.mine → p < length v.seen
+    -- who has own calls has a branch: a seat that was taken in has none of both
+    pub bears : (p : ℕ) → 0 < times p v.mine → 0 < length v.kin
 
   -- how many branches of a view have that depth, and how many seats were cut off from these
   abbrev pub branches_at : ℕ → View C R A → ℕ
@@ -130,6 +132,7 @@ module _ {C R A : Type 0} where
     abbrev pub Frees : Option (C × R) → Me (Option H) (View C R A) → Me (Option H) (View C R A) → Type 0
     Frees said m n = (n.0 ≡ freeing said m.0) × (n.1 ≡ []) × Begins m.0.noted m.0.whole
 
-    -- what a load tells a pass that has taken in another
+    -- what a load tells a pass that has taken in another; where it has taken in all others, its own calls are all
     abbrev pub Learns : Me (Option H) (View C R A) → Me (Option H) (View C R A) → Type 0
     Learns m n = (n ≡ m) × (length m.0.noted ≤ length m.0.seen → Begins m.0.noted m.0.seen) × AreOwn m.0.mine (length m.0.seen)
+        × (IsWhole m.0.kin → AreAll m.0.mine (length m.0.seen))

@@ -1,7 +1,7 @@
 //! A machine behind a turn word. The pass that has the turn has the machine.
 ghost use Rattle.std.specs.Prelude.{◌≡◌, ◌++◌, [], length, IfOk, IfErr};
-ghost use Rattle.turn_gate.specs.Branches.{trunk, cut_off, offshoot};
-ghost use Rattle.turn_gate.specs.Histories.{Begins, longer, AreOwn};
+ghost use Rattle.turn_gate.specs.Branches.{trunk, cut_off, offshoot, IsWhole};
+ghost use Rattle.turn_gate.specs.Histories.{Begins, longer, AreOwn, AreAll};
 ghost use Rattle.turn_gate.specs.Known.{newcomer, with_kin, Replied, RepliedAfter, Failed, SplitOnce, Settled, Same};
 
 use crate::machine::Machine;
@@ -142,6 +142,8 @@ impl<T: Machine + Drop> Gate<T> {
         ensures seen { into.new.seen ≡ longer into.old.seen other.seen }
         ensures both { Begins into.old.seen into.new.seen × Begins other.seen into.new.seen }
         ensures mine { (into.new.mine ≡ into.old.mine ++ other.mine) × AreOwn into.new.mine (length into.new.seen) }
+        // where it has then taken in every other pass of the gate, nobody else called
+        ensures whole { IsWhole into.new.kin → AreAll into.new.mine (length into.new.seen) }
     {
         let Pass { seat, calls } = other;
         let turns = &self.turns.shared;

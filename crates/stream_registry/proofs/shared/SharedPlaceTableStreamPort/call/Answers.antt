@@ -1,14 +1,15 @@
-use Rattle.std.proofs.Common.{rules, ◌≡◌, Some, Ok, refl, sym, ap, ◌∙◌, subst}
+use Rattle.std.proofs.Common.{rules, ◌≡◌, ℕ, List, Some, Ok, refl, sym, ap, ◌∙◌, subst}
 use Rattle.stream_model.specs.declared.calls.Shape.{Shape}
 use Rattle.turn_gate.specs.Known.{IsWorn, RepliedAfter}
 use Rattle.stream_registry.specs.declared.place_table.Site.{Site}
 use Rattle.turn_gate.specs.Known.{GateId}
-use Rattle.stream_registry.specs.Pasts.{IsLawfulAt}
-use Rattle.stream_registry.specs.Roots.{gates, seen_at}
+use Rattle.stream_registry.specs.Pasts.{Attempt, IsLawfulAt}
+use Rattle.stream_registry.specs.Roots.{Root, gates, seen_at}
 use Rattle.stream_registry.specs.SharedState.{Streams}
 use Rattle.stream_registry.specs.Told.{Keeps}
-use Rattle.stream_registry.specs.Gates.{told}
+use Rattle.stream_registry.specs.Gates.{told, made_at}
 use Rattle.stream_registry.proofs.Placing.{placed, keeps, room, unmade, refused, refused_memory, same_own, passes, kept, worn}
+use Rattle.stream_registry.proofs.Owning.{made_kept}
 use Rattle.stream_registry.proofs.Wanting.{take_numbers, take_back}
 use Rattle.std.specs.Option.{IsSome}
 use Rattle.stream_registry.proofs.shared.SharedPlaceTableStreamPort.call.Goals as goal
@@ -86,3 +87,19 @@ pub returns-in-Err-Worn-clause-refused : goal.returns-in-Err-Worn-clause-refused
 returns-in-Err-Worn-clause-refused c =
     let n : IsWorn (IsLawfulAt c.args.pass.now.gate.about.limits) c.args.pass.now c.call.new.pass = search rules in
     worn c.args.pass.now c.call.new.pass n
+
+pub returns-in-Ok-Ok-clause-owns : goal.returns-in-Ok-Ok-clause-owns
+returns-in-Ok-Ok-clause-owns c =
+    subst (λ (x : List (Root Site Attempt)). (q : ℕ) → made_at c.call.new.self q ≡ made_at x q) (ap (λ (x : Streams). x.roots) c.self.view_is) (made_kept _ c.call.new.self c.call.ensures.port c.call.ensures.mine)
+
+pub returns-in-Ok-Err-clause-owns : goal.returns-in-Ok-Err-clause-owns
+returns-in-Ok-Err-clause-owns c =
+    subst (λ (x : List (Root Site Attempt)). (q : ℕ) → made_at c.call.new.self q ≡ made_at x q) (ap (λ (x : Streams). x.roots) c.self.view_is) (made_kept _ c.call.new.self c.call.ensures.port c.call.ensures.mine)
+
+pub returns-in-Err-Busy-clause-owns : goal.returns-in-Err-Busy-clause-owns
+returns-in-Err-Busy-clause-owns c =
+    subst (λ (x : List (Root Site Attempt)). (q : ℕ) → made_at c.call.new.self q ≡ made_at x q) (ap (λ (x : Streams). x.roots) c.self.view_is) (made_kept _ c.call.new.self c.call.ensures.port c.call.ensures.mine)
+
+pub returns-in-Err-Worn-clause-owns : goal.returns-in-Err-Worn-clause-owns
+returns-in-Err-Worn-clause-owns c =
+    subst (λ (x : List (Root Site Attempt)). (q : ℕ) → made_at c.call.new.self q ≡ made_at x q) (ap (λ (x : Streams). x.roots) c.self.view_is) (made_kept _ c.call.new.self c.call.ensures.port c.call.ensures.mine)

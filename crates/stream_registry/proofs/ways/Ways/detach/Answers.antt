@@ -1,7 +1,7 @@
 use Rattle.std.proofs.Common.{◌≡◌, subst, sym, slice_set}
 use Rattle.turn_gate.specs.Histories.{Begins}
 use Rattle.stream_registry.specs.Roots.{seen_at}
-use Rattle.stream_registry.proofs.Rooting.{detaches, here_longer, seen_set_else, there_by_gate, takes_in}
+use Rattle.stream_registry.proofs.Rooting.{detaches, here_longer, seen_set_else, there_by_gate, takes_in, owns_more, own_at}
 use Rattle.stream_registry.proofs.ways.Ways.detach.Goals as goal
 
 pub returns-clause-grown : goal.returns-clause-grown
@@ -21,3 +21,18 @@ returns-clause-others g c = λ q d. subst (λ l. seen_at (slice_set c.self.insid
 pub returns-clause-kin : goal.returns-clause-kin
 returns-clause-kin g c = takes_in c.args.self.now c.self.inside.places.items c.args.place c.index_mut.result.now c.detach.new.self c.args.pass.kin c.self.view_is c.index_mut.ensures.value
     (there_by_gate c.args.self.now c.self.inside.places.items c.args.place c.args.pass.gate c.self.view_is c.requires) c.detach.ensures.kin
+
+pub returns-clause-mine : goal.returns-clause-mine
+returns-clause-mine g c = (owns_more c.args.self.now c.self.inside.places.items c.args.place c.index_mut.result.now c.detach.new.self c.args.pass.mine c.self.view_is c.index_mut.ensures.value
+    (there_by_gate c.args.self.now c.self.inside.places.items c.args.place c.args.pass.gate c.self.view_is c.requires) c.detach.ensures.mine c.detach.ensures.whole).0
+
+pub returns-clause-whole : goal.returns-clause-whole
+returns-clause-whole g c = (owns_more c.args.self.now c.self.inside.places.items c.args.place c.index_mut.result.now c.detach.new.self c.args.pass.mine c.self.view_is c.index_mut.ensures.value
+    (there_by_gate c.args.self.now c.self.inside.places.items c.args.place c.args.pass.gate c.self.view_is c.requires) c.detach.ensures.mine c.detach.ensures.whole).1
+
+pub returns-clause-own : goal.returns-clause-own
+returns-clause-own g c = (
+  own_at c.args.self.now c.self.inside.places.items c.args.place c.index_mut.result.now c.self.view_is c.index_mut.ensures.value
+      (there_by_gate c.args.self.now c.self.inside.places.items c.args.place c.args.pass.gate c.self.view_is c.requires) c.detach.ensures.own.0,
+  c.detach.ensures.own.1,
+)
