@@ -77,7 +77,7 @@ fn add_line(
     app: &[u8],
     name: &[u8],
 ) -> Result<(), AllocError> {
-    let words = format!(in alloc; "{news} ")?;
+    let words = format!(in alloc; "{news:?} ")?;
     lines.extend_from_slice(words.as_bytes())?;
     lines.extend_from_slice(app)?;
     lines.push(b'/')?;
