@@ -170,6 +170,8 @@ pub struct Control {
     registry: Registry,
     askers: Vec<Asker>,
     last: usize,
+    // Somebody may wait for whom the system had no descriptor.
+    short: bool,
 }
 
 impl Control {
@@ -187,6 +189,7 @@ impl Control {
             registry,
             askers: Vec::new(alloc),
             last: ASKERS,
+            short: false,
         })
     }
 
@@ -214,8 +217,12 @@ impl Control {
     /// Goes on with all who ask. Whether one told the server to stop.
     pub fn go_on(&mut self, watch: &Arc<Watch, Global>, now: u64) -> bool {
         for _ in 0..MOST {
-            if self.accept(now).is_err() {
-                break;
+            match self.accept(now) {
+                Ok(()) => self.short = false,
+                Err(error) => {
+                    self.short = error.kind() != ErrorKind::WouldBlock;
+                    break;
+                }
             }
         }
         let mut stops = false;
@@ -246,6 +253,6 @@ impl Control {
 
     /// Whether somebody asks.
     pub fn is_asked(&self) -> bool {
-        !self.askers.is_empty()
+        self.short || !self.askers.is_empty()
     }
 }

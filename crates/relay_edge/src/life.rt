@@ -107,6 +107,11 @@ impl Life {
         true
     }
 
+    /// It wasn't silent.
+    pub fn forgive(&mut self) {
+        self.cause = Cause::Peer;
+    }
+
     /// How many milliseconds it may take nothing of what waits, if there is a bound.
     pub fn patience(&self, post: &Post) -> Option<u64> {
         let most = post.watch.silence;

@@ -240,6 +240,16 @@ impl Wire {
         self.stuck == before
     }
 
+    // Whether bytes came that the poll hasn't told of: a wait that a stop of the process ended tells of nothing.
+    fn has_bytes(&self) -> bool {
+        let mut room = [0u8; 1];
+        let came = self.stream.peek(&mut room).is_ok();
+        if came {
+            self.cell.add(READABLE);
+        }
+        came
+    }
+
     // Tells the peer that no more comes, and passes over what still comes of it: a connection that is closed with bytes unread is
     // reset, and the peer may lose the last that it was sent. Whether it has closed too, or had time to.
     fn is_shut(&mut self) -> bool {
@@ -466,7 +476,11 @@ impl RealLink {
 // Whether a link has been silent for too long: its peer gave nothing, or takes nothing of what is kept for it.
 fn is_silent(life: &mut Life, wire: &mut Wire) -> bool {
     if life.is_silent(&wire.cell.post) {
-        return true;
+        if !wire.has_bytes() {
+            return true;
+        }
+        life.forgive();
+        return false;
     }
     let Some(patience) = life.patience(&wire.cell.post) else {
         return false;

@@ -124,7 +124,11 @@ impl RealRest {
     // Waits at most so long, and marks what is ready. Whether anything is.
     fn wait(&mut self, milliseconds: u64) -> bool {
         let most = Some(Duration::from_millis(milliseconds));
-        let _ = self.poll.poll(&mut self.events, most);
+        if self.poll.poll(&mut self.events, most).is_err() {
+            // A signal ended it, maybe long ago: what came meanwhile is to be seen before the clock is.
+            let now = Some(Duration::from_millis(0));
+            let _ = self.poll.poll(&mut self.events, now);
+        }
         self.post.tick();
         let mut ready = false;
         let mut asked = false;
