@@ -504,7 +504,7 @@ def broken(relay, folder):
     whole = film(units)
     server = Server(relay, folder, {"cam": 'flv = "cam.flv"'}, "accept = 1")
     ends = Command(relay, "push", server.port, "cam").end(whole + b"\x07")
-    said = f"relay: standard input is no FLV file at byte {len(whole)}\nrelay: status 4 at {len(whole)}\n"
+    said = f"relay: standard input is not FLV from byte {len(whole)} on\nrelay: status 4 at {len(whole)}\n"
     expect(ends == (4, b"", said), f"broken: a push of a broken film ends with {ends}")
     expect(server.end()[0] == 0, "broken: the server ends otherwise")
     expect(tags(open(os.path.join(folder, "cam.flv"), "rb").read()) == units, "broken: the tags before the refusal aren't all recorded")
@@ -516,7 +516,7 @@ def broken(relay, folder):
         peer.sendall(b"HTTP/1.1 400 Bad Request\r\n\r\n")
         ends = pull.end()
         peer.close()
-        said = f"relay: 127.0.0.1:{port}: what it sent is no RTMP at byte 0\nrelay: status 12 at 0\n"
+        said = f"relay: 127.0.0.1:{port}: the server sent invalid RTMP at byte 0\nrelay: status 12 at 0\n"
         expect(ends == (12, b"", said), f"broken: a pull from a web server ends with {ends}")
         pull = Command(relay, "pull", port, "cam")
         peer, _ = listener.accept()

@@ -39,8 +39,8 @@ fn read<R: Files<File = File>>(rt: &R, alloc: Global, name: &str) -> io::Result<
 // What the key's value may be.
 fn range(key: Key) -> &'static str {
     match key {
-        Key::Relay => "it is a table",
-        Key::Stream => "there are at most 64 tables [[stream]]",
+        Key::Relay => "a table",
+        Key::Stream => "at most 64 tables [[stream]]",
         Key::Open => "tables [[open]]",
         Key::Listen => "a text of 1 to 64 bytes, as \"127.0.0.1:1935\"",
         Key::Http => "a text of 1 to 64 bytes and another than listen, as \"127.0.0.1:8080\"",
@@ -53,9 +53,9 @@ fn range(key: Key) -> &'static str {
         Key::Players => "4 to 256",
         Key::Window => "1000 to 2147483647",
         Key::Names => "1 to 64, and at most 64 with all streams and other names",
-        Key::App | Key::Name => "1 to 64 letters of ASCII, digits, '.', '_' or '-'",
+        Key::App | Key::Name => "1 to 64 ASCII letters, digits, '.', '_' or '-'",
         Key::Publish | Key::Play => {
-            "a list of keys of 1 to 64 bytes, or where digest is true of 64 digits from 0 to f"
+            "a list of keys of 1 to 64 bytes, or of 64 digits from 0 to f if digest is true"
         }
         Key::Digest => "true or false",
         Key::Flv | Key::Ts => "a text of 1 to 255 bytes",
@@ -81,7 +81,7 @@ impl Refused<'_> {
 
     // Says where and why it is no TOML.
     fn tell_toml<R: Eprint>(&self, rt: &R, alloc: Global) {
-        let whole = "it is no TOML of at most 1048576 bytes in UTF-8";
+        let whole = "not TOML of at most 1048576 bytes in UTF-8";
         let error = match str::from_utf8(self.text) {
             Ok(text) if text.len() < MOST => toml::table_from_str(alloc, text).err(),
             _ => None,
@@ -105,30 +105,26 @@ struct Wrong<'a> {
 impl Display for Wrong<'_> {
     fn fmt<W: fmt::Write>(&self, f: &mut Formatter<W>) -> fmt::Result {
         match self.fail {
-            ConfigFail::NotToml => f.write_str("it is no TOML"),
-            ConfigFail::Unknown { key } => write!(
-                f,
-                "its table may not have the key {}",
-                shown(key.as_slice())
-            ),
+            ConfigFail::NotToml => f.write_str("not TOML"),
+            ConfigFail::Unknown { key } => write!(f, "unknown key {}", shown(key.as_slice())),
             ConfigFail::Missing { key: Key::Stream } => {
                 f.write_str("there is neither a [[stream]] nor an [[open]]")
             }
-            ConfigFail::Missing { key } => write!(f, "{} isn't there", key.name()),
-            ConfigFail::Range { key } => write!(f, "{} may be: {}", key.name(), range(*key)),
+            ConfigFail::Missing { key } => write!(f, "{} is missing", key.name()),
+            ConfigFail::Range { key } => write!(f, "{} must be {}", key.name(), range(*key)),
             ConfigFail::Twice { place } => {
                 write!(
                     f,
-                    "table {place}, from 0, the streams first, has the names of an earlier one"
+                    "table {place}, counted from 0, streams first, has the names of an earlier one"
                 )
             }
             ConfigFail::TooMuch { sum } => {
                 write!(
                     f,
-                    "all may hold {sum} bytes at once, and at most 6442450944 are taken"
+                    "the server could hold {sum} bytes at once, and the limit is 6442450944"
                 )
             }
-            ConfigFail::OutOfMemory => f.write_str("there was too little memory"),
+            ConfigFail::OutOfMemory => f.write_str("out of memory"),
         }
     }
 }
@@ -142,7 +138,7 @@ fn tell_why<R: Eprint>(rt: &R, alloc: Global, name: &str, text: &[u8], fail: &Co
     match fail {
         ConfigFail::NotToml => refused.tell_toml(rt, alloc),
         ConfigFail::OutOfMemory => {
-            let _ = eprintln!(rt; "relay: there was too little memory");
+            let _ = eprintln!(rt; "relay: out of memory");
         }
         _ => refused.tell(rt, spot_of(alloc, text, fail), &Wrong { fail }),
     }
@@ -174,12 +170,12 @@ fn add_stream(
     let play = show_grants(alloc, &rule.play)?;
     let (app, name) = (shown(rule.app.as_slice()), shown(rule.name.as_slice()));
     let line = format!(in alloc;
-        "stream {place} {app}/{name}: published {publish}, played {play}\n"
+        "stream {place} {app}/{name}: may be published {publish}, played {play}\n"
     )?;
     text.push_str(&line)?;
     for file in [&rule.flv, &rule.ts] {
         if let Some(file) = file {
-            let line = format!(in alloc; "  recorded to {}\n", shown(file.as_slice()))?;
+            let line = format!(in alloc; "  would be recorded to {}\n", shown(file.as_slice()))?;
             text.push_str(&line)?;
         }
     }
@@ -191,7 +187,7 @@ fn add_open(alloc: Global, text: &mut String, rule: &OpenRule) -> Result<(), All
     let play = show_grants(alloc, &rule.play)?;
     let (app, names) = (shown(rule.app.as_slice()), rule.names);
     let line = format!(in alloc;
-        "open {app}: {names} names at a time, published {publish}, played {play}\n"
+        "open {app}: {names} names at a time, may be published {publish}, played {play}\n"
     )?;
     text.push_str(&line)
 }
@@ -224,11 +220,11 @@ fn show(alloc: Global, config: &Config, sums: &Sums) -> Result<String, AllocErro
     let listen = shown(config.listen.as_slice());
     let Config { workers, links, .. } = config;
     let mut text = format!(in alloc;
-        "listens on {listen}\nworkers {workers}, links {links} each\n"
+        "would listen on {listen}\nworkers {workers}, links {links} each\n"
     )?;
     if let Some(http) = &config.http {
         let line = format!(in alloc;
-            "listens on {} for HTTP players: 1 worker more\n",
+            "would listen on {} for HTTP players: 1 worker more\n",
             shown(http.as_slice())
         )?;
         text.push_str(&line)?;
@@ -246,14 +242,14 @@ fn show(alloc: Global, config: &Config, sums: &Sums) -> Result<String, AllocErro
     } = sums;
     let recordings = all.saturating_sub(*streams).saturating_sub(*links);
     let line = format!(in alloc;
-        "holds at most {all} bytes: streams {streams}, links {links}, recordings {recordings}\n"
+        "would hold at most {all} bytes: streams {streams}, links {links}, recordings {recordings}\n"
     )?;
     text.push_str(&line)?;
     Ok(text)
 }
 
 fn no_memory<R: Eprint>(rt: &R) -> Status {
-    let _ = eprintln!(rt; "relay: there was too little memory");
+    let _ = eprintln!(rt; "relay: out of memory");
     status(NO_MEMORY)
 }
 
@@ -334,8 +330,5 @@ pub fn explain<R: Eprint + Files<File = File>>(rt: &R, alloc: Global, name: &str
             return;
         }
     }
-    let _ = eprintln!(rt;
-        "relay: {}: it is no configuration of a relay",
-        Shown { text: name }
-    );
+    let _ = eprintln!(rt; "relay: {}: not a configuration", Shown { text: name });
 }

@@ -59,13 +59,15 @@ fn tell_end(host: &HostRuntime, words: &[Vec<u8>], link: &PeerLink, ended: &Ende
     let address = shown(words);
     let place = ended.status.place;
     let _ = match ended.status.code {
-        NO_MEMORY => eprintln!(host; "relay: there was too little memory"),
+        NO_MEMORY => eprintln!(host; "relay: out of memory"),
         CLOSED => eprintln!(host; "relay: {address}: the server closed the connection"),
         LINK_FAULT => match link.error() {
             Some(error) => eprintln!(host; "relay: {address}: {error}"),
             None => Ok(()),
         },
-        NO_RTMP => eprintln!(host; "relay: {address}: what it sent is no RTMP at byte {place}"),
+        NO_RTMP => eprintln!(host;
+            "relay: {address}: the server sent invalid RTMP at byte {place}"
+        ),
         REFUSED => match str::from_utf8(ended.refusal.as_slice()) {
             Ok(text) if !text.is_empty() => {
                 eprintln!(host; "relay: the server refused: {}", Shown { text })
@@ -92,7 +94,7 @@ pub fn push_command<T: Wait + Net<Stream = net::TcpStream>>(
     match code {
         READ_FAULT => tell_fault(host, "standard input", input.error()),
         BAD_INPUT => {
-            let _ = eprintln!(host; "relay: standard input is no FLV file at byte {place}");
+            let _ = eprintln!(host; "relay: standard input is not FLV from byte {place} on");
         }
         _ => tell_end(host, words, &link, &ended),
     }

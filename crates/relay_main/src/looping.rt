@@ -15,14 +15,14 @@ pub fn command(host: &HostRuntime, words: &[Vec<u8>]) -> Status {
     match ended.code {
         READ_FAULT => tell_fault(host, "standard input", input.error()),
         BAD_INPUT => {
-            let _ = eprintln!(host; "relay: standard input is no FLV file at byte {place}");
+            let _ = eprintln!(host; "relay: standard input is not FLV from byte {place} on");
         }
         WRITE_FAULT => tell_fault(host, "standard output", out.error()),
         NO_MEMORY => {
-            let _ = eprintln!(host; "relay: there was too little memory");
+            let _ = eprintln!(host; "relay: out of memory");
         }
         UNFINISHED => {
-            let _ = eprintln!(host; "relay: the film didn't come back");
+            let _ = eprintln!(host; "relay: the file didn't come back");
         }
         _ => {}
     }

@@ -15,6 +15,7 @@ mod segments;
 mod serve;
 mod spot;
 mod texts;
+mod usage;
 mod watching;
 
 use adapters::{Reading, Writing};
@@ -32,7 +33,8 @@ use std::process::ExitCode;
 use std::sync::Wait;
 use std::thread::Threads;
 use std::{env, io, net, str};
-use texts::{ABOUT, COMMANDS, STATUS, USAGE, VERSION};
+use texts::{ABOUT, COMMANDS, MORE, STATUS, USAGE, VERSION};
+use usage::tell_misuse;
 
 /// The exit code of a faulty command line.
 const BAD_WORDS: u8 = 2;
@@ -106,14 +108,18 @@ fn tell_refusal<R: Read + Drop>(
 ) {
     let _ = match command {
         Some(Command::Remux) => eprintln!(rt;
-            "relay: standard input is no FLV file at byte {place}"
+            "relay: standard input is not FLV from byte {place} on"
         ),
         Some(Command::Check) => eprintln!(rt;
-            "relay: standard input is no transport stream at byte {place}"
+            "relay: standard input is not MPEG-TS from byte {place} on"
         ),
         _ => eprintln!(rt;
-            "relay: line {place} {} (see relay --help)",
-            script.fault(command, place)
+            "relay: line {place} {} (see relay {} --help)",
+            script.fault(command, place),
+            match command {
+                Some(Command::Replay) => "replay",
+                _ => "drill",
+            }
         ),
     };
 }
@@ -155,7 +161,7 @@ fn remux<S: Source, K: Sink>(
         let _ = eprintln!(rt; "relay: {left_out}");
     }
     if enhanced {
-        let _ = eprintln!(rt; "relay: pictures in the form of Enhanced RTMP were left out");
+        let _ = eprintln!(rt; "relay: Enhanced RTMP video was left out");
     }
     status
 }
@@ -179,7 +185,7 @@ fn command(rt: &HostRuntime, words: &[Vec<u8>], guards: &Guards) -> Status {
         BAD_INPUT => tell_refusal(rt, command, input.inner(), place),
         WRITE_FAULT => tell_fault(rt, "standard output", out.error()),
         NO_MEMORY => {
-            let _ = eprintln!(rt; "relay: there was too little memory");
+            let _ = eprintln!(rt; "relay: out of memory");
         }
         _ => {}
     }
@@ -212,21 +218,7 @@ fn tell_all(rt: &HostRuntime, texts: &[&str]) -> Status {
     told
 }
 
-// Prints what the program tells of itself and of each command.
-fn tell_help(rt: &HostRuntime) -> Status {
-    let mut told = tell_all(rt, &[ABOUT, "\n", USAGE]);
-    for (_, text) in COMMANDS {
-        if told.code == 0 {
-            told = tell_all(rt, &["\n", text]);
-        }
-    }
-    if told.code == 0 {
-        told = tell_all(rt, &["\n", STATUS]);
-    }
-    told
-}
-
-// What is told of the command, where there is one of that name.
+// The help of the command of that name.
 fn help_of(word: &[u8]) -> Option<&'static str> {
     for (name, text) in COMMANDS {
         if is(word, name) {
@@ -236,14 +228,15 @@ fn help_of(word: &[u8]) -> Option<&'static str> {
     None
 }
 
-// Answers the words that ask about the program. `None` where they ask for something else.
+// Answers the words that ask about the program. `None` if they ask for something else.
 fn about(rt: &HostRuntime, words: &[Vec<u8>]) -> Option<Status> {
     match words {
-        [word] if is_help(word) => Some(tell_help(rt)),
+        [word] if is_help(word) => Some(tell_all(rt, &[ABOUT, "\n", USAGE])),
         [word] if is(word, "--version") => Some(tell(rt, VERSION)),
+        [word, of] if is(word, "help") && is(of, "exit-codes") => Some(tell(rt, STATUS)),
+        [asks, word] if is(asks, "help") => Some(tell_all(rt, &[help_of(word)?, "\n", MORE])),
         [word, asks] if is(asks, "--help") || is(asks, "-h") => {
-            let text = help_of(word)?;
-            Some(tell_all(rt, &[text, "\n", STATUS]))
+            Some(tell_all(rt, &[help_of(word)?, "\n", MORE]))
         }
         _ => None,
     }
@@ -300,15 +293,29 @@ fn answer<
     }
 }
 
-fn main(rt: HostRuntime) -> ExitCode {
-    let Status { code, place } = match words(&rt) {
-        Ok(words) => answer(&rt, &rt, &words),
-        Err(error) if error.kind() == io::ErrorKind::InvalidData => status(BAD_WORDS),
-        Err(_) => status(NO_MEMORY),
-    };
-    if code == BAD_WORDS {
-        let _ = eprint!(rt; "{USAGE}");
+// The words of the command line, or the code if they can't be read.
+fn read_words(rt: &HostRuntime) -> Result<Vec<Vec<u8>>, u8> {
+    match words(rt) {
+        Ok(words) => Ok(words),
+        Err(error) if error.kind() == io::ErrorKind::InvalidData => {
+            let _ = eprintln!(rt; "relay: a word of the command line isn't UTF-8");
+            Err(BAD_WORDS)
+        }
+        Err(_) => Err(NO_MEMORY),
     }
+}
+
+fn main(rt: HostRuntime) -> ExitCode {
+    let Status { code, place } = match read_words(&rt) {
+        Ok(words) => {
+            let answered = answer(&rt, &rt, &words);
+            if answered.code == BAD_WORDS {
+                tell_misuse(&rt, &words);
+            }
+            answered
+        }
+        Err(code) => status(code),
+    };
     if code != 0 {
         let _ = eprintln!(rt; "relay: status {code} at {place}");
     }

@@ -63,7 +63,7 @@ impl<R: Read + Drop> Script<R> {
     /// What is wrong with the line of that number, from 1, which the command refused.
     pub fn fault(&self, command: Option<Command>, number: u64) -> &'static str {
         let Some(line) = self.line(number) else {
-            return "is no line of a script";
+            return "is not a line of a script";
         };
         let stands = match command {
             Some(Command::Drill) => drill_line(self.alloc, line).is_ok(),
@@ -71,11 +71,11 @@ impl<R: Read + Drop> Script<R> {
             _ => false,
         };
         if stands {
-            "may not stand there"
+            "is not allowed there"
         } else if line.ends_with(b"\r") {
-            "ends with a carriage return, and may end with a line feed alone"
+            "ends with a carriage return: use a line feed alone"
         } else {
-            "is no line of a script"
+            "is not a line of a script"
         }
     }
 }

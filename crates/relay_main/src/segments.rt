@@ -29,14 +29,14 @@ pub fn command<T: Sync + Eprint + Files<File = File>>(
     match ended.code {
         READ_FAULT => tell_fault(host, "standard input", input.error()),
         BAD_INPUT => {
-            let _ = eprintln!(host; "relay: standard input is no FLV file at byte {place}");
+            let _ = eprintln!(host; "relay: standard input is not FLV from byte {place} on");
         }
         WRITE_FAULT => tell_fault(host, "standard output", out.error()),
         NO_MEMORY => {
-            let _ = eprintln!(host; "relay: there was too little memory");
+            let _ = eprintln!(host; "relay: out of memory");
         }
         LEFT_OUT => {
-            let _ = eprintln!(host; "relay: units of sound or pictures were left out");
+            let _ = eprintln!(host; "relay: audio or video frames were left out");
         }
         TOO_MANY => {
             let _ = eprintln!(host; "relay: there are more than 100000 segments");

@@ -37,7 +37,7 @@ pub fn tell_end<R: Eprint + Files<File = File>>(
         BAD_INPUT => explain(rt, host.alloc(), name),
         WRITE_FAULT => tell_fault(host, "standard output", output),
         NO_MEMORY => {
-            let _ = eprintln!(host; "relay: there was too little memory");
+            let _ = eprintln!(host; "relay: out of memory");
         }
         _ => {}
     }

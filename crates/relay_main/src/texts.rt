@@ -1,28 +1,40 @@
-//! What the program tells of itself.
+//! What the program says of itself: the list of its commands, the help of each, and the exit statuses.
 
-pub const VERSION: &str = "relay 0.1.0\n";
+pub const VERSION: &str = "relay 0.2.0\n";
 
-pub const USAGE: &str = "usage: relay serve FILE
-       relay edge FILE ADDRESS APP NAME
-       relay stats PATH [--json]
-       relay stop PATH
-       relay check-config FILE
-       relay drill < SCRIPT
-       relay replay < SCRIPT
-       relay soak N
-       relay remux < FLV > TS
-       relay check < TS
-       relay segment NAME T < FLV > M3U8
-       relay push ADDRESS APP NAME < FLV
-       relay pull ADDRESS APP NAME > FLV
-       relay loop < FLV > FLV
-       relay [COMMAND] --help
-       relay --version
+/// The list of all commands.
+pub const USAGE: &str = "usage: relay COMMAND ..
+
+Serve
+  serve FILE                     run a server by a configuration
+  edge FILE ADDRESS APP NAME     the same, and pull one stream of another server
+  check-config FILE              check a configuration and print what it allows
+  stats PATH [--json]            connections and streams of a running server
+  stop PATH                      end a running server gently
+Publish and play
+  push ADDRESS APP NAME < FLV    publish a file or pipe at an RTMP server
+  pull ADDRESS APP NAME > FLV    play a stream of an RTMP server as FLV
+Files
+  remux < FLV > TS               FLV to MPEG-TS
+  check < TS                     list the frames of an MPEG-TS file
+  segment NAME MS < FLV > M3U8   FLV to HLS segments of at least MS milliseconds
+Without a network
+  replay < SCRIPT                run recorded connections again
+  drill < SCRIPT                 ask one stream, line by line
+  soak N                         a long run that shows how much memory is held
+  loop < FLV > FLV               a file through the relay and back
+
+relay COMMAND --help      help for one command
+relay help exit-codes     the exit statuses
+relay --version           the version
 ";
 
 pub const ABOUT: &str = "relay: a live video relay, whose rules are proved\n";
 
-/// Each command with what is told of it.
+/// The last line of each command's help.
+pub const MORE: &str = "Exit status: 0 for success; relay help exit-codes lists the others.\n";
+
+/// Each command with its help.
 pub const COMMANDS: [(&str, &str); 14] = [
     ("serve", SERVE),
     ("edge", EDGE),
@@ -40,73 +52,84 @@ pub const COMMANDS: [(&str, &str); 14] = [
     ("loop", LOOP),
 ];
 
-const SERVE: &str = "relay serve listens as the configuration in FILE says: encoders publish to it
-over RTMP, players pull from it, over HTTP too where it has an address for them,
-and recorders write files. It says on standard error where it listens. With a
-bound on its links it ends when the last is gone, or else when it is told to stop,
-and prints a line for each stream. By variables of the environment:
+const SERVE: &str = "usage: relay serve FILE
+
+Runs a server as the configuration FILE says: encoders publish to it over RTMP,
+players watch over RTMP or HTTP-FLV, and it records to files. Standard error
+says where it listens, and has the log. With 'accept' set, the server exits when
+the last accepted connection has closed; otherwise it runs until 'relay stop'.
+Then it prints a line for each stream and each open application.
+
+Environment:
   RELAY_LOG=LEVEL      what is logged on standard error: off, error, warn, info
-                       or debug, each with those before it; info if not set
-  RELAY_SILENCE=N      a publisher that gives nothing for N seconds ends, and a
-                       connection that neither publishes nor plays by then; a
-                       player that takes nothing of what waits after 3 times N;
-                       20 if not set, and 0 for never
+                       or debug, each with those before it; default info
+  RELAY_SILENCE=N      closes a publisher that sends nothing for N seconds, a
+                       connection that neither publishes nor plays by then, and
+                       a player that reads none of the data waiting for it for
+                       3 times N; default 20, and 0 is never
   RELAY_CONTROL=PATH   the Unix socket for stats and stop, which only its owner
-                       may use; none if not set
+                       may use; default none
 ";
 
-const EDGE: &str =
-    "relay edge serves as relay serve FILE does, and pulls the stream NAME of the app APP
-of the RTMP server at ADDRESS, its origin, an IP address and a port, as
-127.0.0.1:1935. What comes of it is published at the first stream of FILE. NAME
-may carry a key behind '?'. It says on standard error when the origin plays the
-stream, and why it does no longer: the broadcast ends here then, and the server
-goes on. The report has one more line:
+const EDGE: &str = "usage: relay edge FILE ADDRESS APP NAME
+
+Runs a server as 'relay serve FILE' does, and pulls the stream NAME of the
+application APP from the RTMP server at ADDRESS, its origin. The first stream of
+FILE broadcasts it. ADDRESS is an IP address and a port, as 127.0.0.1:1935. NAME
+may carry a key behind '?'. The log says when the origin plays the stream and
+why it no longer does; the broadcast ends then, and the server goes on. The
+report has one more line:
 
   edge E
       E is peerclosed, linkfault, badversion AT, badchunk CAUSE AT,
-      badcontrol AT, badcommand AT or refused, by the origin; inuse where
-      somebody else publishes here; noslot or worn.
+      badcontrol AT, badcommand AT or refused, by the origin; inuse if somebody
+      else publishes here; noslot or worn.
 
-A word to stop ends the pull too. RELAY_SILENCE says how long the origin may
-take until it plays.
+'relay stop' ends the pull too. RELAY_SILENCE is also the time that the origin
+has to start playing.
 ";
 
-const STATS: &str =
-    "relay stats asks the server whose RELAY_CONTROL is PATH what it does, and prints
-a line for each connection and each stream: who it is and what it does, its bytes
-each way, for how long it is there, and how far a player is behind its stream, in
-seconds. With --json it prints the same for programs.
+const STATS: &str = "usage: relay stats PATH [--json]
+
+Asks the server whose RELAY_CONTROL is PATH, and prints a line for each
+connection and each stream: its address, what it does, its bytes in each
+direction, its age, and how far a player is behind its stream, in seconds. With
+--json it prints the same as JSON.
 ";
 
-const STOP: &str = "relay stop tells the server whose RELAY_CONTROL is PATH to stop, and waits until
-it has ended: it takes no more connections, publishers end, players are sent what
-is left and told the end, recordings are finished, and it prints its report.
+const STOP: &str = "usage: relay stop PATH
+
+Tells the server whose RELAY_CONTROL is PATH to stop, and waits until it has
+exited: it accepts no more connections, publishers are closed, players are sent
+what is left and the end of the stream, recordings are completed, and the report
+is printed.
 ";
 
-const CHECK_CONFIG: &str =
-    "relay check-config reads the configuration in FILE as serve does, makes nothing and
-listens nowhere. It prints what the configuration allows: where the server would
-listen, its streams, and the most bytes that it holds at once with their parts.
+const CHECK_CONFIG: &str = "usage: relay check-config FILE
+
+Reads the configuration FILE as serve does, without listening or creating files.
+Prints where the server would listen, its streams, and the most bytes that it
+may hold at once, with their parts; or what is wrong, with line and column.
 ";
 
-const DRILL: &str = "relay drill reads a script of calls at one stream, or at one open table, on
-standard input, makes each call, and prints its reply on standard output as it
-goes.
+const DRILL: &str = "usage: relay drill < SCRIPT
 
-Lines end with a line feed; the last may lack it. Words are parted by one
-space. An empty line, and a line that begins with '#', does nothing. Numbers
-are decimal digits without a sign or a leading zero.
+Reads a script of calls at one stream, or at one open application, from standard
+input, makes each call, and prints its reply as it goes.
+
+Lines end with a line feed, which the last may lack. Words are separated by one
+space. Empty lines and lines that begin with '#' are ignored. Numbers are
+decimal digits without a sign or a leading zero.
 
   ring BYTES ITEMS PLAYERS
-      The stream's window has at most BYTES bytes and ITEMS items, and the
-      stream has PLAYERS places. No line before may have done something, and
-      nothing is printed. Without it they are 33554432, 16384 and 256.
+      Sets the window of the stream to at most BYTES bytes and ITEMS items, and
+      its places to PLAYERS. It must precede all other lines, and prints
+      nothing. The defaults are 33554432, 16384 and 256.
   pool SLOTS
-      The script is of an open table, which has room for SLOTS names at a time:
-      each has a slot, a stream with these limits. No line before but ring may
-      have done something, and nothing is printed. Behind it begin and join have
-      a NAME, and without it they have none.
+      The script is for an open application with room for SLOTS names at a time:
+      each has a slot, a stream with these limits. Only ring may precede it, and
+      it prints nothing. After it, begin and join take a NAME; without it they
+      take none.
   begin WHO, begin WHO NAME
       WHO begins to publish.
       began N              its Begin is item N
@@ -116,35 +139,35 @@ are decimal digits without a sign or a leading zero.
       WHO publishes a unit of LEN zero bytes at TIME milliseconds. KIND is
       meta, vconfig, aconfig, key, inter, spare, audio or data.
       pushed N             the unit is item N
-      notpublisher LIVE    LIVE publishes and not WHO; - where nobody does
+      notpublisher LIVE    LIVE publishes, not WHO; - if nobody does
   end WHO
       WHO ends its broadcast.
       ended N              its End is item N
       notpublisher LIVE    as for push
   join WHO, join WHO NAME
       WHO becomes a player.
-      joined PLAYER FROM   its place is PLAYER, and stands at item FROM
+      joined PLAYER FROM   its place is PLAYER, and its position is item FROM
       full                 every place is taken
       noslot SLOTS         as for begin
   take WHO PLAYER WANT
-      WHO takes what comes next in its place PLAYER. WANT is av for audio and
-      video, a for audio alone, v for video alone, or n for neither.
+      WHO takes what comes next at its place PLAYER. WANT is av for audio and
+      video, a for audio only, v for video only, n for neither.
       item FROM N begin, item FROM N end, item FROM N KIND TIME LEN
-                           it is sent item N; its place stood at item FROM
-      skip FROM TO         the window has passed item FROM; its place moves to TO
-      notyet END           nothing more is there; the stream has END items
+                           it is sent item N; its position was item FROM
+      skip FROM TO         item FROM has left the window; its position is now TO
+      notyet END           there is nothing more; the stream has END items
       notplayer            the place isn't WHO's
   leave WHO PLAYER
       WHO gives its place PLAYER back.
       left PLAYER          the place is free
       notplayer            the place isn't WHO's
   count
-      How many calls so far were answered so.
+      How many calls so far had these replies.
       counts BEGAN PUSHED ENDED JOINED SKIPS
   held
       How many bytes of bodies the stream holds: those of its window, and of the
-      configurations in effect where the window begins. At an open table, those
-      of each slot, and the lengths of the slots' names.
+      configurations in effect at the start of the window. For an open
+      application: those of each slot, and the lengths of the slots' names.
       held BYTES
 
 WHO and TIME are below 4294967296, PLAYER is below 256. LEN is at most 4194304,
@@ -154,45 +177,49 @@ digits, '.', '_' or '-'. An item costs its bytes and 64 more. A line has at most
 65536 bytes, and a script at most 268435456.
 ";
 
-const REPLAY: &str =
-    "relay replay reads a script of connections on standard input, and prints at its
-end what each was sent and how it ended. Sessions, recorders, streams and open
-tables are numbered from 0, each kind in the order of its lines.
+const REPLAY: &str = "usage: relay replay < SCRIPT
+
+Reads a script of connections from standard input, runs it with links and files
+in memory, and prints what each connection was sent and how it ended. Sessions,
+recorders, streams and open applications are numbered from 0, each kind in the
+order of its lines.
 
   limits M R N P W
       A message has at most M bytes. The window of a stream has at most R bytes
       and N items, and each stream has P places for players. A peer is asked to
-      acknowledge every W bytes. It is the first line that does something;
-      without it they are 4194304, 33554432, 16384, 256 and 2500000.
+      acknowledge every W bytes. It must precede all other lines; the defaults
+      are 4194304, 33554432, 16384, 256 and 2500000.
   stream APP NAME
-      A stream, of which everybody may publish and play.
+      A stream. Anybody may publish and play it unless guard adds a key.
   guard S ROLE MODE KEY
-      Only who has a key may be the publisher (ROLE publish) or a player (play)
-      of stream S; KEY is one more. MODE is plain, or digest where KEY is the
-      64 digits of the key's SHA-256. A stream has one mode.
+      Adds a key for the publisher (ROLE publish) or the players (play) of
+      stream S. MODE is plain, or digest if KEY is the 64 digits of the key's
+      SHA-256. A stream has one mode.
   openapp APP N
-      An open table: an app whose streams nobody listed, with N names at a time.
+      An open application: its streams aren't listed, and it has N names at a
+      time.
   guardopen O ROLE MODE KEY
-      The same as guard of open table O. MODE may also be named, where KEY is the
-      64 digits of the SHA-256 of a name, ':' and a key, good for that name alone.
+      The same as guard, for open application O. MODE may also be named: KEY is
+      the 64 digits of the SHA-256 of a name, ':' and a key, valid for that name
+      only.
   record S FORM
-      A recorder of stream S. FORM is flv, or ts for a transport stream.
+      A recorder of stream S. FORM is flv or ts (MPEG-TS).
   open
       A session. There are at most 64, and 64 streams and names together.
   openhttp
-      A player over HTTP, numbered among the sessions. What it is given is its
-      request.
+      An HTTP player, numbered among the sessions. Its input is its request.
   openedge S APP NAME
-      An edge, numbered among the sessions: it publishes at stream S what a relay
-      is told to have under these names. What it is given is what that relay sends.
+      An edge, numbered among the sessions: it publishes at stream S what its
+      origin has as APP NAME. Its input is what that origin sends.
   in S HEX
-      Session S is given the bytes that the digits HEX name.
+      Adds the bytes HEX to the input of session S.
   eof S
-      The link of session S ends after what it was given.
+      The link of session S ends after its input.
   room S N, room S all
-      Session S may still send N bytes, or all.
+      Session S may send N more bytes, or all.
   failrecv S, failsend S, failput R
-      The next receive or send of session S fails, or the next put of recorder R.
+      The next receive or send of session S, or the next put of recorder R,
+      fails.
   turn S K, rec R K
       K turns of session S, or of recorder R.
   all K
@@ -200,105 +227,113 @@ tables are numbered from 0, each kind in the order of its lines.
   quit S
       Session S is told to end.
 
-The first six stand before all others. One that has ended does nothing more.
-APP and NAME are 1 to 64 letters, digits, '.', '_' or '-'. K is 1 to 1000000. It
-prints, with digits for bytes and - for none:
+The first six must precede all others. A session or recorder that has ended does
+nothing more. APP and NAME are 1 to 64 letters, digits, '.', '_' or '-'. K is 1
+to 1000000. It prints, with HEX as digits and - for no bytes:
 
   session S sent HEX
   session S end E
       E is none, peerclosed, linkfault, badversion AT, badchunk CAUSE AT,
       badcontrol AT, badcommand AT, toomanystreams AT, quit or worn. AT is the
-      place in what the session was given, from 0. A player over HTTP also ends
-      by answered CODE, and an edge by refused or inuse.
+      offset in its input. An HTTP player may also end by answered CODE, and an
+      edge by refused or inuse.
   recorder R file HEX
   recorder R end E
       E is none, sinkfault, full or worn.
   stream S held BYTES, open O held BYTES
-      as drill's held
+      as in drill
   held TOTAL sum SUM
-      What all hold together, and the most that they may.
+      What all hold together, and the most that they may hold.
 ";
 
-const SOAK: &str = "relay soak makes a run of N units, 1 to 100000, over links in memory: one
-session publishes them, and three play. It prints
+const SOAK: &str = "usage: relay soak N
+
+Runs N units, 1 to 100000, over links in memory: one session publishes them, and
+three play. It prints
 
   soak N
   pushed X             the stream took X units
   player P items I skips K bytes B
-      Player P was sent I items, skipped K times and was sent B bytes.
+      Player P was sent I items in B bytes, and skipped K times.
   held TOTAL sum SUM
-      as replay's
+      as in replay
 ";
 
-const REMUX: &str = "relay remux reads a file of FLV on standard input and writes it as a transport
-stream on standard output: its AVC as access units, its AAC in ADTS frames.
-Units of other codecs, units that can't be read and units without a
-configuration are left out.
-A file has at most 68719476736 bytes.
+const REMUX: &str = "usage: relay remux < FLV > TS
+
+Converts FLV to MPEG-TS: H.264 as access units, AAC in ADTS frames. Units of
+other codecs, malformed units and units without a configuration are left out. A
+file has at most 68719476736 bytes.
 ";
 
-const CHECK: &str = "relay check reads a transport stream of this form on standard input, and prints
-a line for each unit of it. Times are in 1/90000 second, and LEN is the number
-of a unit's bytes.
+const CHECK: &str = "usage: relay check < TS
+
+Reads MPEG-TS as remux writes it, and prints a line for each frame. Times are in
+1/90000 second, and LEN is the frame's length in bytes.
   video PTS DTS LEN
   audio PTS LEN
-  units N              the last line: there are N units
+  units N              the last line: there are N frames
 A file has at most 68719476736 bytes.
 ";
 
-const SEGMENT: &str =
-    "relay segment reads a file of FLV on standard input and cuts it into the transport
-streams NAME-0.ts, NAME-1.ts and so on in the folder in which it runs, at
-keyframes, each but the last T milliseconds long or longer. It writes their
-playlist, for any web server to serve, on standard output. A file has its name
-once it is whole, in place of one that was there. NAME is 1 to 64 letters,
-digits, '.', '_' or '-', T 1 to 3600000. There are at most 100000 segments.
+const SEGMENT: &str = "usage: relay segment NAME MS < FLV > M3U8
+
+Cuts FLV at keyframes into the MPEG-TS files NAME-0.ts, NAME-1.ts and so on, in
+the current folder. Each but the last spans at least MS milliseconds. Standard
+output has their playlist. A file gets its name when it is complete, and
+replaces one of that name. NAME is 1 to 64 letters, digits, '.', '_' or '-', MS
+is 1 to 3600000. There are at most 100000 segments.
 ";
 
-const PUSH: &str =
-    "relay push publishes the FLV of standard input as the stream NAME of the app APP at
-the RTMP server at ADDRESS, an IP address and a port, as 127.0.0.1:1935. It sends
-each tag as it is read, so what writes its input gives the pace. NAME may carry
-a key behind '?'. A film has at most 68719476736 bytes.
+const PUSH: &str = "usage: relay push ADDRESS APP NAME < FLV
+
+Publishes the FLV of standard input as the stream NAME of the application APP at
+the RTMP server at ADDRESS, an IP address and a port, as 127.0.0.1:1935. Each
+tag is sent as it is read, so the writer of its input sets the pace. NAME may
+carry a key behind '?'. A file has at most 68719476736 bytes.
 ";
 
-const PULL: &str =
-    "relay pull plays the stream NAME of the app APP of the RTMP server at ADDRESS, an IP
-address and a port, as 127.0.0.1:1935, and writes it as FLV on standard output,
-each tag as it comes. It ends when the server says that the stream is over. NAME
-may carry a key behind '?'.
+const PULL: &str = "usage: relay pull ADDRESS APP NAME > FLV
+
+Plays the stream NAME of the application APP of the RTMP server at ADDRESS, an
+IP address and a port, as 127.0.0.1:1935, and writes each tag as FLV when it
+comes. It ends when the server says that the stream is over. NAME may carry a
+key behind '?'.
 ";
 
-const LOOP: &str =
-    "relay loop sends the FLV of standard input through the relay and writes what comes
-back as FLV on standard output. It opens no connection: one client publishes the
-film and another plays it, over a stream of this program, on one thread. A film
-has at most 268435456 bytes.
+const LOOP: &str = "usage: relay loop < FLV > FLV
+
+Sends the FLV of standard input through the relay and writes what comes back as
+FLV. It opens no connection: one client publishes the file and another plays it,
+over a stream of this program, on one thread. A file has at most 268435456
+bytes.
 ";
 
 pub const STATUS: &str = "Exit status:
-  0  the input was read to its end; by serve and edge, it ended and its report
-     is whole; by soak, the run was made; by pull, the stream was played to its
-     end; by loop, the film came back
-  2  the command line is none of the above; nothing was read or written
-  3  standard input failed, or the FILE of a configuration
-  4  a line of the script is none of the above, or may not stand there; or the
-     file is none, or none any more from a byte on. What the lines or the units
-     before give is written, but by replay nothing. By serve and edge, the
-     configuration is refused, and standard output has the first test that it
-     fails
-  5  standard output failed; by segment, also where a file did
-  6  there was too little memory
-  7  the address or a file couldn't be had; by serve and edge, nobody was served
-  8  the file was read to its end, and a unit of sound or pictures was left out
-  9  by segment: there would be more than 100000 segments; by loop: the film
-     didn't come back
-  10 by push and pull: the server closed the connection
-  11 by push, pull, stats and stop: there was no connection, or it failed
-  12 by push and pull: what the server sent is no RTMP from byte PLACE on
-  13 by push and pull: the server refused what was asked for
-Where it isn't 0, the last line on standard error is 'relay: status CODE at
-PLACE'. With code 4 PLACE is the number of the script's line, the first being 1,
-or the number of the file's bytes before the place where it is refused; else it
-is 0. Lines before it say why in words, but not where a pipe's reader has gone.
+  0   success. serve, edge: the server stopped, and its report is complete.
+      soak: the run is done. pull: the stream ended. loop: the file came back
+  2   the command line or an environment variable is wrong; nothing was read or
+      written
+  3   standard input or the configuration file could not be read
+  4   the input is invalid: a script line is unknown or not allowed there, or
+      the file is not of the expected format from byte PLACE on. The output for
+      what precedes it is written, except by replay. serve, edge, check-config:
+      the configuration is refused; standard output has the first test that it
+      fails
+  5   standard output could not be written; segment: or a file
+  6   out of memory
+  7   an address or a file could not be had; serve, edge: nobody was served
+  8   remux, segment: the file was read to its end, and an audio or video frame
+      was left out
+  9   segment: there would be more than 100000 segments; loop: the file did not
+      come back
+  10  push, pull: the server closed the connection
+  11  push, pull, stats, stop: there was no connection, or it failed
+  12  push, pull: the server sent invalid RTMP at byte PLACE
+  13  push, pull: the server refused the request
+
+If it isn't 0, the last line on standard error is 'relay: status CODE at PLACE'.
+With code 4 PLACE is the number of the script's line, from 1, or the offset in
+the file; with 12 the offset in what the server sent; else 0. Lines before it
+say why, unless the reader of a pipe has gone.
 ";
