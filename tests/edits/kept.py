@@ -31,7 +31,7 @@ def kit_sum():
 
 def crate_sum(name, texts, libraries, kit):
     """A checksum of all that a check of a crate reads, but the edits: the kit, this runner, the crate's files, the libraries below it."""
-    runner = [it.read_bytes() for it in sorted((TOP / "tests/edits").glob("*.py"))]
+    runner = [it.read_bytes() for it in (TOP / "tests/edits/run", *sorted((TOP / "tests/edits").glob("*.py")))]
     files = [it for file in sorted(texts) for it in (file, texts[file])]
     below = [it for at in libraries.below(name) for it in (at, (libraries.path(at) / "format").read_bytes())]
     kits = [(KIT / f"rlibs/{it}.rlib/format").read_bytes() for it in libraries.uses[name] if it not in libraries.uses]

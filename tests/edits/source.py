@@ -205,7 +205,7 @@ def item_at(crate, file, line, text, known):
 
 
 def users_of(crate, item, texts, known):
-    """The functions of a crate in which the name of an item that is no function stands: those whose goals can show its change."""
+    """The functions of a crate that name an item which is no function, or whose impl names it: those whose goals can show its change."""
     word = re.search(r"(?:struct|enum|trait|const|static|type) (\w+)", item.name)
     if not word:
         return []
@@ -213,6 +213,7 @@ def users_of(crate, item, texts, known):
     for file in sorted(it for it in texts if it.startswith("src/")):
         lines = texts[file].split("\n")
         for (holder, function), span in items_of(file, texts[file]):
-            if function and re.search(rf"\b{word[1]}\b", "\n".join(lines[span.first - 1 : span.last])):
+            code = "\n".join([holder or "", *lines[span.first - 1 : span.last]])
+            if function and re.search(rf"\b{word[1]}\b", code):
                 found.append(Item(name_of(crate, file, holder, function, known), True, span))
     return found
