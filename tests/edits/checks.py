@@ -110,7 +110,7 @@ def check(name, texts, words):
 
 
 def goals_of(said, items):
-    """The goals of these functions that a check has left open, those of the code before those whose written answer no longer fits."""
+    """The goals of these functions that a check has left open: first those of the code, then those of answers."""
     code, answers = [], []
     for line in said.lines:
         found = OPEN.match(line)
@@ -125,5 +125,6 @@ def goals_of(said, items):
 
 def is_by_proof_text(said):
     """Whether all that a check refuses is a text of a proof."""
-    told = [it for it in said.lines if re.match(r"(?:note: )?\S+:\d+:\d+: ", it) and ("error" in it or "not proved" in it)]
+    placed = [it for it in said.lines if re.match(r"(?:note: )?\S+:\d+:\d+: ", it)]
+    told = [it for it in placed if "error" in it or "not proved" in it]
     return bool(told) and all(PROOF_TEXT.search(it) for it in told)

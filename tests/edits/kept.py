@@ -30,7 +30,7 @@ def kit_sum():
 
 
 def crate_sum(name, texts, libraries, kit):
-    """A checksum of all that a check of a crate reads, but the edits: the kit, this runner, the crate's files, the libraries below it."""
+    """A checksum of all that a check of a crate reads but the edits: kit, this runner, the crate's files, libraries."""
     runner = [it.read_bytes() for it in (TOP / "tests/edits/run", *sorted((TOP / "tests/edits").glob("*.py")))]
     files = [it for file in sorted(texts) for it in (file, texts[file])]
     below = [it for at in libraries.below(name) for it in (at, (libraries.path(at) / "format").read_bytes())]
@@ -38,16 +38,24 @@ def crate_sum(name, texts, libraries, kit):
     return sum_of(kit, *runner, name, *libraries.uses[name], *files, *below, *kits)
 
 
+def is_own(folder):
+    """Whether a folder is one that nobody else can write."""
+    found = folder.lstat()
+    is_mine = found.st_uid == os.geteuid() and not found.st_mode & 0o022
+    return is_mine and not folder.is_symlink() and os.access(folder, os.W_OK)
+
+
 class Kept:
-    """The goals that edits were seen to leave open, a file an edit by the checksum of all that was read. It is written apart and renamed."""
+    """The goals that edits were seen to leave open: a file for each edit, named by the checksum of all that was read.
+
+    A file is written apart and then renamed."""
 
     def __init__(self, anew=False):
         self.anew, self.folder = anew, None
         for folder in (KIT.parent / "rattle-kept-edits", Path.home() / ".cache/rattle-kept-edits"):
             with contextlib.suppress(OSError):
                 folder.mkdir(mode=0o700, parents=True, exist_ok=True)
-                found = folder.lstat()
-                if found.st_uid == os.geteuid() and not found.st_mode & 0o022 and os.access(folder, os.W_OK) and not folder.is_symlink():
+                if is_own(folder):
                     self.folder = folder
                     break
 

@@ -4,7 +4,8 @@ from dataclasses import dataclass, field
 from pathlib import Path
 
 FUNCTION = re.compile(r"( *)(?:pub(?:\([a-z]+\))? )?(?:const )?(?:unsafe )?fn ([a-z_0-9]+)")
-ITEM = re.compile(r"(?:pub(?:\([a-z]+\))? )?(?:unsafe )?(impl\b.*|(?:struct|enum|trait|const|static|type|use|mod) .*|[a-z_]+!.*)")
+KINDS = "struct|enum|trait|const|static|type|use|mod"
+ITEM = re.compile(rf"(?:pub(?:\([a-z]+\))? )?(?:unsafe )?(impl\b.*|(?:{KINDS}) .*|[a-z_]+!.*)")
 LEADING = re.compile(r" *(#!?\[|//)")
 
 
@@ -100,8 +101,9 @@ def texts_of(crate):
 
 
 def items_of(file, text):
-    """The items of a file of code, in their order, with the attributes and comments above each. The functions of an impl or trait stand
-    after its head, which is the item of all its lines."""
+    """The items of a file of code, in their order, with the attributes and comments above each.
+
+    The functions of an impl or trait stand after its head, which is the item of all its lines."""
     lines = text.split("\n")
     found, holder = [], None
     for number, line in enumerate(lines):
@@ -132,7 +134,8 @@ def end_of_item(lines, number):
     """The last line of an item whose head stands at the margin: rt fmt writes its last brace there."""
     if lines[number].endswith((";", "}")):
         return number
-    return next((at for at in range(number + 1, len(lines)) if lines[at][:1] in ("}", ")", "]") or not lines[at]), len(lines) - 1)
+    is_end = lambda line: not line or line[0] in "})]"
+    return next((at for at in range(number + 1, len(lines)) if is_end(lines[at])), len(lines) - 1)
 
 
 def end_of_function(lines, number, indent):
@@ -167,8 +170,10 @@ def type_and_trait(head):
 
 
 def name_of(crate, file, holder, function, known):
-    """A function's whole name, as a check prints it: the one of the known names that fits, or else the one that its place makes. A method's
-    has the module of its type, which may be another than its own, and that of a trait's has the words of the impl's head in one."""
+    """A function's whole name, as a check prints it: the known name that fits, or else the one that its place makes.
+
+    A method's has the module of its type, which may be another than its own. A trait's method has the words of the
+    impl's head in one."""
     start = "::".join(it for it in (crate, module_of(file)) if it)
     if not holder:
         return f"{start}::{function}"
@@ -181,8 +186,9 @@ def name_of(crate, file, holder, function, known):
 
 
 def changed_items(edit, texts, known):
-    """The items that an edit changes, the innermost around each of its parts, and the files beside them that it changes. A file of a
-    function's own proof is that function's."""
+    """The items that an edit changes, the innermost around each of its parts, and the other files that it changes.
+
+    A file of a function's own proof is that function's."""
     found, beside, now = {}, set(), texts
     for part, (file, old, _) in enumerate(edit.parts):
         now = apply(edit.parts[:part], texts)
@@ -205,7 +211,7 @@ def item_at(crate, file, line, text, known):
 
 
 def users_of(crate, item, texts, known):
-    """The functions of a crate that name an item which is no function, or whose impl names it: those whose goals can show its change."""
+    """The functions that name an item which is no function, or whose impl does: their goals can show its change."""
     word = re.search(r"(?:struct|enum|trait|const|static|type) (\w+)", item.name)
     if not word:
         return []
