@@ -749,9 +749,10 @@ links = 32
 # The longest message that it takes, in bytes. default: 4194304
 # max_message = 4194304
 
-# What it keeps of each stream: bytes and items. default: 33554432 and 16384
-# ring_bytes = 33554432
-# ring_items = 16384
+# What it keeps of each stream, its window: 10 seconds at 6 Mbit/s and 70 items a second, as 30 pictures and 43 frames of sound are.
+# A player that is more than half of the items behind is spared frames to which no other refers. default: 33554432 and 16384
+ring_bytes = 7500000
+ring_items = 700
 
 # How many players and recorders each stream serves. default: 256
 # players = 256
@@ -784,22 +785,22 @@ play = []
 ";
 
 #[test]
-fn the_example_is_read_with_its_defaults(rt: HostRuntime) -> Result<(), Fail> {
+fn the_example_is_read_as_it_says(rt: HostRuntime) -> Result<(), Fail> {
     let alloc = rt.alloc();
     let Ok(config) = read_config(alloc, EXAMPLE) else {
         panic!(rt; "refused");
     };
     let limits = Limits {
         max_message: 4_194_304,
-        ring_bytes: 33_554_432,
-        ring_items: 16_384,
+        ring_bytes: 7_500_000,
+        ring_items: 700,
         players: 256,
         window: 2_500_000,
     };
     assert_eq!(rt; config.listen.as_slice(), b"127.0.0.1:1935".as_slice());
     assert_eq!(rt; (config.workers, config.links, config.accept), (2, 32, 0));
     assert_eq!(rt; config.limits, limits);
-    assert_eq!(rt; sum(&config), 662_241_280);
+    assert_eq!(rt; sum(&config), 584_077_984);
     let [open, cam, studio] = config.places.as_slice() else {
         panic!(rt; "not three streams");
     };

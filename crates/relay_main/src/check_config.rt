@@ -2,6 +2,7 @@
 
 use crate::adapters::ConfigFile;
 use crate::spot::{Spot, spot_at, spot_of};
+use crate::window::Window;
 use crate::{BAD_INPUT, NO_MEMORY, READ_FAULT, status, tell, tell_fault};
 use key_guard::Grants;
 use relay_base::Status;
@@ -244,6 +245,9 @@ fn show(alloc: Global, config: &Config, sums: &Sums) -> Result<String, AllocErro
     let line = format!(in alloc;
         "would hold at most {all} bytes: streams {streams}, links {links}, recordings {recordings}\n"
     )?;
+    text.push_str(&line)?;
+    let limits = &config.limits;
+    let line = format!(in alloc; "a stream's window would hold, {}\n", Window { limits })?;
     text.push_str(&line)?;
     Ok(text)
 }

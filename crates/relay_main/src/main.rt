@@ -17,6 +17,7 @@ mod spot;
 mod texts;
 mod usage;
 mod watching;
+mod window;
 
 use adapters::{Reading, Writing};
 use file_commands::{Remuxed, remux_and_tell};

@@ -1,0 +1,37 @@
+//! What the window of a stream holds, in seconds.
+
+use relay_base::Limits;
+use std::fmt;
+use std::fmt::{Display, Formatter};
+
+/// The stream by which it is told: 4 Mbit/s, and 70 items a second, as 30 pictures and 43 frames of sound are. Each item counts 64 bytes more.
+const BYTES: u64 = 500_000 + ITEMS * 64;
+
+const ITEMS: u64 = 70;
+
+/// How many seconds of such a stream the window of these limits holds, and after how many a player lags.
+#[derive(Clone, Copy)]
+pub struct Window<'a> {
+    pub limits: &'a Limits,
+}
+
+// The quotient, rounded.
+fn rounded(count: u64, a_second: u64) -> u64 {
+    count
+        .saturating_add(a_second / 2)
+        .checked_div(a_second)
+        .unwrap_or(0)
+}
+
+impl Display for Window<'_> {
+    fn fmt<W: fmt::Write>(&self, f: &mut Formatter<W>) -> fmt::Result {
+        let items = u64::from(self.limits.ring_items);
+        write!(
+            f,
+            "at 4 Mbit/s and 70 items a second: {} s by bytes, {} s by items; a player lags after {} s",
+            rounded(self.limits.ring_bytes, BYTES),
+            rounded(items, ITEMS),
+            rounded(items / 2, ITEMS)
+        )
+    }
+}
