@@ -34,6 +34,11 @@ class Item:
     span: Span
 
     @property
+    def is_constant(self):
+        """Whether it is a constant, whose value no contract can name."""
+        return not self.is_function and self.name.startswith("const ")
+
+    @property
     def path(self):
         """A function's path below its crate."""
         return self.name.split("::", 1)[1]
