@@ -59,6 +59,9 @@ impl Cast {
         }
     }
 
+    // Nothing of it runs any longer.
+    pub(crate) fn end(self) {}
+
     pub(crate) fn sessions(&self) -> &[Guest]
         ensures { result.now ≡ self.now.sessions }
     {

@@ -18,7 +18,7 @@ use std::alloc::Global;
 use stream_registry::Sole;
 
 /// What a turn was answered; nothing, where it has ended before.
-#[derive(Clone, Copy, Debug, PartialEq, Eq)]
+#[derive(Clone, Copy)]
 pub enum Answered {
     Nothing,
     Moved,

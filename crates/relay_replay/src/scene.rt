@@ -132,10 +132,10 @@ fn new_cast(
     }) c) }
     ensures sits { IfOk result (λ c. Sits places.now opens.now (length plans.now) c) }
 {
+    let recorders = recordings(alloc, plans, limits.max_message)?;
     let names = name_list(alloc, places)?;
     let tables = table_list(alloc, opens)?;
     let port = Sole::new(alloc, names, tables, stream_limits(limits))?;
-    let recorders = recordings(alloc, plans, limits.max_message)?;
     Ok(Cast::new(alloc, port, recorders))
 }
 
@@ -220,6 +220,10 @@ impl Scene {
             cast: None,
         }
     }
+
+    /// Lets the scene go. Who makes a scene ends it by this call: where it is dropped, that crate's check proves again how each of
+    /// its parts is let go.
+    pub fn end(self) {}
 
     fn has_session(&self, n: u32) -> bool
         ensures { result ≡ has_session n (stand_of self.now) }
@@ -448,9 +452,9 @@ impl Scene {
             list: _,
             opens: _,
         } = desk;
-        played?;
         self.fresh = false;
         self.cast = Some(cast);
+        played?;
         Ok(())
     }
 
@@ -551,9 +555,9 @@ impl Scene {
             list: _,
             opens: _,
         } = desk;
-        let done = settled?;
         self.fresh = false;
         self.cast = Some(cast);
+        let done = settled?;
         Ok(done)
     }
 
@@ -568,13 +572,15 @@ impl Scene {
         ensures over { self.new ≡ record self.old { cast = None } }
     {
         let cast = self.opened()?;
-        summary(
+        let text = summary(
             self.alloc,
             &self.limits,
             self.places.as_slice(),
             self.opens.as_slice(),
             &cast,
-        )
+        );
+        cast.end();
+        text
     }
 
     /// What is printed at the script's end: of each session what it was sent and how it ended, of each recorder its file
@@ -586,12 +592,14 @@ impl Scene {
         ensures over { self.new ≡ record self.old { cast = None } }
     {
         let cast = self.opened()?;
-        report(
+        let text = report(
             self.alloc,
             &self.limits,
             self.places.as_slice(),
             self.opens.as_slice(),
             &cast,
-        )
+        );
+        cast.end();
+        text
     }
 }
