@@ -54,17 +54,18 @@ fn give(scene: &mut Scene, guards: &Guards, session: u32, bytes: Bytes) -> Resul
     Ok(())
 }
 
-// A stream that takes every key, and four sessions.
-fn open(alloc: Global, guards: &Guards) -> Result<Scene, OutOfMemory>
-    ensures runs { IfOk result (λ scene. Runs opening start scene) }
-    ensures sound { IfOk result (λ scene. IsSound scene) }
-    ensures places { IfOk result (λ scene. length scene.places ≡ 1) }
+// A stream that takes every key, and four sessions, in a new scene.
+fn open(alloc: Global, scene: &mut Scene, guards: &Guards) -> Result<(), OutOfMemory>
+    requires begins { scene.old ≡ start }
+    requires sound { IsSound scene.old }
+    ensures runs { OnOk result (Runs opening start scene.new) }
+    ensures sound { OnOk result (IsSound scene.new) }
+    ensures places { OnOk result (length scene.new.places ≡ 1) }
 {
     let mut app = Bytes::new(alloc);
     app.append(b"live")?;
     let mut name = Bytes::new(alloc);
     name.append(b"soak")?;
-    let mut scene = Scene::new(alloc);
     let limits = ReplayLine::Limits {
         message: 4_096,
         bytes: 1_048_576,
@@ -72,13 +73,13 @@ fn open(alloc: Global, guards: &Guards) -> Result<Scene, OutOfMemory>
         players: 4,
         window: 2_500_000,
     };
-    act(&mut scene, guards, limits)?;
-    act(&mut scene, guards, ReplayLine::Stream { app, name })?;
-    act(&mut scene, guards, ReplayLine::Session)?;
-    act(&mut scene, guards, ReplayLine::Session)?;
-    act(&mut scene, guards, ReplayLine::Session)?;
-    act(&mut scene, guards, ReplayLine::Session)?;
-    Ok(scene)
+    act(scene, guards, limits)?;
+    act(scene, guards, ReplayLine::Stream { app, name })?;
+    act(scene, guards, ReplayLine::Session)?;
+    act(scene, guards, ReplayLine::Session)?;
+    act(scene, guards, ReplayLine::Session)?;
+    act(scene, guards, ReplayLine::Session)?;
+    Ok(())
 }
 
 // A session plays.
@@ -186,6 +187,24 @@ fn head(alloc: Global, n: u32) -> Result<String, OutOfMemory>
     Ok(format!(in alloc; "soak {n}\n")?)
 }
 
+// The same over a new scene.
+fn told(alloc: Global, scene: &mut Scene, guards: &Guards, n: u32) -> Result<Bytes, OutOfMemory>
+    requires most { n ≤ 100000 }
+    requires begins { scene.old ≡ start }
+    requires sound { IsSound scene.old }
+    ensures { IfOk result (λ text. Printed n text) }
+{
+    open(alloc, scene, guards)?;
+    let writer = join(alloc, scene, guards)?;
+    units(alloc, scene, guards, writer, n)?;
+    let summary = scene.summary()?;
+    let head = head(alloc, n)?;
+    let mut text = Bytes::new(alloc);
+    text.append(head.as_str().as_bytes())?;
+    text.append(summary.as_slice())?;
+    Ok(text)
+}
+
 /// What is printed of the run with so many units, from which the answer follows: how many units there were and how many the
 /// stream took, of each player how many items it was sent, how often it skipped and how many bytes it was sent, and what all hold
 /// at the end, beside the most that they may. Want of memory has no answer, and neither has a run of which a session isn't idle
@@ -194,13 +213,8 @@ pub fn soak_text(alloc: Global, guards: &Guards, n: u32) -> Result<Bytes, OutOfM
     requires { n ≤ 100000 }
     ensures { IfOk result (λ text. Printed n text) }
 {
-    let mut scene = open(alloc, guards)?;
-    let writer = join(alloc, &mut scene, guards)?;
-    units(alloc, &mut scene, guards, writer, n)?;
-    let summary = scene.summary()?;
-    let head = head(alloc, n)?;
-    let mut text = Bytes::new(alloc);
-    text.append(head.as_str().as_bytes())?;
-    text.append(summary.as_slice())?;
-    Ok(text)
+    let mut scene = Scene::new(alloc);
+    let text = told(alloc, &mut scene, guards, n);
+    scene.end();
+    text
 }
