@@ -24,7 +24,7 @@ use stream_core::{ShortName, StreamLimits};
 use stream_registry::{Name, NameList, OpenList, Sole};
 
 /// How far the client that publishes has come.
-#[derive(Clone, Copy, Debug, Drop, PartialEq, Eq)]
+#[derive(Clone, Copy)]
 pub enum Stage {
     /// It is given the tags of the film.
     Giving,

@@ -8,7 +8,7 @@ use av_unit::OutOfMemory;
 pub(crate) const MOST_BYTES: u64 = 1 << 28;
 
 /// Why a run ends before the film has come back.
-#[derive(Clone, Copy, Debug, Drop, PartialEq, Eq)]
+#[derive(Clone, Copy)]
 pub(crate) enum Stop {
     /// The film is refused at that byte.
     Refused { at: u64 },
