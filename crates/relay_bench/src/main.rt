@@ -2,12 +2,10 @@
 #![tactic(auto)]
 
 mod chunks;
-mod files;
 mod flv;
 mod gate;
 mod ports;
 mod rates;
-mod session;
 mod stream;
 mod ts;
 mod writing;
@@ -28,10 +26,8 @@ fn measure<R: Threads + Wait + Clock + Print + Sync>(
         "chunks" => chunks::measure(rt, alloc),
         "writer" => writing::measure(rt, alloc),
         "flv" => flv::measure(rt, alloc),
-        "files" => files::measure(rt, alloc),
         "ports" => ports::measure(rt, alloc),
         "stream" => stream::measure(rt, alloc),
-        "session" => session::measure(rt, alloc),
         "ts" => ts::measure(rt, alloc),
         _ => Ok(()),
     }

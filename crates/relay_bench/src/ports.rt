@@ -49,7 +49,7 @@ fn name(alloc: Global, text: &[u8]) -> Result<Name, OutOfMemory>
     })
 }
 
-pub(crate) fn names(alloc: Global) -> Result<NameList, OutOfMemory>
+fn names(alloc: Global) -> Result<NameList, OutOfMemory>
     ensures { IfOk result (λ n. length n ≤ 64) }
 {
     let mut names = NameList::new(alloc);

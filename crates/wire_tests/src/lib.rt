@@ -1,4 +1,4 @@
-//! Tests of what goes over the wire: units, chunks, values, commands, the handshake and the dialogue.
+//! Tests of numbers, units, keys and the outside in memory, and of what goes over the wire: chunks, values, commands, the handshake and the dialogue.
 #![tactic(auto)]
 
 #[cfg(test)]
@@ -11,6 +11,12 @@ mod commands;
 mod dialog;
 #[cfg(test)]
 mod handshake;
+#[cfg(test)]
+mod keys;
+#[cfg(test)]
+mod numbers;
+#[cfg(test)]
+mod outside;
 #[cfg(test)]
 mod reading;
 #[cfg(test)]
