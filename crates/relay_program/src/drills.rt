@@ -29,7 +29,7 @@ pub(crate) const MOST_LINE: usize = 65536;
 pub(crate) const PIECE: usize = 4096;
 
 // Why a drill fails before its script's end.
-#[derive(Clone, Copy, Debug, PartialEq, Eq)]
+#[derive(Clone, Copy)]
 pub(crate) enum DrillFail {
     Outside { line: u64 },
     SourceFault,
@@ -81,7 +81,6 @@ fn answer<K: Sink>(
 }
 
 // A drill in the middle of its script.
-#[derive(Drop)]
 struct Drilling {
     alloc: Global,
     made: Made,
@@ -111,6 +110,19 @@ impl Drilling {
             place: 0,
             number: 1,
         }
+    }
+
+    // Lets it go.
+    fn end(self) {
+        let Drilling {
+            alloc: _,
+            made,
+            line,
+            place: _,
+            number: _,
+        } = self;
+        drop(made);
+        drop(line);
     }
 
     // Adds bytes without an LF to the line.
@@ -206,6 +218,34 @@ impl Drilling {
     }
 }
 
+// Answers a script to its end, by a drill that has read nothing.
+fn answer_lines<S: Source, K: Sink>(
+    drill: &mut Drilling,
+    script: &mut S,
+    out: &mut K,
+) -> Result<(), DrillFail>
+    requires fit { Fit drill.old }
+    requires begins { (drill.old.made ≡ fresh) × (drill.old.line ≡ []) × (drill.old.place ≡ 0) × (drill.old.number ≡ 1) }
+    ensures read { OnOk result (IsAtEnd (S.left script.new)) }
+    ensures ends { (text : List ℕ) → S.left script.old ≡ Some text
+        → MatchResult result (λ _. Writes (drill_text text) [] (K.holds out.old) (K.holds out.new) × (outside_line text ≡ None))
+        (λ fail. FailsAt fail (drill_text text) (outside_line text) (K.holds out.old) (K.holds out.new)) }
+    ensures part_read { WritesPartOfRead drill_text outside_line (S.left script.old) (S.left script.new) (K.holds out.old) (K.holds out.new) }
+    ensures as_it_goes { AfterFaultOf result (S.left script.old) (S.left script.new) (K.holds out.old) (K.holds out.new) }
+    ensures source { MatchResult result (λ _. S.faults script.new ≡ S.faults script.old)
+        (λ fail. SourceFaults fail (S.faults script.old) (S.faults script.new)) }
+    ensures sink { MatchResult result (λ _. K.faults out.new ≡ K.faults out.old) (λ fail. SinkFaults fail (K.faults out.old) (K.faults out.new)) }
+{
+    let mut piece = [0u8; PIECE];
+    loop {
+        match script.get(&mut piece) {
+            Got::Bytes(count) => drill.piece(&piece[..count], out)?,
+            Got::End => return drill.finish(out),
+            Got::Failed => return Err(DrillFail::SourceFault),
+        }
+    }
+}
+
 // Answers a script to its end.
 fn answer_script<S: Source, K: Sink>(
     alloc: Global,
@@ -223,14 +263,9 @@ fn answer_script<S: Source, K: Sink>(
     ensures sink { MatchResult result (λ _. K.faults out.new ≡ K.faults out.old) (λ fail. SinkFaults fail (K.faults out.old) (K.faults out.new)) }
 {
     let mut drill = Drilling::new(alloc);
-    let mut piece = [0u8; PIECE];
-    loop {
-        match script.get(&mut piece) {
-            Got::Bytes(count) => drill.piece(&piece[..count], out)?,
-            Got::End => return drill.finish(out),
-            Got::Failed => return Err(DrillFail::SourceFault),
-        }
-    }
+    let answered = answer_lines(&mut drill, script, out);
+    drill.end();
+    answered
 }
 
 pub(crate) fn status_of(fail: DrillFail) -> Status

@@ -28,7 +28,6 @@ fn is_replay(words: &[Vec<u8>]) -> bool
 }
 
 // A replay in the middle of its script.
-#[derive(Drop)]
 struct Replaying {
     alloc: Global,
     scene: Scene,
@@ -76,6 +75,19 @@ impl Replaying {
             place: 0,
             number: 1,
         }
+    }
+
+    // Lets it go.
+    fn end(self) {
+        let Replaying {
+            alloc: _,
+            scene,
+            line,
+            place: _,
+            number: _,
+        } = self;
+        scene.end();
+        drop(line);
     }
 
     // Adds bytes without an LF to the line.
@@ -177,6 +189,31 @@ impl Replaying {
     }
 }
 
+// What a script prints, by a replay that has read nothing.
+fn replay_lines<S: Source>(
+    replay: &mut Replaying,
+    guards: &Guards,
+    script: &mut S,
+) -> Result<Bytes, DrillFail>
+    requires fit { Fit replay.old }
+    requires begins { (replay.old.scene ≡ start) × (replay.old.line ≡ []) × (replay.old.place ≡ 0) × (replay.old.number ≡ 1) }
+    ensures read { OnOk result (IsAtEnd (S.left script.new)) }
+    ensures ends { (text : List ℕ) → S.left script.old ≡ Some text
+        → MatchResult result (λ printed. Printed text printed × (outside_line text ≡ None)) (λ fail. StopsAt fail (outside_line text)) }
+    ensures source { MatchResult result (λ _. S.faults script.new ≡ S.faults script.old)
+        (λ fail. SourceFaults fail (S.faults script.old) (S.faults script.new)) }
+    ensures sink { IfErr result HasNoSink }
+{
+    let mut buffer = [0u8; PIECE];
+    loop {
+        match script.get(&mut buffer) {
+            Got::Bytes(count) => replay.piece(guards, &buffer[..count])?,
+            Got::End => return replay.finish(guards),
+            Got::Failed => return Err(DrillFail::SourceFault),
+        }
+    }
+}
+
 // What a script prints.
 fn replayed<S: Source>(alloc: Global, guards: &Guards, script: &mut S) -> Result<Bytes, DrillFail>
     ensures read { OnOk result (IsAtEnd (S.left script.new)) }
@@ -187,14 +224,9 @@ fn replayed<S: Source>(alloc: Global, guards: &Guards, script: &mut S) -> Result
     ensures sink { IfErr result HasNoSink }
 {
     let mut replay = Replaying::new(alloc);
-    let mut buffer = [0u8; PIECE];
-    loop {
-        match script.get(&mut buffer) {
-            Got::Bytes(count) => replay.piece(guards, &buffer[..count])?,
-            Got::End => return replay.finish(guards),
-            Got::Failed => return Err(DrillFail::SourceFault),
-        }
-    }
+    let printed = replay_lines(&mut replay, guards, script);
+    replay.end();
+    printed
 }
 
 /// Replays a script of connections, and prints at its end what each was sent and how it ended, what each recorder wrote,

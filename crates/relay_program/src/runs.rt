@@ -19,7 +19,7 @@ use relay_outside::{Sink, Source};
 use std::alloc::Global;
 
 /// A command.
-#[derive(Clone, Copy, Debug, PartialEq, Eq)]
+#[derive(Clone, Copy)]
 pub enum Command {
     /// [`drill`]
     Drill,

@@ -1,7 +1,7 @@
 use Rattle.std.proofs.Common.{◌≡◌, ◌-◌, ◌^◌, List, ℕ, Some}
 use Rattle.relay_program.specs.Parts.{Fit}
 use Rattle.relay_program.specs.Ends.{Ahead}
-use Rattle.relay_program.proofs.drills.answer_script.Given as goal
+use Rattle.relay_program.proofs.drills.answer_lines.Given as goal
 
 abbrev pub invariant-loop-count : goal.invariant-loop-count
 invariant-loop-count g l = record {

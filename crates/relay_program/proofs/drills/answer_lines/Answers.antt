@@ -2,7 +2,7 @@ use Rattle.std.proofs.Common.{◌∙◌, ◌++◌, take, rules}
 use Rattle.relay_program.proofs.Ahead.{piece_ahead, piece_fails, script_ends, part_written, stays_read, piece_read, end_read}
 use Rattle.relay_program.proofs.Fails.{no_source_fault, no_source_fault_by, source_kept, source_kept_by, sink_faults, sink_faults_by}
 use Rattle.relay_program.proofs.Whole.{whole_lines_written}
-use Rattle.relay_program.proofs.drills.answer_script.Goals as goal
+use Rattle.relay_program.proofs.drills.answer_lines.Goals as goal
 
 pub loop-count-preserved : goal.loop-count-preserved
 loop-count-preserved g c = record {

@@ -1,6 +1,6 @@
 use Rattle.std.proofs.Common.{◌∙◌, [], take, rules}
 use Rattle.relay_program.proofs.ReplaySteps.{piece_ahead, piece_stops, script_ends, source_kept, source_kept_by, stops_without_sink, ends_without_sink}
-use Rattle.relay_program.proofs.replays.replayed.Goals as goal
+use Rattle.relay_program.proofs.replays.replay_lines.Goals as goal
 
 pub loop-count-preserved : goal.loop-count-preserved
 loop-count-preserved g c = record {

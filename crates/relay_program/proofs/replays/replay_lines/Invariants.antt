@@ -1,6 +1,6 @@
 use Rattle.std.proofs.Common.{◌≡◌, ◌-◌, ◌^◌, List, ℕ, Some}
 use Rattle.relay_program.specs.ReplayParts.{Fit, Ahead}
-use Rattle.relay_program.proofs.replays.replayed.Given as goal
+use Rattle.relay_program.proofs.replays.replay_lines.Given as goal
 
 abbrev pub invariant-loop-count : goal.invariant-loop-count
 invariant-loop-count g l = record {
