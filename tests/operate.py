@@ -126,6 +126,22 @@ def logged(relay, folder):
     server.kill()
 
 
+def no_room(relay, folder):
+    """In an open application that is full, a refused publish of another name isn't told as one of a name in use."""
+    server = Server(relay, folder, {}, '[[open]]\napp = "live"\nnames = 1', RELAY_LOG="info")
+    lines = lines_of(server)
+    publisher = Client(server.port).open("publish", "one")
+    again, other = refused(server.port, "publish", "one"), refused(server.port, "publish", "two")
+    wants = [
+        f"{address(again)} refused: somebody publishes live/one\n",
+        f"{address(other)} refused: somebody publishes, or no place is left at live/two\n",
+    ]
+    for want in wants:
+        expect(wait_for(lambda: want in lines), f"no_room: the log lacks {want!r}")
+    publisher.close()
+    server.kill()
+
+
 def quiet(relay, folder):
     """A level leaves out what is below it, and a value that is none is refused."""
     server = Server(relay, folder, {"cam": f'publish = ["{KEY}"]'}, "accept = 2", RELAY_LOG="warn")
@@ -385,6 +401,72 @@ def stopped(relay, folder):
     closes(idle.socket)
 
 
+class Acknowledging:
+    """A player that takes all at once and acknowledges it as often as it is told to, in a thread of its own."""
+
+    def __init__(self, port):
+        self.player = Client(port).open("play", "cam")
+        self.seen, self.ended, self.told, self.count = [], False, False, 0
+        self.player.socket.settimeout(0.05)
+        self.thread = threading.Thread(target=self.read, daemon=True)
+        self.every = 0.01
+        self.thread.start()
+
+    def acknowledge(self):
+        self.player.socket.sendall(message(3, 0, 0, struct.pack(">I", self.count)))
+
+    def read(self):
+        last = time.monotonic()
+        try:
+            self.acknowledge()
+            while True:
+                try:
+                    piece = self.player.receive()
+                    self.count += len(piece)
+                    self.player.reader.bytes += piece
+                except TimeoutError:
+                    pass
+                while (found := self.player.reader.one()) is not None:
+                    self.told |= b"UnpublishNotify" in found[1]
+                    if found[0] == VIDEO:
+                        self.seen.append(found[1])
+                if self.every and time.monotonic() - last >= self.every:
+                    last = time.monotonic()
+                    self.acknowledge()
+        except (EOFError, OSError):
+            self.ended = True
+
+
+def held_back(relay, folder):
+    """A player that is sent no more until it acknowledges: it is behind, and a stop waits for it as long as it acknowledges."""
+    path = os.path.join(folder, "control")
+    server = Server(relay, folder, {"cam": ""}, "workers = 2\nwindow = 65536", RELAY_CONTROL=path)
+    publisher = Client(server.port).open("publish", "cam")
+    publisher.push(VIDEO, 0, CONFIGURATION)
+    slow, stopping, fast = players = [Acknowledging(server.port) for _ in range(3)]
+    expect(wait_for(lambda: all(one.seen for one in players)), "held_back: not all play")
+    time.sleep(0.2)
+    slow.every = stopping.every = None
+    sent = [CONFIGURATION] + [picture(b"%d;" % place, 20000) for place in range(40)]
+    for place, body in enumerate(sent[1:]):
+        publisher.push(VIDEO, place, body)
+    expect(wait_for(lambda: len(fast.seen) == len(sent)), f"held_back: of {len(sent)} units one that acknowledges has {len(fast.seen)}")
+    time.sleep(1.2)
+    told = json.loads(ask(relay, "stats", path, "--json").stdout)
+    behind = {link["address"]: link["behind"] for link in told["links"]}
+    expect(len(slow.seen) < len(sent), "held_back: nothing is held back")
+    expect(behind.get(address(slow.player), 0) > 0.5, f"held_back: a player that is held back is {behind} behind")
+    expect(behind.get(address(fast.player), 1) == 0, f"held_back: a player that keeps up is {behind} behind")
+    begun = time.monotonic()
+    slow.every = 0.2
+    threading.Thread(target=ask, args=(relay, "stop", path), daemon=True).start()
+    expect(wait_for(lambda: slow.ended) and slow.seen == sent and slow.told, f"held_back: at a stop a player has {len(slow.seen)} of {len(sent)} units")
+    server.process.wait(60)
+    took = time.monotonic() - begun
+    expect(len(stopping.seen) < len(sent) and 4.5 < took < 20, f"held_back: a player that stopped to acknowledge is let go after {took:.1f} s")
+    server.kill()
+
+
 def full(relay, folder):
     """Nobody reads the log: connections are served all the same, and the lines that were lost are counted."""
     server = Server(relay, folder, {"cam": ""}, RELAY_LOG="debug")
@@ -433,7 +515,7 @@ def crowded(relay, folder):
     server.kill()
 
 
-TESTS = [logged, quiet, silent, stuck, stats, stopped, full, crowded]
+TESTS = [logged, no_room, quiet, silent, stuck, stats, stopped, held_back, full, crowded]
 
 
 def main():

@@ -336,6 +336,42 @@ def hear(watch, wait, seen, late, worst):
     return seen, late, worst
 
 
+def switches(server):
+    """How often each thread of it has ceased to run so far."""
+    folder, found = f"/proc/{server.process.pid}/task", {}
+    for thread in os.listdir(folder):
+        with open(os.path.join(folder, thread, "status")) as lines:
+            found[thread] = sum(int(line.split()[1]) for line in lines if "ctxt_switches" in line)
+    return found
+
+
+def undisturbed(relay, folder):
+    """What is pushed to a stream wakes no worker that plays nothing of it, of listed streams and of open ones."""
+    lines = 'workers = 6\n[[open]]\napp = "live"\nnames = 8'
+    server = Server(relay, folder, {"cam": ""}, lines)
+    for name in ("cam", "guest"):
+        # A connection to each worker, of which two have something to do.
+        others = [Client(server.port).open("play", place) for place in ("one", "two", "three", "four")]
+        publisher = Client(server.port).open("publish", name)
+        player = Client(server.port).open("play", name)
+        publisher.push(VIDEO, 0, CONFIGURATION)
+        time.sleep(1.5)
+        before, units = switches(server), 100
+        for unit in range(units):
+            publisher.push(VIDEO, unit, picture(b"%d;" % unit))
+            time.sleep(0.03)
+        after = switches(server)
+        for client in others + [player]:
+            client.close()
+        publisher.leave()
+        waited = sorted(after[thread] - before.get(thread, 0) for thread in after)
+        few = [count for count in waited if count < units // 2]
+        expect(len(few) >= 4, f"undisturbed: of 6 workers {len(few)} aren't woken by {units} pushes to live/{name}: {waited}")
+        expect(waited[-1] > units // 2, f"undisturbed: no worker hears of the pushes: {waited}")
+        time.sleep(1.5)
+    server.kill()
+
+
 def vanished(relay, folder):
     """A publisher that vanishes: its players hear of it at once, on the other worker too."""
     server = Server(relay, folder, {"cam": ""}, "workers = 2")
@@ -528,7 +564,7 @@ def broken(relay, folder):
 
 
 TRIALS = [silent, sparse, vanished]
-TESTS = [counted, gathered, recording, limited, pushed, broken]
+TESTS = [undisturbed, counted, gathered, recording, limited, pushed, broken]
 
 
 def main():

@@ -8,6 +8,7 @@ ghost use Rattle.stream_registry.specs.Names.{places};
 ghost use Rattle.edge_serve.specs.Driving.{DrivenBy, Drives, HasDriven, HasLeft};
 ghost use Rattle.edge_serve.specs.Pulls.{Origin, origin};
 
+use crate::pulling::PLACE;
 use crate::telling::tell_begun;
 use origin_pull::{Edge, EdgeEnd, EdgeTurn};
 use relay_outside::{Link, Rest};
@@ -38,6 +39,12 @@ fn turn_once<P: StreamPort, L: Link>(
     edge.turn(alloc, port, link)
 }
 
+// Something may have been pushed to the edge's stream.
+fn tell_moved<R: Rest>(rest: &mut R) {
+    rest.pushed(PLACE);
+    rest.moved();
+}
+
 /// Turns an edge until it has ended, with a pause after each turn in which nothing moved. Its link is told when the stream is played.
 pub(crate) fn drive<W: Wait, P: StreamPort, L: Link, R: Rest>(
     rt: &W,
@@ -65,7 +72,7 @@ pub(crate) fn drive<W: Wait, P: StreamPort, L: Link, R: Rest>(
     for _ in rt.forever() {
         told = tell_begun(&*link, edge.started(), told, app, name);
         match turn_once(alloc, edge, port, link) {
-            EdgeTurn::Moved => rest.moved(),
+            EdgeTurn::Moved => tell_moved(rest),
             EdgeTurn::Idle => rest.pause(),
             EdgeTurn::Ended(end) => return end,
         }

@@ -128,6 +128,7 @@ pub(crate) fn pull<W: Wait, L: Link, R: Rest>(
         rt, alloc, &mut edge, &mut port, &mut link, &mut rest, app, name,
     );
     let worn = leave(rt, &mut edge, &mut port, &mut rest);
+    rest.pushed(PLACE);
     let end = end_then(end, worn);
     tell_over(&link, end, edge.client_end(), app, name);
     let (end, line) = line_of(alloc, end, edge.client_end());

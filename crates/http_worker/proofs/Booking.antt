@@ -626,7 +626,7 @@ module _ {P D Q L : Type 0} (rules : P → PortRules) (root : P → Histories) (
   kept_admitted : (link : L) (b b' : Bench P D Q L) → IsNewLink (told link) (counts link) → (doors b'.door).back ≡ (doors b.door).back
       → IsAdmitted t link b b' → slab_len b.players < t.links → Kept b → Kept b'
   kept_admitted link b b' new back a room k =
-      kept_more b b' a.key (record { player = a.came; link = link; over = false; asked = None }) a.new new a.there a.count back
+      kept_more b b' a.key (record { player = a.came; link = link; over = false; asked = None; due = true; stream = None; pushes = 0 }) a.new new a.there a.count back
       (ap (λ (x : Bench P D Q L). x.had) a.same) (ap (λ (x : Bench P D Q L). x.refused) a.same) (ap (λ (x : Bench P D Q L). x.worn) a.same)
       (ap (λ (x : Bench P D Q L). x.port) a.same) room k
 
@@ -648,12 +648,12 @@ module _ {P D Q L : Type 0} (rules : P → PortRules) (root : P → Histories) (
     module _ (hears : L → ℕ → Came → L → Type 0) (hears_mean : (l : L) (room : ℕ) (answer : Came) (m : L) → 0 < room → hears l room answer m
         → HearStep room (told l) (told m) (counts l) (counts m) answer)
         (says : L → List ℕ → Said → L → Type 0) (says_mean : (l : L) (piece : List ℕ) (answer : Said) (m : L) → 0 < length piece → says l piece answer m
-        → SayStep piece (told l) (told m) (counts l) (counts m) answer) where
+        → SayStep piece (told l) (told m) (counts l) (counts m) answer) (refused : P → ℕ) (ready : L → Bool → Type 0) where
       abbrev Turned : P → Seated P L Q → HttpTurn → P → Seated P L Q → Type 0
       Turned = TakesTurn fits rules root seen count wants busies desk counts hears says
 
-      kept_turned : (key : ℕ) (s : Seated P L Q) (b b' : Bench P D Q L) → get b.players key ≡ Some s → s.player.ended ≡ None → IsTurned Turned key s b b'
-          → Kept b → Kept b'
+      kept_turned : (key : ℕ) (s : Seated P L Q) (b b' : Bench P D Q L) → get b.players key ≡ Some s → s.player.ended ≡ None
+          → IsTurned Turned refused key s b b' → Kept b → Kept b'
       kept_turned key s b b' here n i k =
           kept_put b b' key s i.now here i.there i.count (ap (λ (x : Bench P D Q L). (doors x.door).back) i.same) (ap (λ (x : Bench P D Q L). x.had) i.same)
           (λ r. or_first b.refused _ (sym (ap (λ (x : Bench P D Q L). x.refused) i.same) ∙ r))
@@ -667,15 +667,17 @@ module _ {P D Q L : Type 0} (rules : P → PortRules) (root : P → Histories) (
           (unfilled_by i.answer (or_last b.worn _ (sym (ap (λ (x : Bench P D Q L). x.worn) i.same) ∙ r))))
 
       kept_turns_by : (o : Option HttpEnd) (key : ℕ) (s : Seated P L Q) (b b' : Bench P D Q L) → get b.players key ≡ Some s → s.player.ended ≡ o
-          → TurnsBy Turned o key s b b' → Kept b → Kept b'
-      kept_turns_by None key s b b' here n i k = kept_turned key s b b' here n i k
+          → TurnsBy Turned refused ready o key s b b' → Kept b → Kept b'
+      kept_turns_by None key s b b' here n (inl i) k = kept_turned key s b b' here n i k
+      kept_turns_by None key s b b' here n (inr i) k = subst Kept (sym i.same) k
       kept_turns_by (Some e) key s b b' here n i k = subst Kept (sym i) k
 
-      kept_turns_if : (o : Option (Seated P L Q)) (key : ℕ) (b b' : Bench P D Q L) → get b.players key ≡ o → TurnsIf Turned o key b b' → Kept b → Kept b'
+      kept_turns_if : (o : Option (Seated P L Q)) (key : ℕ) (b b' : Bench P D Q L) → get b.players key ≡ o
+          → TurnsIf Turned refused ready o key b b' → Kept b → Kept b'
       kept_turns_if None key b b' here i k = subst Kept (sym i) k
       kept_turns_if (Some s) key b b' here i k = kept_turns_by s.player.ended key s b b' here refl i k
 
-      kept_turns_at : (key : ℕ) (b b' : Bench P D Q L) → TurnsAt Turned key b b' → Kept b → Kept b'
+      kept_turns_at : (key : ℕ) (b b' : Bench P D Q L) → TurnsAt Turned refused ready key b b' → Kept b → Kept b'
       kept_turns_at key b b' i k = kept_turns_if (get b.players key) key b b' refl i k
 
     abbrev Ends : P → PlayerState Q → Leaving → P → PlayerState Q → Type 0
@@ -740,9 +742,9 @@ module _ {P D Q L : Type 0} (rules : P → PortRules) (root : P → Histories) (
     module _ (hears : L → ℕ → Came → L → Type 0) (hears_mean : (l : L) (room : ℕ) (answer : Came) (m : L) → 0 < room → hears l room answer m
         → HearStep room (told l) (told m) (counts l) (counts m) answer)
         (says : L → List ℕ → Said → L → Type 0) (says_mean : (l : L) (piece : List ℕ) (answer : Said) (m : L) → 0 < length piece → says l piece answer m
-        → SayStep piece (told l) (told m) (counts l) (counts m) answer) where
+        → SayStep piece (told l) (told m) (counts l) (counts m) answer) (refused : P → ℕ) (ready : L → Bool → Type 0) where
       abbrev OneRound : WorkerState P D Q L → Round → WorkerState P D Q L → Type 0
-      OneRound = Rounds told counts doors (Turned hears hears_mean says says_mean) Ends
+      OneRound = Rounds told counts doors (Turned hears hears_mean says says_mean refused ready) refused ready Ends
 
       kept_round : (w w' : WorkerState P D Q L) (answer : Round) → w.terms ≡ t → OneRound w answer w' → Kept w.bench → Kept w'.bench
       kept_round w w' answer terms r k =
@@ -751,8 +753,8 @@ module _ {P D Q L : Type 0} (rules : P → PortRules) (root : P → Histories) (
           (subst (λ (u : Terms). AdmitsIf told counts doors u (asks_door w.terms w.bench) (begun w.bench) r.admitted) terms r.admits)
           (λ e. subst (λ (u : Terms). slab_len w.bench.players < u.links) terms (has_room (slab_len w.bench.players) w.terms.links
           (nat_lt w.bench.had (2 ^ 40)) e)) begins in
-          let turns = walked (TurnsAt (Turned hears hears_mean says says_mean)) Kept (kept_turns_at hears hears_mean says says_mean) r.turns.last r.admitted
-          r.turned r.turns.walk admitted in
+          let turns = walked (TurnsAt (Turned hears hears_mean says says_mean refused ready) refused ready) Kept
+          (kept_turns_at hears hears_mean says says_mean refused ready) r.turns.last r.admitted r.turned r.turns.walk admitted in
           walked (ClosesAt told counts doors Ends) Kept kept_closes_at r.closings.last r.turned w'.bench r.closings.walk turns
 
       -- WHAT A ROUND KEEPS

@@ -118,7 +118,16 @@ module _ (P Q : RattleType) (port : Ghosts P.Denot Q.Denot) where
         search (sendable, crosses) depth 40 fits 20000,
         (
           search (sendable, crosses) depth 40 fits 20000,
-          (search (sendable, crosses) depth 40 fits 20000, (search (sendable, crosses) depth 40 fits 20000, tt)),
+          (
+            search (sendable, crosses) depth 40 fits 20000,
+            (
+              search (sendable, crosses) depth 40 fits 20000,
+              (
+                search (sendable, crosses) depth 40 fits 20000,
+                (search (sendable, crosses) depth 40 fits 20000, (search (sendable, crosses) depth 40 fits 20000, tt)),
+              ),
+            ),
+          ),
         ),
       )
 

@@ -19,7 +19,7 @@ use Rattle.http_flv.specs.declared.turn.HttpTurn.{HttpTurn}
 use Rattle.http_flv.proofs.Standing.{others_at}
 use Rattle.http_worker.specs.Benches.{IsNamed, IsSeated, IsSound, WorkerState, who_of}
 use Rattle.http_worker.specs.Players.{IsNewPlayer}
-use Rattle.http_worker.specs.Rounds.{ClosesAt, ClosesBy, ClosesIf, GoesIf, HandsBack, IsClosed, IsGone, IsLeft, IsTurned, Rounds, TurnsAt, TurnsBy, TurnsIf}
+use Rattle.http_worker.specs.Rounds.{ClosesAt, ClosesBy, ClosesIf, GoesIf, HandsBack, IsClosed, IsGone, IsLeft, IsPassed, IsTurned, Rounds, TurnsAt, TurnsBy, TurnsIf}
 use Rattle.http_worker.specs.Running.{HasRun, KeepsOn}
 use Rattle.http_worker.specs.declared.bench.Bench.{Bench}
 use Rattle.http_worker.specs.declared.bench.Seated.{Seated}
@@ -166,18 +166,25 @@ module _ {P D Q L : Type 0} (fits : P → ℕ → Q → Type 0) (rules : P → P
 
 -- ---- the step at a key
 
-module _ {P D Q L : Type 0} (takes : P → Seated P L Q → HttpTurn → P → Seated P L Q → Type 0) where
-  turns_by_over : (o : Option HttpEnd) (key : ℕ) (s : Seated P L Q) (b : Bench P D Q L) → o ≢ None → TurnsBy takes o key s b b
+module _ {P D Q L : Type 0} (takes : P → Seated P L Q → HttpTurn → P → Seated P L Q → Type 0) (busies : P → ℕ) (ready : L → Bool → Type 0) where
+  turns_by_over : (o : Option HttpEnd) (key : ℕ) (s : Seated P L Q) (b : Bench P D Q L) → o ≢ None → TurnsBy takes busies ready o key s b b
   turns_by_over None key s b n = absurd (n refl)
   turns_by_over (Some e) key s b n = refl
 
-  pub turns_over : (key : ℕ) (s : Seated P L Q) (b : Bench P D Q L) → get b.players key ≡ Some s → s.player.ended ≢ None → TurnsAt takes key b b
-  turns_over key s b at n = subst (λ (o : Option (Seated P L Q)). TurnsIf takes o key b b) (sym at) (turns_by_over s.player.ended key s b n)
+  pub turns_over : (key : ℕ) (s : Seated P L Q) (b : Bench P D Q L) → get b.players key ≡ Some s → s.player.ended ≢ None
+      → TurnsAt takes busies ready key b b
+  turns_over key s b at n = subst (λ (o : Option (Seated P L Q)). TurnsIf takes busies ready o key b b) (sym at) (turns_by_over s.player.ended key s b n)
 
-  pub turns_lives : (key : ℕ) (s : Seated P L Q) (b b' : Bench P D Q L) → get b.players key ≡ Some s → s.player.ended ≡ None → IsTurned takes key s b b'
-      → TurnsAt takes key b b'
-  turns_lives key s b b' at n t = subst (λ (o : Option (Seated P L Q)). TurnsIf takes o key b b') (sym at)
-      (subst (λ (o : Option HttpEnd). TurnsBy takes o key s b b') (sym n) t)
+  pub turns_lives : (key : ℕ) (s : Seated P L Q) (b b' : Bench P D Q L) → get b.players key ≡ Some s → s.player.ended ≡ None
+      → IsTurned takes busies key s b b' → TurnsAt takes busies ready key b b'
+  turns_lives key s b b' at n t = subst (λ (o : Option (Seated P L Q)). TurnsIf takes busies ready o key b b') (sym at)
+      (subst (λ (o : Option HttpEnd). TurnsBy takes busies ready o key s b b') (sym n) (inl t))
+
+  -- one that isn't due
+  pub turns_passed : (key : ℕ) (s : Seated P L Q) (b : Bench P D Q L) → get b.players key ≡ Some s → s.player.ended ≡ None → s.due ≡ false
+      → ready s.link false → TurnsAt takes busies ready key b b
+  turns_passed key s b at n due link = subst (λ (o : Option (Seated P L Q)). TurnsIf takes busies ready o key b b) (sym at)
+      (subst (λ (o : Option HttpEnd). TurnsBy takes busies ready o key s b b) (sym n) (inr (record { undue = due; unready = link; same = refl })))
 
 module _ {P D Q L : Type 0} (told : L → Option LinkTold) (counts : L → LinkCounts) (doors : D → DoorTold) (closes : P → PlayerState Q → Leaving → P
     → PlayerState Q → Type 0) where
@@ -263,16 +270,18 @@ module _ {P D Q L : Type 0} where
   }
 
   pub rounds_at : (told : L → Option LinkTold) (counts : L → LinkCounts) (doors : D → DoorTold) (takes : P → Seated P L Q → HttpTurn → P → Seated P L Q
-      → Type 0) (closes : P → PlayerState Q → Leaving → P → PlayerState Q → Type 0)
-      (w v w' : WorkerState P D Q L) (a : Round) → w ≡ v → Rounds told counts doors takes closes w a w' → Rounds told counts doors takes closes v a w'
-  rounds_at told counts doors takes closes w v w' a e r = subst (λ (x : WorkerState P D Q L). Rounds told counts doors takes closes x a w') e r
+      → Type 0) (busies : P → ℕ) (ready : L → Bool → Type 0) (closes : P → PlayerState Q → Leaving → P → PlayerState Q → Type 0)
+      (w v w' : WorkerState P D Q L) (a : Round) → w ≡ v → Rounds told counts doors takes busies ready closes w a w'
+      → Rounds told counts doors takes busies ready closes v a w'
+  rounds_at told counts doors takes busies ready closes w v w' a e r =
+      subst (λ (x : WorkerState P D Q L). Rounds told counts doors takes busies ready closes x a w') e r
 
   -- a round that leaves none, and a door that is done
   pub has_run : (told : L → Option LinkTold) (counts : L → LinkCounts) (doors : D → DoorTold) (takes : P → Seated P L Q → HttpTurn → P → Seated P L Q
-      → Type 0) (closes : P → PlayerState Q → Leaving → P → PlayerState Q → Type 0)
-      (fits : P → ℕ → Q → Type 0) (rules : P → PortRules) (w w' : WorkerState P D Q L) (a : Round) → Rounds told counts doors takes closes w a w'
+      → Type 0) (busies : P → ℕ) (ready : L → Bool → Type 0) (closes : P → PlayerState Q → Leaving → P → PlayerState Q → Type 0)
+      (fits : P → ℕ → Q → Type 0) (rules : P → PortRules) (w w' : WorkerState P D Q L) (a : Round) → Rounds told counts doors takes busies ready closes w a w'
       → IsSound fits rules doors w'.terms w'.bench → a.closed ≡ true → a.live ≡ 0 → HasRun doors w'
-  has_run told counts doors takes closes fits rules w w' a r s closed live = record {
+  has_run told counts doors takes busies ready closes fits rules w w' a r s closed live = record {
     none = ap (λ (x : Round). x.live) (sym r.answers) ∙ live;
     done = done_if (doors w'.bench.door).closed (doors w'.bench.door).given (let f = s.few in let g = s.given in omega arith)
         (ap (λ (x : Round). x.closed) (sym r.answers) ∙ closed);

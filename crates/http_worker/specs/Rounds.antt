@@ -1,4 +1,4 @@
--- ONE ROUND OF A WORKER: a link if one comes, a turn of each player, a close of each that has ended
+-- ONE ROUND OF A WORKER: a link if one comes, a turn of each player that is due, a close of each that has ended
 use Rattle.std.specs.Prelude.{◌≡◌, ◌⊎◌, ◌≤◌, ◌+◌, ◌^◌, ◌&&◌, ◌||◌, ℕ, Bool, true, false, nat_lt, Option, Some, None}
 use Rattle.slab.specs.Slab.{get, slab_len, Updates}
 use Rattle.relay_outside.specs.Doors.{DoorTold, Knocks, returned, with_back}
@@ -11,6 +11,8 @@ use Rattle.relay_worker.specs.Rounds.{Walks, has_left}
 use Rattle.relay_worker.specs.declared.round.Round.{Round}
 use Rattle.http_flv.specs.PlayerState.{PlayerState}
 use Rattle.http_flv.specs.declared.end.HttpEnd.{HttpEnd}
+use Rattle.http_flv.specs.declared.stage.Stage.{Stage}
+use Rattle.http_flv.specs.declared.stage.Stage.TheVariants as stage
 use Rattle.http_flv.specs.declared.turn.HttpTurn.{HttpTurn}
 use Rattle.http_worker.specs.Benches.{WorkerState}
 use Rattle.http_worker.specs.Players.{IsNewPlayer, is_moved, is_spent, is_worn}
@@ -34,7 +36,7 @@ pub record IsAdmitted {P D Q L : Type 0} (t : Terms) (link : L) (b b' : Bench P 
   pub free : get b.players key ≡ None
   pub came : PlayerState Q
   pub new : IsNewPlayer t b.had came
-  pub there : Updates b.players b'.players key (Some (record { player = came; link = link; over = false; asked = None }))
+  pub there : Updates b.players b'.players key (Some (record { player = came; link = link; over = false; asked = None; due = true; stream = None; pushes = 0 }))
   pub count : slab_len b'.players ≡ slab_len b.players + 1
   pub same : b' ≡ record b { door = b'.door; players = b'.players; had = b.had + 1; moved = true }
 
@@ -58,13 +60,26 @@ pub record WalksAll {P D Q L : Type 0} (step : ℕ → Bench P D Q L → Bench P
   pub all : (key : ℕ) → last ≤ key → get b.players key ≡ None
   pub walk : Walks step last b b'
 
--- ---- the player at a key takes a turn
+-- ---- the player at a key takes a turn, if it is due
 
-module _ {P D Q L : Type 0} (takes : P → Seated P L Q → HttpTurn → P → Seated P L Q → Type 0) where
+-- one that asks to join a stream
+abbrev pub is_joining : Stage → Bool
+is_joining stage.Reading = false
+is_joining (stage.Joining place) = true
+is_joining (stage.Telling refusal) = false
+is_joining (stage.Playing place player) = false
+
+-- one takes a turn in the next round whatever its link says after a turn that moved, that left it asking to join, or in which the port
+-- was busy once more
+abbrev pub leaves_due : {Q : Type 0} → ℕ → ℕ → HttpTurn → PlayerState Q → Bool
+leaves_due before after answer s = is_moved answer || (is_joining s.parts.stage || nat_lt before after)
+
+module _ {P D Q L : Type 0} (takes : P → Seated P L Q → HttpTurn → P → Seated P L Q → Type 0) (busies : P → ℕ) where
   pub record IsTurned (key : ℕ) (s : Seated P L Q) (b b' : Bench P D Q L) : Type 0 where
     pub now : Seated P L Q
     pub answer : HttpTurn
     pub turn : takes b.port s answer b'.port now
+    pub due : now.due ≡ leaves_due (busies b.port) (busies b'.port) answer now.player
     pub there : Updates b.players b'.players key (Some now)
     pub count : slab_len b'.players ≡ slab_len b.players
     pub same : b' ≡ record b {
@@ -75,17 +90,24 @@ module _ {P D Q L : Type 0} (takes : P → Seated P L Q → HttpTurn → P → S
       worn = b.worn || is_worn answer;
     }
 
-  -- one that has ended does nothing
-  abbrev pub TurnsBy : Option HttpEnd → ℕ → Seated P L Q → Bench P D Q L → Bench P D Q L → Type 0
-  TurnsBy None key s b b' = IsTurned key s b b'
-  TurnsBy (Some e) key s b b' = b' ≡ b
+  module _ (ready : L → Bool → Type 0) where
+    -- it takes no turn, and stays as it is: it isn't due, and its link has answered that it isn't ready
+    pub record IsPassed (s : Seated P L Q) (b b' : Bench P D Q L) : Type 0 where
+      pub undue : s.due ≡ false
+      pub unready : ready s.link false
+      pub same : b' ≡ b
 
-  abbrev pub TurnsIf : Option (Seated P L Q) → ℕ → Bench P D Q L → Bench P D Q L → Type 0
-  TurnsIf None key b b' = b' ≡ b
-  TurnsIf (Some s) key b b' = TurnsBy s.player.ended key s b b'
+    -- one that has ended does nothing
+    abbrev pub TurnsBy : Option HttpEnd → ℕ → Seated P L Q → Bench P D Q L → Bench P D Q L → Type 0
+    TurnsBy None key s b b' = IsTurned key s b b' ⊎ IsPassed s b b'
+    TurnsBy (Some e) key s b b' = b' ≡ b
 
-  abbrev pub TurnsAt : ℕ → Bench P D Q L → Bench P D Q L → Type 0
-  TurnsAt key b b' = TurnsIf (get b.players key) key b b'
+    abbrev pub TurnsIf : Option (Seated P L Q) → ℕ → Bench P D Q L → Bench P D Q L → Type 0
+    TurnsIf None key b b' = b' ≡ b
+    TurnsIf (Some s) key b b' = TurnsBy s.player.ended key s b b'
+
+    abbrev pub TurnsAt : ℕ → Bench P D Q L → Bench P D Q L → Type 0
+    TurnsAt key b b' = TurnsIf (get b.players key) key b b'
 
 -- ---- the player at a key is closed, if it has ended
 
@@ -138,12 +160,13 @@ abbrev pub answered : {P D Q L : Type 0} → (D → DoorTold) → Bench P D Q L 
 answered doors b = record { moved = b.moved; live = slab_len b.players; closed = is_done (doors b.door); refused = b.dropped }
 
 module _ {P D Q L : Type 0} (told : L → Option LinkTold) (counts : L → LinkCounts) (doors : D → DoorTold)
-    (takes : P → Seated P L Q → HttpTurn → P → Seated P L Q → Type 0) (closes : P → PlayerState Q → Leaving → P → PlayerState Q → Type 0) where
+    (takes : P → Seated P L Q → HttpTurn → P → Seated P L Q → Type 0) (busies : P → ℕ) (ready : L → Bool → Type 0)
+    (closes : P → PlayerState Q → Leaving → P → PlayerState Q → Type 0) where
   pub record Rounds (w : WorkerState P D Q L) (answer : Round) (w' : WorkerState P D Q L) : Type 0 where
     pub admitted : Bench P D Q L
     pub turned : Bench P D Q L
     pub admits : AdmitsIf told counts doors w.terms (asks_door w.terms w.bench) (begun w.bench) admitted
-    pub turns : WalksAll (TurnsAt takes) admitted turned
+    pub turns : WalksAll (TurnsAt takes busies ready) admitted turned
     pub closings : WalksAll (ClosesAt told counts doors closes) turned w'.bench
     pub terms : w'.terms ≡ w.terms
     pub answers : answer ≡ answered doors w'.bench

@@ -1,5 +1,5 @@
 //! What a worker has in hand: its port, its door, and its players with their links.
-ghost use Rattle.std.specs.Prelude.{◌≡◌, ◌≢◌, true, None, is_some};
+ghost use Rattle.std.specs.Prelude.{◌≡◌, ◌≢◌, true, false, None, is_some};
 ghost use Rattle.stream_registry.specs.Names.{places};
 ghost use Rattle.relay_session.specs.Places.{IsOffered};
 ghost use Rattle.relay_session.specs.SeatState.{HasFit};
@@ -9,14 +9,14 @@ ghost use Rattle.http_flv.specs.Keeping.{IsAt};
 ghost use Rattle.http_flv.specs.PlayerState.{ended_by};
 ghost use Rattle.http_worker.specs.Benches.{IsSound};
 ghost use Rattle.http_worker.specs.Players.{Closes, TakesTurn, is_moved, is_spent, is_worn, lacks_memory, wears_out};
-ghost use Rattle.http_worker.specs.Rounds.{AdmitsIf, ClosesAt, HandsBack, TurnsAt, WalksAll, answered, asks_door};
+ghost use Rattle.http_worker.specs.Rounds.{AdmitsIf, ClosesAt, HandsBack, TurnsAt, WalksAll, answered, asks_door, is_joining, leaves_due};
 
-use crate::telling::{NotingDesk, Request, told};
-use http_flv::{HttpEnd, HttpPlayer, HttpTurn};
+use crate::telling::{NotingDesk, Request, hinted, told};
+use http_flv::{HttpEnd, HttpPlayer, HttpTurn, Stage};
 use relay_base::Limits;
 use relay_outside::{Door, Knock, Link, Rest};
 use relay_session::{Desk, Leaving};
-use relay_worker::Round;
+use relay_worker::{Round, leaves_due, pushes_at};
 use slab::Slab;
 use std::alloc::Global;
 use std::cell::Cell;
@@ -29,27 +29,55 @@ pub struct Terms {
     pub limits: Limits,
 }
 
-/// A player with its link. `over` says that it has ended, `asked` what its request asks for, once it was read.
+/// A player with its link. `over` says that it has ended, `asked` what its request asks for, once it was read. `due` says that it takes
+/// a turn in the next round whatever its link says: it is new, or its last turn moved, or has left it asking to join, or found the port
+/// busy. `stream` is the number for hints of the stream that it plays, and `pushes` how often something was pushed to that before its
+/// last turn.
 #[derive(Drop)]
 pub struct Seated<P: StreamPort, L: Link> {
     pub player: HttpPlayer<P>,
     pub link: L,
     pub over: bool,
     pub asked: Option<Request>,
+    pub due: bool,
+    pub stream: Option<u32>,
+    pub pushes: u64,
 }
 
 impl<P: StreamPort, L: Link> Seated<P, L> {
+    // Whether it takes a turn in this round.
+    fn is_due<R: Rest>(&self, rest: &R) -> bool
+        ensures { result ≡ false → (self.now.due ≡ false) × L.ready self.now.link false }
+    {
+        if self.due {
+            return true;
+        }
+        if self.link.is_ready() {
+            return true;
+        }
+        pushes_at(rest, self.stream) != self.pushes
+    }
+
     // One turn of a player that lives.
-    fn turn<G: Desk>(&mut self, alloc: Global, port: &mut P, desk: &G) -> HttpTurn
+    fn turn<R: Rest, G: Desk>(
+        &mut self,
+        alloc: Global,
+        port: &mut P,
+        rest: &mut R,
+        desk: &G,
+    ) -> HttpTurn
         requires living { self.old.player.ended ≡ None }
         requires at { IsAt (P.fits port.old) (places (P.rules port.old)) self.old.player.parts self.old.player.seat }
         requires offered { IsOffered (G.grants desk.now) (places (P.rules port.old)) }
         ensures at { IsAt (P.fits port.new) (places (P.rules port.new)) self.new.player.parts self.new.player.seat }
         ensures over { self.new.over ≡ is_some self.new.player.ended }
         ensures ahead { GoesAhead P.fits P.rules P.root port.old port.new }
+        ensures due { self.new.due ≡ leaves_due (P.busies port.old) (P.busies port.new) result self.new.player }
         ensures turn { TakesTurn P.fits P.rules P.root P.seen P.count P.wants P.busies (G.grants desk.now) L.counts L.hears L.says
             port.old self.old result port.new self.new }
     {
+        let pushes = pushes_at(rest, self.stream);
+        let busies = port.busies();
         let before = self.player.stage();
         let noting = NotingDesk {
             inner: desk,
@@ -59,7 +87,11 @@ impl<P: StreamPort, L: Link> Seated<P, L> {
         self.over = is_over(answer);
         let NotingDesk { inner: _, noted } = noting;
         self.asked = noted.into_inner();
-        told(&self.link, &self.asked, before, self.player.stage(), answer);
+        let after = self.player.stage();
+        told(&self.link, &self.asked, before, after, answer);
+        self.pushes = pushes;
+        self.stream = hinted(port, rest, self.stream, after, &self.asked);
+        self.due = leaves_due(busies, port.busies(), is_moved(answer), is_joining(after));
         answer
     }
 
@@ -74,6 +106,21 @@ impl<P: StreamPort, L: Link> Seated<P, L> {
         ensures closes { Closes P.fits P.rules P.root P.seen P.count P.wants P.busies port.old self.old.player result port.new self.new.player }
     {
         self.player.close(port)
+    }
+}
+
+// Whether the player asks to join a stream.
+fn is_joining(stage: Stage) -> bool
+    ensures { result ≡ is_joining stage }
+{
+    match stage {
+        Stage::Reading => false,
+        Stage::Joining { place: _ } => true,
+        Stage::Telling { refusal: _ } => false,
+        Stage::Playing {
+            place: _,
+            player: _,
+        } => false,
     }
 }
 
@@ -213,6 +260,9 @@ impl<P: StreamPort, D: Door> Bench<P, D> {
                     link,
                     over: false,
                     asked: None,
+                    due: true,
+                    stream: None,
+                    pushes: 0,
                 });
                 self.had += 1;
                 self.moved = true;
@@ -225,7 +275,7 @@ impl<P: StreamPort, D: Door> Bench<P, D> {
         }
     }
 
-    // The player at this key takes a turn, if it lives.
+    // The player at this key takes a turn, if it lives and is due.
     fn turn_at<R: Rest, G: Desk>(
         &mut self,
         alloc: Global,
@@ -239,7 +289,7 @@ impl<P: StreamPort, D: Door> Bench<P, D> {
         ensures sound { IsSound P.fits P.rules D.told terms.now self.new }
         ensures ahead { GoesAhead P.fits P.rules P.root self.old.port self.new.port }
         ensures turns { TurnsAt (TakesTurn P.fits P.rules P.root P.seen P.count P.wants P.busies (G.grants desk.now)
-            D.Link.counts D.Link.hears D.Link.says) key self.old self.new }
+            D.Link.counts D.Link.hears D.Link.says) P.busies D.Link.ready key self.old self.new }
     {
         let _ = terms;
         let Some(seated) = self.players.get(key) else {
@@ -248,10 +298,13 @@ impl<P: StreamPort, D: Door> Bench<P, D> {
         if seated.over {
             return;
         }
+        if !seated.is_due(rest) {
+            return;
+        }
         let Some(seated) = self.players.get_mut(key) else {
             return;
         };
-        let answer = seated.turn(alloc, &mut self.port, desk);
+        let answer = seated.turn(alloc, &mut self.port, rest, desk);
         self.moved |= is_moved(answer);
         self.refused |= is_spent(answer);
         self.worn |= is_worn(answer);
@@ -293,6 +346,9 @@ impl<P: StreamPort, D: Door> Bench<P, D> {
             link,
             over: _,
             asked: _,
+            due: _,
+            stream: _,
+            pushes: _,
         } = seated;
         drop(player);
         self.moved = true;
@@ -302,7 +358,7 @@ impl<P: StreamPort, D: Door> Bench<P, D> {
         }
     }
 
-    // One turn of each player, in the order of the keys.
+    // One turn of each player that is due, in the order of the keys.
     pub(crate) fn turn_all<R: Rest, G: Desk>(
         &mut self,
         alloc: Global,
@@ -315,7 +371,7 @@ impl<P: StreamPort, D: Door> Bench<P, D> {
         ensures sound { IsSound P.fits P.rules D.told terms.now self.new }
         ensures ahead { GoesAhead P.fits P.rules P.root self.old.port self.new.port }
         ensures turns { WalksAll (TurnsAt (TakesTurn P.fits P.rules P.root P.seen P.count P.wants P.busies (G.grants desk.now)
-            D.Link.counts D.Link.hears D.Link.says)) self.old self.new }
+            D.Link.counts D.Link.hears D.Link.says) P.busies D.Link.ready) self.old self.new }
     {
         for key in 0..self.players.capacity() {
             self.turn_at(alloc, rest, desk, terms, key);

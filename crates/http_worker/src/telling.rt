@@ -3,9 +3,11 @@
 use command_dialog::{Ask, Grant};
 use http_flv::{HttpEnd, HttpTurn, Stage};
 use http_request::Refusal;
-use relay_outside::{Denied, Ending, Link, News};
+use relay_outside::{Denied, Ending, Link, News, Rest};
 use relay_session::Desk;
+use relay_worker::stream_number;
 use std::cell::Cell;
+use stream_registry::StreamPort;
 
 // The most bytes of a name that are told.
 const TOLD: usize = 64;
@@ -63,6 +65,26 @@ impl<G: Desk> Desk for NotingDesk<'_, G> {
         self.noted.set(Some(Request::of(ask)));
         self.inner.grant(ask)
     }
+}
+
+// The number for hints of the stream that a player plays, which had this one and has come so far. The rest hears of a new one.
+pub(crate) fn hinted<P: StreamPort, R: Rest>(
+    port: &P,
+    rest: &mut R,
+    stream: Option<u32>,
+    stage: Stage,
+    asked: &Option<Request>,
+) -> Option<u32> {
+    if stream.is_some() {
+        return stream;
+    }
+    let Stage::Playing { place, player: _ } = stage else {
+        return None;
+    };
+    let (app, name) = names(asked);
+    let number = stream_number(port, app, name, place);
+    rest.plays(number);
+    Some(number)
 }
 
 // Tells a link what a turn of its player did, which was so far before it and is so far after it, and has asked for this.

@@ -112,12 +112,14 @@ impl<P: StreamPort, D: Door, R: Rest> HttpWorker<P, D, R> {
         self.rest.pause();
     }
 
-    /// One round: the door is asked for a link where a place is free, each player takes one turn, and each that has ended is
-    /// closed. Each desk that is handed in is to be the same.
+    /// One round: the door is asked for a link where a place is free, each player that is due takes one turn, and each that has
+    /// ended is closed. One takes a turn for certain that is new, whose link is ready, or whose last turn moved, or left it asking to
+    /// join, or found the port busy; one that takes none stays as it is. Each desk that is handed in is to be the same.
     pub fn round<G: Desk>(&mut self, desk: &G) -> Round
         requires offered { IsOffered (G.grants desk.now) (places (P.rules self.old.bench.port)) }
         ensures rounds { Rounds D.Link.told D.Link.counts D.told
             (TakesTurn P.fits P.rules P.root P.seen P.count P.wants P.busies (G.grants desk.now) D.Link.counts D.Link.hears D.Link.says)
+            P.busies D.Link.ready
             (Closes P.fits P.rules P.root P.seen P.count P.wants P.busies) self.old result self.new }
         ensures keeps { KeepsOn P.fits P.rules P.root self.old self.new }
         ensures books { HasBooks P.rules P.root P.seen D.Link.told D.Link.counts D.told (G.grants desk.now) self.old

@@ -11,6 +11,7 @@ mod pending;
 mod recorder;
 mod seat;
 mod tape;
+mod telling;
 mod transport;
 mod turn;
 

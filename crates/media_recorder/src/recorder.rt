@@ -16,6 +16,7 @@ ghost use Rattle.media_recorder.specs.Alone.{LeavesAlone, OneAtMost};
 use crate::medium::Medium;
 use crate::seat::Seat;
 use crate::tape::Tape;
+use crate::telling::tell;
 use crate::turn::{Leaving, RecEnd, RecTurn};
 use av_unit::{Item, OutOfMemory, Want};
 use relay_outside::{Put, Sink};
@@ -137,7 +138,7 @@ impl<P: StreamPort, M: Medium> Recorder<P, M> {
             self.old result self.new }
     {
         if self.tape.is_drained() {
-            return self.ask(port);
+            return self.ask(port, sink);
         }
         self.put(port, sink)
     }
@@ -157,7 +158,7 @@ impl<P: StreamPort, M: Medium> Recorder<P, M> {
         put_ends(put, &mut self.tape, &mut self.end)
     }
 
-    fn ask(&mut self, port: &mut P) -> RecTurn
+    fn ask<K: Sink>(&mut self, port: &mut P, sink: &K) -> RecTurn
         requires place { self.old.seat.place < length (P.rules port.old).names }
         requires fits { FitsIf (P.fits port.old self.old.seat.place) self.old.seat.pass }
         requires none { self.old.tape.pending ≡ [] }
@@ -170,7 +171,7 @@ impl<P: StreamPort, M: Medium> Recorder<P, M> {
     {
         match self.player {
             None => self.join(port),
-            Some(player) => self.take(port, player),
+            Some(player) => self.take(port, sink, player),
         }
     }
 
@@ -190,7 +191,7 @@ impl<P: StreamPort, M: Medium> Recorder<P, M> {
         join_ends(answer, &mut self.player, &mut self.end)
     }
 
-    fn take(&mut self, port: &mut P, player: u32) -> RecTurn
+    fn take<K: Sink>(&mut self, port: &mut P, sink: &K, player: u32) -> RecTurn
         requires place { self.old.seat.place < length (P.rules port.old).names }
         requires fits { FitsIf (P.fits port.old self.old.seat.place) self.old.seat.pass }
         requires none { self.old.tape.pending ≡ [] }
@@ -206,6 +207,7 @@ impl<P: StreamPort, M: Medium> Recorder<P, M> {
             video: true,
         };
         let answer = self.seat.call(port, Call::Take { player, want });
+        tell(sink, &answer);
         take_ends(answer, &mut self.tape, &mut self.end)
     }
 

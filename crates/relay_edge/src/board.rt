@@ -1,5 +1,6 @@
 //! What the workers of a server tell each other: who waits, how it is woken, and how many links it has.
 
+use crate::hints::Hints;
 use crate::watch::MOST_WORKERS;
 use mio::Waker;
 use std::alloc::{AllocError, Global};
@@ -68,6 +69,8 @@ fn set(flag: &AtomicBool, value: bool) {
 #[derive(Drop)]
 pub struct Board {
     peers: Vec<Peer>,
+    /// What was pushed to each stream, and who plays it.
+    pub hints: Hints,
     // Links that were given, or are about to be.
     claimed: AtomicU64,
     given: AtomicU64,
@@ -90,6 +93,7 @@ impl Board {
         }
         Ok(Board {
             peers,
+            hints: Hints::new(alloc)?,
             claimed: AtomicU64::new(0),
             given: AtomicU64::new(0),
             awake: AtomicU64::new(0),
@@ -153,6 +157,22 @@ impl Board {
             if number != worker {
                 peer.wake();
             }
+            number = number.saturating_add(1);
+        }
+    }
+
+    /// Wakes those of these workers, a bit for each, that aren't this one.
+    pub fn wake_those(&self, workers: u64, worker: usize) {
+        let mut left = workers;
+        let mut number = 0usize;
+        for peer in self.peers.as_slice() {
+            if left == 0 {
+                return;
+            }
+            if left & 1 == 1 && number != worker {
+                peer.wake();
+            }
+            left = left >> 1;
             number = number.saturating_add(1);
         }
     }

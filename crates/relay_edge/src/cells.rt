@@ -18,6 +18,9 @@ pub const TAKEN: u64 = 8;
 /// The door left its connections to another worker.
 pub const LEFT: u64 = 16;
 
+/// Its link said that there is nothing to do, and wasn't used since.
+pub const CALM: u64 = 32;
+
 /// The token of the door.
 pub const DOOR: usize = 0;
 
@@ -126,10 +129,20 @@ impl Cells {
         done
     }
 
-    /// The same after a turn that moved nothing.
-    pub fn take_begun(&self) -> bool {
+    /// All of it is told.
+    pub fn take_begun(&self) {
         self.asked.store(false, Ordering::SeqCst);
-        self.begun.swap(false, Ordering::SeqCst)
+        self.begun.store(false, Ordering::SeqCst);
+    }
+
+    /// Whether each link has said since this was asked last that there is nothing to do, and wasn't used since it said so.
+    pub fn take_calm(&self) -> bool {
+        let mut calm = true;
+        for token in DOOR + 1..self.list.len() {
+            calm = calm && (!self.has(token, TAKEN) || self.has(token, CALM));
+            self.remove(token, CALM);
+        }
+        calm
     }
 
     /// One link more keeps bytes that can be sent.

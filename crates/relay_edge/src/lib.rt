@@ -13,6 +13,7 @@ mod clock;
 mod control;
 mod door;
 mod file;
+mod hints;
 mod house;
 mod inbox;
 mod journal;

@@ -6,7 +6,7 @@ use crate::shown::Written;
 use crate::words;
 use crate::words::Words;
 use log::{Level, log};
-use relay_outside::{Ending, News};
+use relay_outside::{Denied, Ending, News};
 use std::cell::Cell;
 use std::fmt::{Display, Formatter};
 use std::net::SocketAddr;
@@ -26,6 +26,9 @@ pub const STUCK: u64 = 5_000;
 
 /// And each after so many.
 const AT_LAST: u64 = 30_000;
+
+/// A link that wasn't looked into for so many milliseconds is to be: what nobody has told of is found then.
+pub const STALE: u64 = 500;
 
 /// Why a link answered that it failed, or at its end.
 #[derive(Clone, Copy, PartialEq, Eq)]
@@ -47,6 +50,10 @@ pub struct Life {
     took: u64,
     // Turns since then with nothing to send.
     quiet: u32,
+    // Its session holds back what it is to send next, until the peer acknowledges more.
+    held_back: Cell<bool>,
+    // When it was looked into last.
+    looked: u64,
     // It was answered why it isn't served.
     answered: Cell<bool>,
     // When nobody published any more, after the server was told to stop.
@@ -64,6 +71,8 @@ impl Life {
             gave: now,
             took: now,
             quiet: 0,
+            held_back: Cell::new(false),
+            looked: now,
             answered: Cell::new(false),
             alone: None,
             cause: Cause::Peer,
@@ -81,10 +90,23 @@ impl Life {
         self.quiet = 0;
     }
 
-    /// It has a turn. Whether the one before had nothing to send.
-    pub fn turn(&mut self) -> bool {
+    /// It was looked into.
+    pub fn look(&mut self, now: u64) {
+        self.looked = now;
+    }
+
+    /// It has a turn. Whether the one before had nothing to send, and nothing is held back.
+    pub fn turn(&mut self, now: u64) -> bool {
+        self.looked = now;
         self.quiet = self.quiet.saturating_add(1);
-        self.quiet > 1
+        self.quiet > 1 && !self.held_back.get()
+    }
+
+    /// Whether it is to have a turn though nothing has come: it wasn't looked into for long, or had too few turns since it took bytes, or
+    /// the server stops.
+    pub fn is_due(&self, post: &Post) -> bool {
+        let stale = post.now().saturating_sub(self.looked) >= STALE;
+        stale || self.quiet < 2 || post.watch.is_stopped()
     }
 
     /// How long it may be silent in what it does, and since when it is, where it gives nothing. A player may be so for ever.
@@ -139,7 +161,7 @@ impl Life {
     }
 
     /// Whether it ends, since the server stops: at once, or where it plays once all publishers are gone and it was sent what they
-    /// left, their end too.
+    /// left, their end too. One whose session holds that back has time as long as its peer takes or acknowledges something now and then.
     pub fn is_over(&mut self, post: &Post, empty: bool) -> bool {
         if !post.watch.is_stopped() {
             return false;
@@ -167,6 +189,9 @@ impl Life {
             }
         };
         let since = alone.max(self.took);
+        if self.held_back.get() {
+            return now.saturating_sub(since.max(self.gave)) >= STUCK;
+        }
         empty && self.quiet >= QUIET_TURNS && now.saturating_sub(since) >= QUIET
     }
 
@@ -186,9 +211,18 @@ impl Life {
             post.watch.begin(post.alloc, app, name);
         }
         self.doing.set(doing);
+        self.held_back.set(false);
         self.changed.set(post.now());
         if let Some(seat) = post.seat(token) {
             seat.tell(post.alloc, doing, app, name);
+        }
+    }
+
+    // Whether its session holds back what it is to send next.
+    fn hold_back(&self, post: &Post, token: usize, held_back: bool) {
+        self.held_back.set(held_back);
+        if let (Some(seat), true) = (post.seat(token), held_back) {
+            seat.lag(post.now());
         }
     }
 
@@ -211,14 +245,19 @@ impl Life {
                 ending: Ending::Answered(_),
                 at: _,
             } => self.answered.set(true),
-            News::HeldBack | News::Resumed => return,
+            News::HeldBack | News::Resumed => {
+                self.hold_back(post, token, news == News::HeldBack);
+                return;
+            }
             News::Denied(_) | News::Ended { .. } => {}
         }
+        let in_use = news == News::Denied(Denied::InUse);
         let line = Line {
             address: self.address,
             news,
             app,
             name,
+            published: in_use && post.watch.has_publisher(app, name),
             cause: self.cause,
             error,
         };
@@ -233,6 +272,8 @@ struct Line<'a> {
     news: News,
     app: &'a [u8],
     name: &'a [u8],
+    // A link publishes under that name, where one was refused that.
+    published: bool,
     cause: Cause,
     error: Option<io::Error>,
 }
@@ -273,6 +314,10 @@ impl Display for Line<'_> {
             } => self.write_cause(f),
             News::Ended { .. } => write!(f, "{}", Words(self.news)),
             News::Connected => write!(f, "{} {app}", Words(self.news)),
+            News::Denied(Denied::InUse) if !self.published => write!(
+                f,
+                "refused: somebody publishes, or no place is left at {app}/{name}"
+            ),
             _ => write!(f, "{} {app}/{name}", Words(self.news)),
         }
     }

@@ -4,7 +4,7 @@ ghost use Rattle.std.specs.Io.{ReadsAtMost};
 ghost use Rattle.relay_outside.specs.Heard.{HearStep};
 ghost use Rattle.relay_outside.specs.Said.{SayStep};
 
-use crate::cells::{CLOSING, READABLE, TAKEN, WRITABLE};
+use crate::cells::{CALM, CLOSING, READABLE, TAKEN, WRITABLE};
 use crate::inbox::Inbox;
 use crate::life::{Life, STUCK};
 use crate::outbox::Outbox;
@@ -90,6 +90,7 @@ impl Cell {
 
     // Its link is asked for bytes.
     fn ask(&mut self) {
+        self.remove(CALM);
         if self.fed {
             self.post.cells.ask();
         }
@@ -128,6 +129,8 @@ pub(crate) struct Wire {
     filled: bool,
     // It took a piece since the last recv.
     fresh: bool,
+    // It took nothing of the last piece.
+    refused: bool,
     // Bytes that were taken couldn't be sent.
     broken: bool,
     // Why a call of the system failed.
@@ -147,6 +150,7 @@ impl Drop for Wire {
             inbox,
             filled: _,
             fresh: _,
+            refused: _,
             broken: _,
             cause: _,
             stuck: _,
@@ -222,9 +226,24 @@ impl Wire {
     fn level(&self, quiet: bool) {
         if quiet && self.outbox.is_empty() {
             if let Some(seat) = self.cell.post.seat(self.cell.token) {
-                seat.level(self.cell.post.now());
+                seat.level();
             }
         }
+    }
+
+    // There is more to send.
+    fn lag(&self) {
+        if let Some(seat) = self.cell.post.seat(self.cell.token) {
+            seat.lag(self.cell.post.now());
+        }
+    }
+
+    // Whether a turn may receive or send something, or find that it is over.
+    fn is_ready(&self) -> bool {
+        let more = self.refused || !self.outbox.is_empty();
+        let writable = more && self.cell.has(WRITABLE);
+        let readable = self.inbox.has_more() || self.cell.has(READABLE);
+        writable || readable || self.broken || self.shut > 0
     }
 
     // Whether the system has taken none of what is kept for so many milliseconds, and takes none now.
@@ -283,6 +302,7 @@ impl Wire {
     pub(crate) fn is_seen_off(&mut self) -> bool {
         let flushed = self.flush();
         self.tell_kept();
+        self.cell.add(CALM);
         match flushed {
             Flushed::All => self.is_shut(),
             Flushed::Some => self.is_stuck(FAREWELL),
@@ -441,6 +461,7 @@ impl RealLink {
                 inbox: Inbox::new(alloc),
                 filled: false,
                 fresh: false,
+                refused: false,
                 broken: false,
                 cause: None,
                 stuck: 0,
@@ -518,7 +539,11 @@ impl Link for RealLink {
     ghost ready = { λ l answer. Unit {0} };
 
     fn is_ready(&self) -> bool {
-        true
+        let ready = self.wire.is_ready() || self.life.is_due(&self.wire.cell.post);
+        if !ready {
+            self.wire.cell.add(CALM);
+        }
+        ready
     }
 
     fn recv(&mut self, into: &mut [u8]) -> Heard {
@@ -528,7 +553,8 @@ impl Link for RealLink {
             return Heard::Failed;
         }
         self.wire.tell_kept();
-        self.wire.level(self.life.turn());
+        let quiet = self.life.turn(self.wire.cell.post.now());
+        self.wire.level(quiet);
         if is_over(&mut self.life, &mut self.wire) {
             self.ended = self.ended.saturating_add(1);
             return Heard::End;
@@ -567,6 +593,8 @@ impl Link for RealLink {
     }
 
     fn send(&mut self, piece: &[u8]) -> Said {
+        self.wire.cell.remove(CALM);
+        self.life.look(self.wire.cell.post.now());
         if self.wire.broken {
             self.failed = self.failed.saturating_add(1);
             return Said::Failed;
@@ -578,13 +606,16 @@ impl Link for RealLink {
                 self.failed = self.failed.saturating_add(1);
                 return Said::Failed;
             }
+            self.wire.refused = true;
             self.waited = self.waited.saturating_add(1);
             return Said::NotYet;
         }
         let taken = self.wire.take(piece);
         self.wire.tell_kept();
+        self.wire.refused = taken == Flushed::Some;
         match taken {
             Flushed::All => {
+                self.wire.lag();
                 self.life.take(self.wire.cell.post.now());
                 Said::Took(piece.len())
             }

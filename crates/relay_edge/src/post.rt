@@ -29,6 +29,8 @@ pub struct Post {
     door: AtomicI64,
     board: Arc<Board, Global>,
     worker: usize,
+    // The workers that are to hear of what was pushed here, a bit for each.
+    listeners: AtomicU64,
     // The worker to which the door left a connection last, and what is left of its grace.
     heir: AtomicU64,
     grace: AtomicU64,
@@ -54,6 +56,7 @@ impl Post {
             door: AtomicI64::new(-1),
             board,
             worker,
+            listeners: AtomicU64::new(0),
             heir: AtomicU64::new(0),
             grace: AtomicU64::new(0),
         };
@@ -101,6 +104,11 @@ impl Post {
     /// Whether a connection that came finds no place at any worker.
     pub fn is_crowded(&self) -> bool {
         self.board.is_full(self.worker)
+    }
+
+    /// Whether the worker has a door.
+    pub fn has_door(&self) -> bool {
+        self.door.load(Ordering::SeqCst) >= 0
     }
 
     /// How many links the worker has.
@@ -217,18 +225,46 @@ impl Post {
         }
     }
 
-    /// After a turn that moved something: wakes the other workers, where that may be what received bytes brought.
-    pub fn tell(&self, at_once: bool) {
-        if self.cells.take_done(at_once) {
-            self.board.wake_others(self.worker);
+    /// Something was pushed to this stream. Those who play it are woken when that is told.
+    pub fn push(&self, stream: u32) {
+        let players = self.board.hints.push(stream);
+        self.listeners.fetch_or(players, Ordering::SeqCst);
+    }
+
+    /// How often something was pushed to this stream, which the worker plays.
+    pub fn pushes(&self, stream: u32) -> u64 {
+        self.board.hints.pushes(stream, self.worker)
+    }
+
+    /// The worker plays this stream.
+    pub fn play(&self, stream: u32) {
+        self.board.hints.play(stream, self.worker);
+    }
+
+    /// The worker plays no stream, until it says so again.
+    pub fn forget_plays(&self) {
+        self.board.hints.forget(self.worker);
+    }
+
+    /// Wakes the workers that play what was pushed here since they were woken last.
+    pub fn tell(&self) {
+        if self.listeners.load(Ordering::SeqCst) != 0 {
+            let listeners = self.listeners.swap(0, Ordering::SeqCst);
+            self.board.wake_those(listeners, self.worker);
         }
     }
 
-    /// Before a pause: wakes them for what was left to be told when more bytes came.
-    pub fn tell_begun(&self) {
-        if self.cells.take_begun() {
-            self.board.wake_others(self.worker);
+    /// After a turn that moved something: wakes them where that may be the last of what received bytes brought.
+    pub fn tell_done(&self, at_once: bool) {
+        if self.cells.take_done(at_once) {
+            self.tell();
         }
+    }
+
+    /// Before a pause: wakes them for all that is left to be told.
+    pub fn tell_all(&self) {
+        self.cells.take_begun();
+        self.tell();
     }
 
     /// The worker is about to wait. Whether it is to look at once, since something came.
@@ -238,6 +274,7 @@ impl Post {
 
     /// The worker is gone.
     pub fn retire(&self) {
+        self.tell_all();
         self.board.fill(self.worker, true);
         let _ = self.board.begin_wait(self.worker);
     }

@@ -2,6 +2,7 @@
 
 use crate::cells::{CLOSING, Cells, DOOR, LEFT, READABLE, WRITABLE};
 use crate::control::Control;
+use crate::life::STALE;
 use crate::post::Post;
 use log::warn;
 use mio::event::Event;
@@ -14,8 +15,14 @@ use std::time::Duration;
 /// The token of a waker.
 pub const WAKER: usize = usize::MAX;
 
-/// The longest wait, in milliseconds.
-const LONGEST: u64 = 1000;
+/// The longest wait, in milliseconds. A link is looked into after a wait if it wasn't for as long.
+const LONGEST: u64 = STALE;
+
+/// So often the worker looks whether a connection finds no place.
+const LOOK_AT_CROWD: u64 = 1000;
+
+/// After so many milliseconds the streams that a worker plays are learned anew.
+const LEARN_PLAYS: u64 = 1000;
 
 /// The first waits, in milliseconds, where another worker was awake, so that a call may have found a stream busy.
 const FIRST: [u64; 4] = [0, 1, 4, 16];
@@ -41,7 +48,7 @@ const LOOK_AT_DOOR: u32 = 8192;
 /// After so many the worker has asked its door for a link, where it has a place for one.
 const LOOK_AT_PLACES: u32 = 256;
 
-/// Waits until there is something to do for a worker: at its sockets, or since another worker received bytes. That of one worker
+/// Waits until there is something to do for a worker: at its sockets, or since another worker pushed to a stream that it plays. That of one worker
 /// answers those who ask how the server is, too. A worker whose rest is gone waits for ever and has no place for a link, as the others
 /// see it.
 pub struct RealRest {
@@ -56,6 +63,11 @@ pub struct RealRest {
     stillness: Option<u64>,
     // When it last looked whether a connection finds no place.
     looked: u64,
+    // Each link has said in the last round that there is nothing to do.
+    calm: bool,
+    // The streams that its recorders play, and when those that its links play were forgotten last.
+    recorded: Vec<u32>,
+    learned: u64,
     runs: bool,
     control: Option<Control>,
 }
@@ -70,10 +82,14 @@ impl Drop for RealRest {
             pauses: _,
             stillness: _,
             looked: _,
+            calm: _,
+            recorded,
+            learned: _,
             runs: _,
             control,
         } = self;
         post.retire();
+        drop(recorded);
         drop(control);
         drop(events);
         drop(poll);
@@ -108,6 +124,7 @@ impl RealRest {
         post: Arc<Post, Global>,
         control: Option<Control>,
     ) -> RealRest {
+        let recorded = Vec::new(post.alloc);
         RealRest {
             poll,
             events,
@@ -116,6 +133,9 @@ impl RealRest {
             pauses: 0,
             stillness: None,
             looked: 0,
+            calm: false,
+            recorded,
+            learned: 0,
             runs: false,
             control,
         }
@@ -130,6 +150,7 @@ impl RealRest {
             let _ = self.poll.poll(&mut self.events, now);
         }
         self.post.tick();
+        self.learn_plays();
         let mut ready = false;
         let mut asked = false;
         for event in self.events.iter() {
@@ -145,7 +166,7 @@ impl RealRest {
     // Tells the log where a connection waits, and no worker has a place for it. It looks once a second.
     fn tell_crowd(&mut self) {
         let post = &self.post;
-        if post.now().saturating_sub(self.looked) < LONGEST {
+        if post.now().saturating_sub(self.looked) < LOOK_AT_CROWD {
             return;
         }
         self.looked = post.now();
@@ -189,13 +210,31 @@ impl RealRest {
         }
     }
 
+    // Whether no call found a stream busy in the last round: each session was passed over, and there are no recorders and no edge.
+    fn is_calm(&self) -> bool {
+        self.calm && self.recorded.is_empty() && self.post.has_door()
+    }
+
+    // Forgets now and then which streams are played here. A round follows in which each player's is asked for, and is played again from
+    // then on.
+    fn learn_plays(&mut self) {
+        if self.post.now().saturating_sub(self.learned) < LEARN_PLAYS {
+            return;
+        }
+        self.learned = self.post.now();
+        self.post.forget_plays();
+        for stream in self.recorded.as_slice() {
+            self.post.play(*stream);
+        }
+    }
+
     // How long the next wait may be, in milliseconds.
     fn patience(&self) -> u64 {
         let holding = self.post.cells.is_holding();
         if holding && self.pauses < HURRIES {
             return 0;
         }
-        if !holding && self.is_still() {
+        if !holding && (self.is_calm() || self.is_still()) {
             return LONGEST;
         }
         match FIRST.get(self.pauses) {
@@ -220,7 +259,8 @@ impl RealRest {
 impl Rest for RealRest {
     fn pause(&mut self) {
         self.run();
-        self.post.tell_begun();
+        self.post.tell_all();
+        self.calm = self.post.cells.take_calm();
         if !self.post.take_knocked() {
             self.tell_crowd();
         }
@@ -241,7 +281,7 @@ impl Rest for RealRest {
     }
 
     fn moved(&mut self) {
-        self.post.tell((self.moves % LOOK) == 0);
+        self.post.tell_done((self.moves % LOOK) == 0);
         self.pauses = 0;
         self.stillness = self.post.stillness();
         self.moves = self.moves.wrapping_add(1);
@@ -258,11 +298,18 @@ impl Rest for RealRest {
         }
     }
 
-    fn pushed(&mut self, _stream: u32) {}
+    fn pushed(&mut self, stream: u32) {
+        self.post.push(stream);
+    }
 
-    fn plays(&mut self, _stream: u32) {}
+    fn plays(&mut self, stream: u32) {
+        if !self.runs {
+            let _ = self.recorded.push(stream);
+        }
+        self.post.play(stream);
+    }
 
-    fn pushes(&self, _stream: u32) -> u64 {
-        0
+    fn pushes(&self, stream: u32) -> u64 {
+        self.post.pushes(stream)
     }
 }

@@ -20,6 +20,9 @@ pub fn held<T>(lock: &Mutex<T>) -> Option<MutexGuard<'_, T>> {
     None
 }
 
+/// A time that is later than any.
+const EVEN: u64 = u64::MAX;
+
 /// What is done over a link.
 #[derive(Clone, Copy, PartialEq, Eq)]
 pub enum Doing {
@@ -59,11 +62,11 @@ pub struct Seat {
     begun: AtomicU64,
     received: AtomicU64,
     sent: AtomicU64,
-    // When it had been sent all that there was last.
+    // When it had been sent all that there was last, or `EVEN` where it has been sent all that there is.
     even: AtomicU64,
 }
 
-/// What a seat has at some moment. `even` is when the link had been sent all that there was last.
+/// What a seat has at some moment. `even` is when the link had been sent all that there was last, or a later time where that is now.
 #[derive(Drop)]
 pub struct Sight {
     pub address: SocketAddr,
@@ -123,10 +126,32 @@ impl Seat {
         self.sent.fetch_add(count as u64, Ordering::SeqCst);
     }
 
-    /// It has been sent all that there is now.
-    pub fn level(&self, now: u64) {
-        if self.even.load(Ordering::SeqCst) != now {
+    /// It has been sent all that there is, until something more comes.
+    pub fn level(&self) {
+        if self.even.load(Ordering::SeqCst) != EVEN {
+            self.even.store(EVEN, Ordering::SeqCst);
+        }
+    }
+
+    /// There is more to send from now on.
+    pub fn lag(&self, now: u64) {
+        if self.even.load(Ordering::SeqCst) == EVEN {
             self.even.store(now, Ordering::SeqCst);
+        }
+    }
+
+    // Whether its link publishes under that name.
+    fn publishes(&self, app: &[u8], name: &[u8]) -> bool {
+        if !self.taken.load(Ordering::SeqCst) {
+            return false;
+        }
+        match held(&self.told) {
+            Some(told) => {
+                told.doing == Doing::Publishes
+                    && told.app.as_slice() == app
+                    && told.name.as_slice() == name
+            }
+            None => false,
         }
     }
 
@@ -173,6 +198,14 @@ impl Seats {
 
     pub fn get(&self, token: usize) -> Option<&Seat> {
         self.list.get(token)
+    }
+
+    /// Whether a link publishes under that name.
+    pub fn has_publisher(&self, app: &[u8], name: &[u8]) -> bool {
+        self.list
+            .as_slice()
+            .iter()
+            .any(|seat| seat.publishes(app, name))
     }
 
     /// Adds what all seats have that are taken.

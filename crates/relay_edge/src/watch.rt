@@ -189,6 +189,18 @@ impl Watch {
         self.publishing.fetch_sub(1, Ordering::SeqCst);
     }
 
+    /// Whether a link publishes under that name, as far as the seats tell.
+    pub fn has_publisher(&self, app: &[u8], name: &[u8]) -> bool {
+        for place in self.seats.as_slice() {
+            if let Some(seats) = place.get() {
+                if seats.has_publisher(app, name) {
+                    return true;
+                }
+            }
+        }
+        false
+    }
+
     /// Whether somebody publishes.
     pub fn is_published(&self) -> bool {
         self.publishing.load(Ordering::SeqCst) > 0

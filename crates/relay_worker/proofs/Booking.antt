@@ -868,7 +868,7 @@ module _ {P D Q L : Type 0} (rules : P → PortRules) (root : P → Histories) (
 
   kept_admitted : (link : L) (b b' : Bench P D Q L) → IsNewLink (told link) (counts link) → (doors b'.door).back ≡ (doors b.door).back → IsAdmitted t link b b' → slab_len b.sessions < t.links → Kept b → Kept b'
   kept_admitted link b b' new back a room k =
-      kept_more b b' a.key (record { session = a.came; link = link; over = false; asked = None }) a.new new a.there a.count back (ap (λ (x : Bench P D Q L). x.had) a.same) (ap (λ (x : Bench P D Q L). x.refused) a.same) (ap (λ (x : Bench P D Q L). x.worn) a.same) (ap (λ (x : Bench P D Q L). x.port) a.same) room k
+      kept_more b b' a.key (record { session = a.came; link = link; over = false; asked = None; due = true; stream = None; pushes = 0 }) a.new new a.there a.count back (ap (λ (x : Bench P D Q L). x.had) a.same) (ap (λ (x : Bench P D Q L). x.refused) a.same) (ap (λ (x : Bench P D Q L). x.worn) a.same) (ap (λ (x : Bench P D Q L). x.port) a.same) room k
 
   kept_at : (b b' : Bench P D Q L) → b'.sessions ≡ b.sessions → (doors b'.door).back ≡ (doors b.door).back → b'.had ≡ b.had → b'.refused ≡ b.refused → b'.worn ≡ b.worn → b'.port ≡ b.port → Kept b → Kept b'
   kept_at b b' same back had refused worn port k =
@@ -891,11 +891,11 @@ module _ {P D Q L : Type 0} (rules : P → PortRules) (root : P → Histories) (
 
   module _ (fits : P → ℕ → Q → Type 0) (count : Q → ℕ) (wants : Entry → Type 0) (busies : P → ℕ) (adds : List Step → List Step → List Step → Type 0) (kin : P → Kin) (branches : Q → List Branch) where
     module _ (hears : L → ℕ → Came → L → Type 0) (hears_mean : (l : L) (room : ℕ) (answer : Came) (m : L) → 0 < room → hears l room answer m → HearStep room (told l) (told m) (counts l) (counts m) answer)
-        (says : L → List ℕ → Said → L → Type 0) (says_mean : (l : L) (piece : List ℕ) (answer : Said) (m : L) → 0 < length piece → says l piece answer m → SayStep piece (told l) (told m) (counts l) (counts m) answer) (decided : Deciding) where
+        (says : L → List ℕ → Said → L → Type 0) (says_mean : (l : L) (piece : List ℕ) (answer : Said) (m : L) → 0 < length piece → says l piece answer m → SayStep piece (told l) (told m) (counts l) (counts m) answer) (decided : Deciding) (refused : P → ℕ) (ready : L → Bool → Type 0) where
       abbrev Turned : P → Seated P L Q → Turn → P → Seated P L Q → Type 0
       Turned = TakesTurn (AskedAlone fits rules root seen count wants busies adds kin branches) (GoesOn fits rules root seen busies) desk hears says
 
-      kept_turned : (key : ℕ) (s : Seated P L Q) (b b' : Bench P D Q L) → get b.sessions key ≡ Some s → s.session.ended ≡ None → IsTurned Turned key s b b' → Kept b → Kept b'
+      kept_turned : (key : ℕ) (s : Seated P L Q) (b b' : Bench P D Q L) → get b.sessions key ≡ Some s → s.session.ended ≡ None → IsTurned Turned refused key s b b' → Kept b → Kept b'
       kept_turned key s b b' here n i k =
           kept_put b b' key s i.now here i.there i.count (ap (λ (x : Bench P D Q L). (doors x.door).back) i.same) (ap (λ (x : Bench P D Q L). x.had) i.same)
           (λ r. or_first b.refused _ (sym (ap (λ (x : Bench P D Q L). x.refused) i.same) ∙ r)) (λ r. or_first b.worn _ (sym (ap (λ (x : Bench P D Q L). x.worn) i.same) ∙ r)) i.turn.goes_on.fixed i.turn.goes_on.roots i.turn.who k
@@ -903,15 +903,16 @@ module _ {P D Q L : Type 0} (rules : P → PortRules) (root : P → Histories) (
           (λ r. subst (λ (o : Option End). o ≢ Some end.OutOfMemory) (sym i.turn.ended) (unspent_by i.answer (or_last b.refused _ (sym (ap (λ (x : Bench P D Q L). x.refused) i.same) ∙ r))))
           (λ r. subst (λ (o : Option End). o ≢ Some end.Worn) (sym i.turn.ended) (unfilled_by i.answer (or_last b.worn _ (sym (ap (λ (x : Bench P D Q L). x.worn) i.same) ∙ r))))
 
-      kept_turns_by : (o : Option End) (key : ℕ) (s : Seated P L Q) (b b' : Bench P D Q L) → get b.sessions key ≡ Some s → s.session.ended ≡ o → TurnsBy Turned o key s b b' → Kept b → Kept b'
-      kept_turns_by None key s b b' here n i k = kept_turned key s b b' here n i k
+      kept_turns_by : (o : Option End) (key : ℕ) (s : Seated P L Q) (b b' : Bench P D Q L) → get b.sessions key ≡ Some s → s.session.ended ≡ o → TurnsBy Turned refused ready o key s b b' → Kept b → Kept b'
+      kept_turns_by None key s b b' here n (inl i) k = kept_turned key s b b' here n i k
+      kept_turns_by None key s b b' here n (inr i) k = subst Kept (sym i.same) k
       kept_turns_by (Some e) key s b b' here n i k = subst Kept (sym i) k
 
-      kept_turns_if : (o : Option (Seated P L Q)) (key : ℕ) (b b' : Bench P D Q L) → get b.sessions key ≡ o → TurnsIf Turned o key b b' → Kept b → Kept b'
+      kept_turns_if : (o : Option (Seated P L Q)) (key : ℕ) (b b' : Bench P D Q L) → get b.sessions key ≡ o → TurnsIf Turned refused ready o key b b' → Kept b → Kept b'
       kept_turns_if None key b b' here i k = subst Kept (sym i) k
       kept_turns_if (Some s) key b b' here i k = kept_turns_by s.session.ended key s b b' here refl i k
 
-      pub kept_turns_at : (key : ℕ) (b b' : Bench P D Q L) → TurnsAt Turned key b b' → Kept b → Kept b'
+      pub kept_turns_at : (key : ℕ) (b b' : Bench P D Q L) → TurnsAt Turned refused ready key b b' → Kept b → Kept b'
       kept_turns_at key b b' i k = kept_turns_if (get b.sessions key) key b b' refl i k
 
     abbrev Ends : P → SessionState Q → Leaving → P → SessionState Q → Type 0
@@ -978,16 +979,16 @@ module _ {P D Q L : Type 0} (rules : P → PortRules) (root : P → Histories) (
       kept_records_at i x x' e k = kept_records_if (slice_get x.1 i) i x x' e k
 
       module _ (hears : L → ℕ → Came → L → Type 0) (hears_mean : (l : L) (room : ℕ) (answer : Came) (m : L) → 0 < room → hears l room answer m → HearStep room (told l) (told m) (counts l) (counts m) answer)
-          (says : L → List ℕ → Said → L → Type 0) (says_mean : (l : L) (piece : List ℕ) (answer : Said) (m : L) → 0 < length piece → says l piece answer m → SayStep piece (told l) (told m) (counts l) (counts m) answer) (decided : Deciding) where
+          (says : L → List ℕ → Said → L → Type 0) (says_mean : (l : L) (piece : List ℕ) (answer : Said) (m : L) → 0 < length piece → says l piece answer m → SayStep piece (told l) (told m) (counts l) (counts m) answer) (decided : Deciding) (refused : P → ℕ) (ready : L → Bool → Type 0) where
         abbrev OneRound : WorkerState P D K Q L → Round → WorkerState P D K Q L → Type 0
-        OneRound = Rounds told counts doors (Turned hears hears_mean says says_mean decided) Ends files
+        OneRound = Rounds told counts doors (Turned hears hears_mean says says_mean decided refused ready) refused ready Ends files
 
         kept_round : (w w' : WorkerState P D K Q L) (answer : Round) → w.terms ≡ t → OneRound w answer w' → Kept w.bench → Kept w'.bench
         kept_round w w' answer terms r k =
             let begins = kept_at w.bench (begun w.bench) refl refl refl refl refl refl k in
             let admitted = kept_admits_if (asks_door w.terms w.bench) (begun w.bench) r.admitted (subst (λ (u : Terms). AdmitsIf told counts doors u (asks_door w.terms w.bench) (begun w.bench) r.admitted) terms r.admits)
             (λ e. subst (λ (u : Terms). slab_len w.bench.sessions < u.links) terms (has_room (slab_len w.bench.sessions) w.terms.links (nat_lt w.bench.had (2 ^ 40)) e)) begins in
-            let turned = walked (TurnsAt (Turned hears hears_mean says says_mean decided)) Kept (kept_turns_at hears hears_mean says says_mean decided) r.turns.last r.admitted r.turned r.turns.walk admitted in
+            let turned = walked (TurnsAt (Turned hears hears_mean says says_mean decided refused ready) refused ready) Kept (kept_turns_at hears hears_mean says says_mean decided refused ready) r.turns.last r.admitted r.turned r.turns.walk admitted in
             let closed = walked (ClosesAt told counts doors Ends) Kept kept_closes_at r.closings.last r.turned r.closed r.closings.walk turned in
             walked (RecordsAt files) (λ (x : Bench P D Q L × List (Recorder P K Q)). Kept x.0) kept_records_at (length w.recorders) (r.closed, w.recorders) (w'.bench, w'.recorders) r.records closed
 

@@ -135,7 +135,7 @@ module _ (P Q : RattleType) (port : Ghosts P.Denot Q.Denot) where
   seated_send L l q =
       let s = session_field q in
       let r = request_field in
-      declared_send (Seated.the_type P L Q port) (search (sendable, crosses) depth 40 fits 20000, (search (sendable, crosses) depth 40 fits 20000, (search (sendable, crosses) depth 40 fits 20000, (search (sendable, crosses) depth 40 fits 20000, tt))))
+      declared_send (Seated.the_type P L Q port) (search (sendable, crosses) depth 40 fits 20000, (search (sendable, crosses) depth 40 fits 20000, (search (sendable, crosses) depth 40 fits 20000, (search (sendable, crosses) depth 40 fits 20000, (search (sendable, crosses) depth 40 fits 20000, (search (sendable, crosses) depth 40 fits 20000, (search (sendable, crosses) depth 40 fits 20000, tt)))))))
 
   bench_send : (D L : RattleType) → IsSend P → IsSend D → IsSend L → IsSend Q → IsSend (Bench.the_row P D Q L port)
   bench_send D L p d l q =

@@ -30,7 +30,7 @@ use Rattle.media_recorder.specs.declared.turn.RecTurn.TheVariants as turn
 use Rattle.stream_registry.specs.Told.{Step}
 use Rattle.relay_worker.specs.Filed.{form_of, is_ready, state_of}
 use Rattle.relay_worker.specs.declared.recorder.RecordingForm.{RecordingForm}
-use Rattle.relay_worker.specs.Rounds.{ClosesAt, ClosesBy, ClosesIf, GoesIf, HandsBack, IsClosed, IsGone, IsLeft, IsTurned, Recorded, RecordsAt, RecordsIf, Rounds, TurnsAt, TurnsBy, TurnsIf, Walks}
+use Rattle.relay_worker.specs.Rounds.{AlwaysReady, ClosesAt, ClosesBy, ClosesIf, GoesIf, HandsBack, IsClosed, IsGone, IsLeft, IsPassed, IsTurned, Recorded, RecordsAt, RecordsIf, Rounds, TurnsAt, TurnsBy, TurnsIf, Walks}
 use Rattle.relay_worker.specs.Running.{GoesAhead, HasRun, IsReadied, KeepsOn, Label, label_of}
 use Rattle.relay_worker.specs.Sessions.{IsNewSession}
 use Rattle.relay_worker.specs.declared.bench.Bench.{Bench}
@@ -284,16 +284,30 @@ module _ {X : Type 0} where
 
 -- ---- the step at a key
 
-module _ {P D Q L : Type 0} (takes : P → Seated P L Q → Turn → P → Seated P L Q → Type 0) where
-  turns_by_over : (o : Option End) (key : ℕ) (s : Seated P L Q) (b : Bench P D Q L) → o ≢ None → TurnsBy takes o key s b b
+module _ {P D Q L : Type 0} (takes : P → Seated P L Q → Turn → P → Seated P L Q → Type 0) (busies : P → ℕ) (ready : L → Bool → Type 0) where
+  turns_by_over : (o : Option End) (key : ℕ) (s : Seated P L Q) (b : Bench P D Q L) → o ≢ None → TurnsBy takes busies ready o key s b b
   turns_by_over None key s b n = absurd (n refl)
   turns_by_over (Some e) key s b n = refl
 
-  pub turns_over : (key : ℕ) (s : Seated P L Q) (b : Bench P D Q L) → get b.sessions key ≡ Some s → s.session.ended ≢ None → TurnsAt takes key b b
-  turns_over key s b at n = subst (λ (o : Option (Seated P L Q)). TurnsIf takes o key b b) (sym at) (turns_by_over s.session.ended key s b n)
+  pub turns_over : (key : ℕ) (s : Seated P L Q) (b : Bench P D Q L) → get b.sessions key ≡ Some s → s.session.ended ≢ None → TurnsAt takes busies ready key b b
+  turns_over key s b at n = subst (λ (o : Option (Seated P L Q)). TurnsIf takes busies ready o key b b) (sym at) (turns_by_over s.session.ended key s b n)
 
-  pub turns_lives : (key : ℕ) (s : Seated P L Q) (b b' : Bench P D Q L) → get b.sessions key ≡ Some s → s.session.ended ≡ None → IsTurned takes key s b b' → TurnsAt takes key b b'
-  turns_lives key s b b' at n t = subst (λ (o : Option (Seated P L Q)). TurnsIf takes o key b b') (sym at) (subst (λ (o : Option End). TurnsBy takes o key s b b') (sym n) t)
+  pub turns_lives : (key : ℕ) (s : Seated P L Q) (b b' : Bench P D Q L) → get b.sessions key ≡ Some s → s.session.ended ≡ None → IsTurned takes busies key s b b' → TurnsAt takes busies ready key b b'
+  turns_lives key s b b' at n t = subst (λ (o : Option (Seated P L Q)). TurnsIf takes busies ready o key b b') (sym at) (subst (λ (o : Option End). TurnsBy takes busies ready o key s b b') (sym n) (inl t))
+
+  -- one that isn't due
+  pub turns_passed : (key : ℕ) (s : Seated P L Q) (b : Bench P D Q L) → get b.sessions key ≡ Some s → s.session.ended ≡ None → s.due ≡ false → ready s.link false → TurnsAt takes busies ready key b b
+  turns_passed key s b at n due link =
+      subst (λ (o : Option (Seated P L Q)). TurnsIf takes busies ready o key b b) (sym at) (subst (λ (o : Option End). TurnsBy takes busies ready o key s b b) (sym n) (inr (record { undue = due; unready = link; same = refl })))
+
+  turned_by : (key : ℕ) (s : Seated P L Q) (b b' : Bench P D Q L) → AlwaysReady ready → IsTurned takes busies key s b b' ⊎ IsPassed takes busies ready s b b' → IsTurned takes busies key s b b'
+  turned_by key s b b' always (inl t) = t
+  turned_by key s b b' always (inr p) = absurd (let n : false ≡ true = always s.link false p.unready in cc)
+
+  -- where links are always ready, each that lives takes a turn
+  pub turns_always : AlwaysReady ready → (key : ℕ) (s : Seated P L Q) (b b' : Bench P D Q L) → get b.sessions key ≡ Some s → s.session.ended ≡ None → TurnsAt takes busies ready key b b' → IsTurned takes busies key s b b'
+  turns_always always key s b b' at n t =
+      turned_by key s b b' always (subst (λ (o : Option End). TurnsBy takes busies ready o key s b b') n (subst (λ (o : Option (Seated P L Q)). TurnsIf takes busies ready o key b b') at t))
 
 module _ {P D Q L : Type 0} (told : L → Option LinkTold) (counts : L → LinkCounts) (doors : D → DoorTold) (closes : P → SessionState Q → Leaving → P → SessionState Q → Type 0) where
   closes_by_over : (o : Option End) (key : ℕ) (s : Seated P L Q) (b b' : Bench P D Q L) → o ≢ None → IsClosed told counts doors closes key s b b' → ClosesBy told counts doors closes o key s b b'
@@ -405,9 +419,9 @@ module _ {P D K Q L : Type 0} where
   pub keeps_trans : (fits : P → ℕ → Q → Type 0) (rules : P → PortRules) (root : P → Histories) (u v w : WorkerState P D K Q L) → KeepsOn fits rules root u v → KeepsOn fits rules root v w → KeepsOn fits rules root u w
   keeps_trans fits rules root u v w a b = record { terms = b.terms ∙ a.terms; port = ahead_trans fits rules root u.bench.port v.bench.port w.bench.port a.port b.port; labels = b.labels ∙ a.labels }
 
-  pub rounds_at : (told : L → Option LinkTold) (counts : L → LinkCounts) (doors : D → DoorTold) (takes : P → Seated P L Q → Turn → P → Seated P L Q → Type 0) (closes : P → SessionState Q → Leaving → P → SessionState Q → Type 0)
-      (files : P → Recorder P K Q → RecTurn → P → Recorder P K Q → Type 0) (w v w' : WorkerState P D K Q L) (a : Round) → w ≡ v → Rounds told counts doors takes closes files w a w' → Rounds told counts doors takes closes files v a w'
-  rounds_at told counts doors takes closes files w v w' a e r = subst (λ (x : WorkerState P D K Q L). Rounds told counts doors takes closes files x a w') e r
+  pub rounds_at : (told : L → Option LinkTold) (counts : L → LinkCounts) (doors : D → DoorTold) (takes : P → Seated P L Q → Turn → P → Seated P L Q → Type 0) (busies : P → ℕ) (ready : L → Bool → Type 0) (closes : P → SessionState Q → Leaving → P → SessionState Q → Type 0)
+      (files : P → Recorder P K Q → RecTurn → P → Recorder P K Q → Type 0) (w v w' : WorkerState P D K Q L) (a : Round) → w ≡ v → Rounds told counts doors takes busies ready closes files w a w' → Rounds told counts doors takes busies ready closes files v a w'
+  rounds_at told counts doors takes busies ready closes files w v w' a e r = subst (λ (x : WorkerState P D K Q L). Rounds told counts doors takes busies ready closes files x a w') e r
 
   pub records_at : (step : ℕ → Bench P D Q L × List (Recorder P K Q) → Bench P D Q L × List (Recorder P K Q) → Type 0) (b b' : Bench P D Q L) (old items new xs : List (Recorder P K Q)) → old ≡ items → xs ≡ new
       → Walks step (length old) (b, old) (b', new) → Walks step (length items) (b, items) (b', xs)
@@ -415,10 +429,10 @@ module _ {P D K Q L : Type 0} where
       subst (λ (l : List (Recorder P K Q)). Walks step (length l) (b, l) (b', xs)) e (subst (λ (l : List (Recorder P K Q)). Walks step (length old) (b, old) (b', l)) (sym f) w)
 
   -- a round that leaves none, and a door that is done
-  pub has_run : (told : L → Option LinkTold) (counts : L → LinkCounts) (doors : D → DoorTold) (takes : P → Seated P L Q → Turn → P → Seated P L Q → Type 0) (closes : P → SessionState Q → Leaving → P → SessionState Q → Type 0)
-      (files : P → Recorder P K Q → RecTurn → P → Recorder P K Q → Type 0) (fits : P → ℕ → Q → Type 0) (rules : P → PortRules) (w w' : WorkerState P D K Q L) (a : Round) → Rounds told counts doors takes closes files w a w'
+  pub has_run : (told : L → Option LinkTold) (counts : L → LinkCounts) (doors : D → DoorTold) (takes : P → Seated P L Q → Turn → P → Seated P L Q → Type 0) (busies : P → ℕ) (ready : L → Bool → Type 0) (closes : P → SessionState Q → Leaving → P → SessionState Q → Type 0)
+      (files : P → Recorder P K Q → RecTurn → P → Recorder P K Q → Type 0) (fits : P → ℕ → Q → Type 0) (rules : P → PortRules) (w w' : WorkerState P D K Q L) (a : Round) → Rounds told counts doors takes busies ready closes files w a w'
       → IsSound fits rules doors w'.terms w'.bench → a.closed ≡ true → a.live ≡ 0 → HasRun doors w'
-  has_run told counts doors takes closes files fits rules w w' a r s closed live = record {
+  has_run told counts doors takes busies ready closes files fits rules w w' a r s closed live = record {
     none = ap (λ (x : Round). x.live) (sym r.answers) ∙ live;
     done = done_if (doors w'.bench.door).closed (doors w'.bench.door).given (let f = s.few in let g = s.given in omega arith) (ap (λ (x : Round). x.closed) (sym r.answers) ∙ closed);
   }

@@ -1,5 +1,5 @@
 -- ONE ROUND OF A WORKER: a link if one comes, a turn of each session, a close of each that has ended, a turn of each recorder
-use Rattle.std.specs.Prelude.{◌≡◌, ◌⊎◌, ◌≤◌, ◌+◌, ◌^◌, ◌&&◌, ◌||◌, ℕ, Bool, true, false, zero, suc, nat_lt}
+use Rattle.std.specs.Prelude.{◌≡◌, ◌⊎◌, ◌≤◌, ◌+◌, ◌^◌, ◌&&◌, ◌||◌, ℕ, Bool, true, false, zero, suc, nat_lt, is_some}
 use Rattle.std.specs.Prelude.{List, length, slice_get, slice_set, Option, Some, None}
 use Rattle.slab.specs.Slab.{get, slab_len, Updates}
 use Rattle.relay_outside.specs.Doors.{DoorTold, Knocks, returned, with_back}
@@ -39,7 +39,7 @@ pub record IsAdmitted {P D Q L : Type 0} (t : Terms) (link : L) (b b' : Bench P 
   pub free : get b.sessions key ≡ None
   pub came : SessionState Q
   pub new : IsNewSession t b.had came
-  pub there : Updates b.sessions b'.sessions key (Some (record { session = came; link = link; over = false; asked = None }))
+  pub there : Updates b.sessions b'.sessions key (Some (record { session = came; link = link; over = false; asked = None; due = true; stream = None; pushes = 0 }))
   pub count : slab_len b'.sessions ≡ slab_len b.sessions + 1
   pub same : b' ≡ record b { door = b'.door; sessions = b'.sessions; had = b.had + 1; moved = true }
 
@@ -71,13 +71,23 @@ pub record WalksAll {P D Q L : Type 0} (step : ℕ → Bench P D Q L → Bench P
   pub all : EndsAt last b
   pub walk : Walks step last b b'
 
--- ---- the session at a key takes a turn
+-- ---- the session at a key takes a turn, if it is due
 
-module _ {P D Q L : Type 0} (takes : P → Seated P L Q → Turn → P → Seated P L Q → Type 0) where
+-- one takes a turn in the next round whatever its link says after a turn that moved, that left a call that waits, or in which the port
+-- was busy once more
+abbrev pub leaves_due : {Q : Type 0} → ℕ → ℕ → Turn → SessionState Q → Bool
+leaves_due before after answer s = is_moved answer || (is_some s.parts.kept || nat_lt before after)
+
+-- links that never answer that they aren't ready, as those in memory
+abbrev pub AlwaysReady : {L : Type 0} → (L → Bool → Type 0) → Type 0
+AlwaysReady {L} ready = (l : L) (answer : Bool) → ready l answer → answer ≡ true
+
+module _ {P D Q L : Type 0} (takes : P → Seated P L Q → Turn → P → Seated P L Q → Type 0) (busies : P → ℕ) where
   pub record IsTurned (key : ℕ) (s : Seated P L Q) (b b' : Bench P D Q L) : Type 0 where
     pub now : Seated P L Q
     pub answer : Turn
     pub turn : takes b.port s answer b'.port now
+    pub due : now.due ≡ leaves_due (busies b.port) (busies b'.port) answer now.session
     pub there : Updates b.sessions b'.sessions key (Some now)
     pub count : slab_len b'.sessions ≡ slab_len b.sessions
     pub same : b' ≡ record b {
@@ -88,17 +98,24 @@ module _ {P D Q L : Type 0} (takes : P → Seated P L Q → Turn → P → Seate
       worn = b.worn || is_worn answer;
     }
 
-  -- one that has ended does nothing
-  abbrev pub TurnsBy : Option End → ℕ → Seated P L Q → Bench P D Q L → Bench P D Q L → Type 0
-  TurnsBy None key s b b' = IsTurned key s b b'
-  TurnsBy (Some e) key s b b' = b' ≡ b
+  module _ (ready : L → Bool → Type 0) where
+    -- it takes no turn, and stays as it is: it isn't due, and its link has answered that it isn't ready
+    pub record IsPassed (s : Seated P L Q) (b b' : Bench P D Q L) : Type 0 where
+      pub undue : s.due ≡ false
+      pub unready : ready s.link false
+      pub same : b' ≡ b
 
-  abbrev pub TurnsIf : Option (Seated P L Q) → ℕ → Bench P D Q L → Bench P D Q L → Type 0
-  TurnsIf None key b b' = b' ≡ b
-  TurnsIf (Some s) key b b' = TurnsBy s.session.ended key s b b'
+    -- one that has ended does nothing
+    abbrev pub TurnsBy : Option End → ℕ → Seated P L Q → Bench P D Q L → Bench P D Q L → Type 0
+    TurnsBy None key s b b' = IsTurned key s b b' ⊎ IsPassed s b b'
+    TurnsBy (Some e) key s b b' = b' ≡ b
 
-  abbrev pub TurnsAt : ℕ → Bench P D Q L → Bench P D Q L → Type 0
-  TurnsAt key b b' = TurnsIf (get b.sessions key) key b b'
+    abbrev pub TurnsIf : Option (Seated P L Q) → ℕ → Bench P D Q L → Bench P D Q L → Type 0
+    TurnsIf None key b b' = b' ≡ b
+    TurnsIf (Some s) key b b' = TurnsBy s.session.ended key s b b'
+
+    abbrev pub TurnsAt : ℕ → Bench P D Q L → Bench P D Q L → Type 0
+    TurnsAt key b b' = TurnsIf (get b.sessions key) key b b'
 
 -- ---- the session at a key is closed, if it has ended
 
@@ -198,14 +215,14 @@ abbrev pub answered : {P D Q L : Type 0} → (D → DoorTold) → Bench P D Q L 
 answered doors b = record { moved = b.moved; live = slab_len b.sessions; closed = is_done (doors b.door); refused = b.dropped }
 
 module _ {P D K Q L : Type 0} (told : L → Option LinkTold) (counts : L → LinkCounts) (doors : D → DoorTold)
-    (takes : P → Seated P L Q → Turn → P → Seated P L Q → Type 0) (closes : P → SessionState Q → Leaving → P → SessionState Q → Type 0)
+    (takes : P → Seated P L Q → Turn → P → Seated P L Q → Type 0) (busies : P → ℕ) (ready : L → Bool → Type 0) (closes : P → SessionState Q → Leaving → P → SessionState Q → Type 0)
     (files : P → Recorder P K Q → RecTurn → P → Recorder P K Q → Type 0) where
   pub record Rounds (w : WorkerState P D K Q L) (answer : Round) (w' : WorkerState P D K Q L) : Type 0 where
     pub admitted : Bench P D Q L
     pub turned : Bench P D Q L
     pub closed : Bench P D Q L
     pub admits : AdmitsIf told counts doors w.terms (asks_door w.terms w.bench) (begun w.bench) admitted
-    pub turns : WalksAll (TurnsAt takes) admitted turned
+    pub turns : WalksAll (TurnsAt takes busies ready) admitted turned
     pub closings : WalksAll (ClosesAt told counts doors closes) turned closed
     pub records : Walks (RecordsAt files) (length w.recorders) (closed, w.recorders) (w'.bench, w'.recorders)
     pub terms : w'.terms ≡ w.terms

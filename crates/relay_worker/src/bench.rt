@@ -1,5 +1,5 @@
 //! What a worker has in hand: its port, its door, and its sessions with their links.
-ghost use Rattle.std.specs.Prelude.{◌≡◌, ◌≢◌, All, length, map, true, None, is_some};
+ghost use Rattle.std.specs.Prelude.{◌≡◌, ◌≢◌, ◌||◌, All, length, map, true, false, None, is_some, nat_lt};
 ghost use Rattle.stream_registry.specs.Names.{places};
 ghost use Rattle.relay_session.specs.Onward.{GoesOn};
 ghost use Rattle.relay_session.specs.Places.{AskedAlone, IsAt, IsOffered};
@@ -8,17 +8,18 @@ ghost use Rattle.relay_session.specs.SessionState.{ended_by};
 ghost use Rattle.relay_worker.specs.Benches.{AreFiled, IsFiled, IsSound};
 ghost use Rattle.relay_worker.specs.Filed.{TakesTurn as FileTurn, Tallies, is_ready};
 ghost use Rattle.relay_worker.specs.Rounds.{AdmitsIf, ClosesAt, HandsBack, Recorded, RecordsAt, TurnsAt, Walks, WalksAll};
-ghost use Rattle.relay_worker.specs.Rounds.{answered, asks_door, has_left, is_starved, is_written, starves};
+ghost use Rattle.relay_worker.specs.Rounds.{answered, asks_door, has_left, is_starved, is_written, leaves_due, starves};
 ghost use Rattle.relay_worker.specs.Running.{GoesAhead, IsReadied, label_of};
 ghost use Rattle.relay_worker.specs.Sessions.{Closes, TakesTurn, is_moved, is_spent, is_worn, lacks_memory, wears_out};
 
+use crate::hints::{Parts, pushes_at, tell_pushed, tell_turn};
 use crate::recorder::Recorder;
 use crate::round::Round;
-use crate::telling::{Before, NotingDesk, Request, told};
+use crate::telling::{Before, NotingDesk, Request, granted, told};
 use media_recorder::{RecEnd, RecTurn};
 use relay_base::Limits;
 use relay_outside::{Door, Knock, Link, Rest, Sink};
-use relay_session::{Desk, End, Leaving, Session, Turn, decided_law};
+use relay_session::{Active, Desk, End, Leaving, Session, Turn, decided_law};
 use slab::Slab;
 use std::alloc::Global;
 use std::cell::Cell;
@@ -33,29 +34,76 @@ pub struct Terms {
     pub limits: Limits,
 }
 
-/// A session with its link. `over` says that it has ended, `asked` what its peer has asked for that waits or was granted.
+/// A session with its link. `over` says that it has ended, `asked` what its peer has asked for that waits or was granted. `due`
+/// says that it takes a turn in the next round whatever its link says: it is new, or its last turn moved, or has left a call that waits,
+/// or found the port busy. `stream` is the number for hints of the last stream that was granted to it, and `pushes` how often
+/// something was pushed to the one that it plays, before its last turn.
 #[derive(Drop)]
 pub struct Seated<P: StreamPort, L: Link> {
     pub session: Session<P>,
     pub link: L,
     pub over: bool,
     pub asked: Option<Request>,
+    pub due: bool,
+    pub stream: Option<u32>,
+    pub pushes: u64,
 }
 
 impl<P: StreamPort, L: Link> Seated<P, L> {
+    // Which stream it publishes, and which it plays.
+    fn parts(&self) -> Parts {
+        match self.session.active() {
+            Active::Nothing => Parts {
+                publishes: None,
+                plays: None,
+            },
+            Active::Publishes => Parts {
+                publishes: self.stream,
+                plays: None,
+            },
+            Active::Plays { player: _ } => Parts {
+                publishes: None,
+                plays: self.stream,
+            },
+        }
+    }
+
+    // Whether it takes a turn in this round.
+    fn is_due<R: Rest>(&self, rest: &R) -> bool
+        ensures { result ≡ false → (self.now.due ≡ false) × L.ready self.now.link false }
+    {
+        if self.due {
+            return true;
+        }
+        if self.link.is_ready() {
+            return true;
+        }
+        pushes_at(rest, self.parts().plays) != self.pushes
+    }
+
     // One turn of a session that lives.
-    fn turn<G: Desk>(&mut self, alloc: Global, port: &mut P, desk: &G) -> Turn
+    fn turn<R: Rest, G: Desk>(
+        &mut self,
+        alloc: Global,
+        port: &mut P,
+        rest: &mut R,
+        desk: &G,
+    ) -> Turn
         requires living { self.old.session.ended ≡ None }
         requires at { IsAt (P.fits port.old) (places (P.rules port.old)) self.old.session.parts self.old.session.seat }
         requires offered { IsOffered (G.grants desk.now) (places (P.rules port.old)) }
         ensures at { IsAt (P.fits port.new) (places (P.rules port.new)) self.new.session.parts self.new.session.seat }
         ensures over { self.new.over ≡ is_some self.new.session.ended }
         ensures ahead { GoesAhead P.fits P.rules P.root port.old port.new }
+        ensures due { self.new.due ≡ leaves_due (P.busies port.old) (P.busies port.new) result self.new.session }
         ensures turn { TakesTurn (AskedAlone P.fits P.rules P.root P.seen P.count P.wants P.busies P.adds P.kin P.branches)
             (GoesOn P.fits P.rules P.root P.seen P.busies)
             (G.grants desk.now) L.hears L.says port.old self.old result port.new self.new }
     {
         decided_law();
+        let was = self.parts();
+        let pushes = pushes_at(rest, was.plays);
+        let busies = port.busies();
         let before = Before::of(&self.session);
         let noting = NotingDesk {
             inner: desk,
@@ -64,14 +112,18 @@ impl<P: StreamPort, L: Link> Seated<P, L> {
         let answer = self.session.turn(alloc, port, &mut self.link, &noting);
         self.over = is_over(answer);
         let NotingDesk { inner: _, noted } = noting;
-        self.asked = told(
-            &self.link,
-            &self.session,
-            before,
-            self.asked,
-            noted.into_inner(),
-            answer,
+        let noted = noted.into_inner();
+        self.stream = granted(port, &self.session, self.stream, noted);
+        self.asked = told(&self.link, &self.session, before, self.asked, noted, answer);
+        self.pushes = pushes;
+        self.due = leaves_due(
+            busies,
+            port.busies(),
+            is_moved(answer),
+            self.session.waits(),
         );
+        let now = self.parts();
+        tell_turn(rest, answer, was, now);
         answer
     }
 
@@ -88,6 +140,14 @@ impl<P: StreamPort, L: Link> Seated<P, L> {
     {
         self.session.close(port)
     }
+}
+
+/// Whether a session takes a turn in the next round whatever its link says, after a turn that moved something or not and has left a
+/// call that waits or none, before and after which so many calls of the port were answered Busy.
+pub fn leaves_due(before: u64, after: u64, moved: bool, waits: bool) -> bool
+    ensures { result ≡ (moved || (waits || nat_lt before after)) }
+{
+    moved || (waits || before < after)
 }
 
 // Whether the session has left its stream.
@@ -170,7 +230,7 @@ fn is_starved(answer: RecTurn) -> bool
     }
 }
 
-// Tells the others that something moved.
+// Says that something moved here.
 fn wake<R: Rest>(rest: &mut R, moved: bool) {
     if moved {
         rest.moved();
@@ -220,6 +280,9 @@ impl<P: StreamPort, D: Door> Bench<P, D> {
                     link,
                     over: false,
                     asked: None,
+                    due: true,
+                    stream: None,
+                    pushes: 0,
                 });
                 self.had += 1;
                 self.moved = true;
@@ -232,7 +295,7 @@ impl<P: StreamPort, D: Door> Bench<P, D> {
         }
     }
 
-    // The session at this key takes a turn, if it lives.
+    // The session at this key takes a turn, if it lives and is due.
     fn turn_at<R: Rest, G: Desk>(
         &mut self,
         alloc: Global,
@@ -247,7 +310,7 @@ impl<P: StreamPort, D: Door> Bench<P, D> {
         ensures ahead { GoesAhead P.fits P.rules P.root self.old.port self.new.port }
         ensures turns { TurnsAt (TakesTurn (AskedAlone P.fits P.rules P.root P.seen P.count P.wants P.busies P.adds P.kin P.branches)
             (GoesOn P.fits P.rules P.root P.seen P.busies)
-            (G.grants desk.now) D.Link.hears D.Link.says) key self.old self.new }
+            (G.grants desk.now) D.Link.hears D.Link.says) P.busies D.Link.ready key self.old self.new }
     {
         let _ = terms;
         let Some(seated) = self.sessions.get(key) else {
@@ -256,10 +319,13 @@ impl<P: StreamPort, D: Door> Bench<P, D> {
         if seated.over {
             return;
         }
+        if !seated.is_due(rest) {
+            return;
+        }
         let Some(seated) = self.sessions.get_mut(key) else {
             return;
         };
-        let answer = seated.turn(alloc, &mut self.port, desk);
+        let answer = seated.turn(alloc, &mut self.port, rest, desk);
         self.moved |= is_moved(answer);
         self.refused |= is_spent(answer);
         self.worn |= is_worn(answer);
@@ -267,7 +333,7 @@ impl<P: StreamPort, D: Door> Bench<P, D> {
     }
 
     // The session at this key is closed, if it has ended, and its link is handed back.
-    fn close_at(&mut self, terms: &Terms, key: usize)
+    fn close_at<R: Rest>(&mut self, rest: &mut R, terms: &Terms, key: usize)
         requires sound { IsSound P.fits P.rules D.told terms.now self.old }
         ensures sound { IsSound P.fits P.rules D.told terms.now self.new }
         ensures ahead { GoesAhead P.fits P.rules P.root self.old.port self.new.port }
@@ -283,7 +349,9 @@ impl<P: StreamPort, D: Door> Bench<P, D> {
         let Some(mut seated) = self.sessions.try_remove(key) else {
             return;
         };
+        let was = seated.parts();
         let answer = seated.close(&mut self.port);
+        tell_pushed(rest, was.publishes);
         if has_left(answer) {
             self.hand_back(seated);
             return;
@@ -302,6 +370,9 @@ impl<P: StreamPort, D: Door> Bench<P, D> {
             link,
             over: _,
             asked: _,
+            due: _,
+            stream: _,
+            pushes: _,
         } = seated;
         drop(session);
         self.moved = true;
@@ -311,7 +382,7 @@ impl<P: StreamPort, D: Door> Bench<P, D> {
         }
     }
 
-    // One turn of each session, in the order of the keys.
+    // One turn of each session that is due, in the order of the keys.
     pub(crate) fn turn_all<R: Rest, G: Desk>(
         &mut self,
         alloc: Global,
@@ -324,7 +395,7 @@ impl<P: StreamPort, D: Door> Bench<P, D> {
         ensures sound { IsSound P.fits P.rules D.told terms.now self.new }
         ensures ahead { GoesAhead P.fits P.rules P.root self.old.port self.new.port }
         ensures turns { WalksAll (TurnsAt (TakesTurn (AskedAlone P.fits P.rules P.root P.seen P.count P.wants P.busies P.adds P.kin P.branches)
-            (GoesOn P.fits P.rules P.root P.seen P.busies) (G.grants desk.now) D.Link.hears D.Link.says)) self.old self.new }
+            (GoesOn P.fits P.rules P.root P.seen P.busies) (G.grants desk.now) D.Link.hears D.Link.says) P.busies D.Link.ready) self.old self.new }
     {
         for key in 0..self.sessions.capacity() {
             self.turn_at(alloc, rest, desk, terms, key);
@@ -332,7 +403,7 @@ impl<P: StreamPort, D: Door> Bench<P, D> {
     }
 
     // One close of each session that has ended, in the order of the keys.
-    pub(crate) fn close_all(&mut self, terms: &Terms)
+    pub(crate) fn close_all<R: Rest>(&mut self, rest: &mut R, terms: &Terms)
         requires sound { IsSound P.fits P.rules D.told terms.now self.old }
         ensures sound { IsSound P.fits P.rules D.told terms.now self.new }
         ensures ahead { GoesAhead P.fits P.rules P.root self.old.port self.new.port }
@@ -340,7 +411,7 @@ impl<P: StreamPort, D: Door> Bench<P, D> {
             (Closes P.fits P.rules P.root P.seen P.count P.wants P.busies P.adds P.kin P.branches)) self.old self.new }
     {
         for key in 0..self.sessions.capacity() {
-            self.close_at(terms, key);
+            self.close_at(rest, terms, key);
         }
     }
 

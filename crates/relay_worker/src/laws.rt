@@ -1,5 +1,5 @@
 //! Laws of what a worker leaves.
-ghost use Rattle.std.specs.Prelude.{ℕ, Bool};
+ghost use Rattle.std.specs.Prelude.{◌≡◌, ℕ, Bool, None, Some};
 ghost use Rattle.command_dialog.specs.declared.types.Ask.{Ask};
 ghost use Rattle.command_dialog.specs.declared.types.Grant.{Grant};
 ghost use Rattle.relay_outside.specs.Doors.{DoorTold};
@@ -7,11 +7,31 @@ ghost use Rattle.relay_session.specs.SeatState.{GoOn};
 ghost use Rattle.relay_session.specs.SeatVisits.{calls_of};
 ghost use Rattle.relay_session.specs.Session.{session};
 ghost use Rattle.relay_worker.specs.Books.{Account, Accounted, Settled};
+ghost use Rattle.relay_worker.specs.Rounds.{AlwaysReady, IsTurned, TurnsAt};
+ghost use Rattle.relay_worker.specs.declared.bench.Bench.{Bench};
+ghost use Rattle.relay_worker.specs.declared.bench.Seated.{Seated};
 ghost use Rattle.relay_worker.specs.declared.bench.Terms.{Terms};
+ghost use Rattle.relay_worker.specs.Sessions.{TakesTurn};
+ghost use Rattle.relay_session.specs.Onward.{GoesOn};
+ghost use Rattle.relay_session.specs.Places.{AskedAlone};
+ghost use Rattle.slab.specs.Slab.{get};
 ghost use Rattle.session_owed.specs.Published.{published, pushed_by};
 ghost use Rattle.stream_model.specs.declared.calls.Shape.{Shape};
 ghost use Rattle.stream_registry.specs.Told.{Histories};
 ghost use Rattle.turn_gate.specs.Histories.{Begins};
+
+use relay_outside::Door;
+use stream_registry::StreamPort;
+
+/// Over links that are always ready, as those in memory are, each session that lives takes a turn in each round.
+pub fn ready_law<P: StreamPort, D: Door>()
+    ensures { AlwaysReady D.Link.ready → (desk : Ask → Grant) (key : ℕ) (s : Seated P D.Link P.Pass) (b b' : Bench P D P.Pass D.Link)
+        → get b.sessions key ≡ Some s → s.session.ended ≡ None
+        → TurnsAt (TakesTurn (AskedAlone P.fits P.rules P.root P.seen P.count P.wants P.busies P.adds P.kin P.branches)
+        (GoesOn P.fits P.rules P.root P.seen P.busies) desk D.Link.hears D.Link.says) P.busies D.Link.ready key b b'
+        → IsTurned (TakesTurn (AskedAlone P.fits P.rules P.root P.seen P.count P.wants P.busies P.adds P.kin P.branches)
+        (GoesOn P.fits P.rules P.root P.seen P.busies) desk D.Link.hears D.Link.says) P.busies key s b b' }
+{}
 
 /// What is left of a worker's books still holds once the streams' histories have gone on.
 pub fn settled_law()

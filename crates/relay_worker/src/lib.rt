@@ -6,6 +6,7 @@
 #![tactic(auto)]
 
 mod bench;
+mod hints;
 mod laws;
 mod recorder;
 mod round;
@@ -13,8 +14,9 @@ mod running;
 mod telling;
 mod worker;
 
-pub use bench::{Bench, Seated, Terms};
-pub use laws::{published_law, settled_law};
+pub use bench::{Bench, Seated, Terms, leaves_due};
+pub use hints::{open_number, pushes_at, stream_number};
+pub use laws::{published_law, ready_law, settled_law};
 pub use recorder::{Parted, Recorder, RecordingForm};
 pub use round::Round;
 pub use running::run_all;

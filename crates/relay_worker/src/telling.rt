@@ -1,5 +1,6 @@
 //! What a link is told of its session, each thing once, as it changes.
 
+use crate::hints::stream_number;
 use command_dialog::{Ask, Grant, Role};
 use relay_outside::{Denied, Ending, Link, News};
 use relay_session::{Active, Desk, End, Session, Turn};
@@ -65,6 +66,7 @@ impl<G: Desk> Desk for NotingDesk<'_, G> {
 pub(crate) struct Before {
     connected: bool,
     active: Active,
+    held_back: bool,
 }
 
 impl Before {
@@ -72,6 +74,7 @@ impl Before {
         Before {
             connected: session.app().is_some(),
             active: session.active(),
+            held_back: is_held_back(session),
         }
     }
 }
@@ -93,12 +96,14 @@ pub(crate) fn told<P: StreamPort, L: Link>(
     }
     let mut asked = asked;
     let mut was = before.active;
+    let mut held_back_before = before.held_back;
     if let Some(noted) = noted {
         if let Some(older) = asked {
             link.tell(over(older.role, was), app, older.name());
         }
         asked = judged(link, app, noted);
         was = Active::Nothing;
+        held_back_before = false;
     }
     if let Turn::Ended(end) = answer {
         link.tell(ended(end), app, name_of(&asked));
@@ -110,10 +115,40 @@ pub(crate) fn told<P: StreamPort, L: Link>(
     if let Some(news) = change(asked.role, was, now, waits) {
         link.tell(news, app, asked.name());
     }
+    if let Some(news) = pace(now, held_back_before, is_held_back(session)) {
+        link.tell(news, app, asked.name());
+    }
     if now == Active::Nothing && !waits {
         return None;
     }
     Some(asked)
+}
+
+// The number for hints of the stream that was granted last, to a session that had this one.
+pub(crate) fn granted<P: StreamPort>(
+    port: &P,
+    session: &Session<P>,
+    stream: Option<u32>,
+    noted: Option<Noted>,
+) -> Option<u32> {
+    let Some(noted) = noted else {
+        return stream;
+    };
+    match noted.grant {
+        Grant::Place(place) => Some(stream_number(
+            port,
+            app_of(session),
+            noted.asked.name(),
+            place,
+        )),
+        Grant::NoName => stream,
+        Grant::Refused => stream,
+    }
+}
+
+// Whether a session holds back what it owes to one that plays.
+fn is_held_back<P: StreamPort>(session: &Session<P>) -> bool {
+    matches!(session.active(), Active::Plays { player: _ }) && session.is_held_back()
 }
 
 // The application to which the peer of a session has connected, empty where it hasn't.
@@ -161,6 +196,18 @@ fn change(role: Role, was: Active, now: Active, waits: bool) -> Option<News> {
         Active::Plays { player: _ } => News::Plays,
     };
     (was == Active::Nothing).then_some(news)
+}
+
+// What is told of one that plays where its session holds back from now on, or no longer does.
+fn pace(now: Active, held_back_before: bool, held_back: bool) -> Option<News> {
+    if held_back_before == held_back {
+        return None;
+    }
+    match now {
+        Active::Nothing | Active::Publishes => None,
+        Active::Plays { player: _ } if held_back => Some(News::HeldBack),
+        Active::Plays { player: _ } => Some(News::Resumed),
+    }
 }
 
 // The end of a session, and the byte at which it came.

@@ -126,6 +126,7 @@ impl<P: StreamPort, D: Door, R: Rest, K: Sink> Worker<P, D, R, K> {
         ensures refused { OnErr result (self.new ≡ self.old) }
     {
         let _ = &self.bench;
+        self.rest.plays(recorder.place());
         if self.recorders.push(recorder).is_err() {
             return Err(OutOfMemory);
         }
@@ -153,13 +154,15 @@ impl<P: StreamPort, D: Door, R: Rest, K: Sink> Worker<P, D, R, K> {
         self.rest.pause();
     }
 
-    /// One round: the door is asked for a link where a place is free, each session takes one turn, each that has ended is
-    /// closed, and each recorder takes one turn. Each desk that is handed in is to be the same.
+    /// One round: the door is asked for a link where a place is free, each session that is due takes one turn, in the order of the
+    /// keys, each that has ended is closed, and each recorder takes one turn. One takes a turn for certain that is new, whose link is
+    /// ready, or whose last turn moved, or left a call that waits, or found the port busy; one that takes none stays as it is. Each
+    /// desk that is handed in is to be the same.
     pub fn round<G: Desk>(&mut self, desk: &G) -> Round
         requires offered { IsOffered (G.grants desk.now) (places (P.rules self.old.bench.port)) }
         ensures rounds { Rounds D.Link.told D.Link.counts D.told
             (TakesTurn (AskedAlone P.fits P.rules P.root P.seen P.count P.wants P.busies P.adds P.kin P.branches) (GoesOn P.fits P.rules P.root P.seen P.busies)
-            (G.grants desk.now) D.Link.hears D.Link.says)
+            (G.grants desk.now) D.Link.hears D.Link.says) P.busies D.Link.ready
             (Closes P.fits P.rules P.root P.seen P.count P.wants P.busies P.adds P.kin P.branches)
             (FileTurn P.fits P.rules P.root P.busies P.seen P.mine P.count K.takes K.holds) self.old result self.new }
         ensures keeps { KeepsOn P.fits P.rules P.root self.old self.new }
@@ -174,7 +177,7 @@ impl<P: StreamPort, D: Door, R: Rest, K: Sink> Worker<P, D, R, K> {
         self.bench.admit(self.alloc, &self.terms);
         self.bench
             .turn_all(self.alloc, &mut self.rest, desk, &self.terms);
-        self.bench.close_all(&self.terms);
+        self.bench.close_all(&mut self.rest, &self.terms);
         self.bench
             .record_all(&mut self.rest, self.recorders.as_mut_slice(), &self.terms);
         self.bench.round(&self.terms)

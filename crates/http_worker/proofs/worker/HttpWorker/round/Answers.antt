@@ -8,7 +8,7 @@ use Rattle.http_worker.proofs.worker.HttpWorker.round.Goals as goal
 
 pub returns-clause-rounds : goal.returns-clause-rounds
 returns-clause-rounds g c =
-    rounds_at _ _ _ _ _ _ c.args.self.now _ c.round.result c.self.view_is
+    rounds_at _ _ _ _ _ _ _ _ c.args.self.now _ c.round.result c.self.view_is
     (record {
       admitted = c.admit.new.self;
       turned = c.turn_all.new.self;
@@ -44,4 +44,5 @@ returns-clause-books g c works =
     subst (λ t. Works rules root g.P.StreamPort.seen g.D.Link.Link.told g.D.Link.Link.counts g.D.Door.told desk t c.close_all.new.self) (sym r.terms)
     (round_works rules root g.P.StreamPort.seen g.D.Link.Link.told g.D.Link.Link.counts g.D.Door.told desk w.terms fits g.P.StreamPort.count
     g.P.StreamPort.wants g.P.StreamPort.busies
-    g.D.Link.Link.hears c.link_law.ensures.heard g.D.Link.Link.says c.link_law.ensures.said fits w _ c.round.result refl sound r works)
+    g.D.Link.Link.hears c.link_law.ensures.heard g.D.Link.Link.says c.link_law.ensures.said
+    g.P.StreamPort.busies g.D.Link.Link.ready fits w _ c.round.result refl sound r works)

@@ -12,5 +12,5 @@ invariant-loop-key g l = record {
   sound : IsSound g.P.StreamPort.fits g.P.StreamPort.rules g.D.Door.told l.terms l.self;
   ahead : GoesAhead g.P.StreamPort.fits g.P.StreamPort.rules g.P.StreamPort.root l.fn.self.port l.self.port;
   offered : IsOffered (g.G.Desk.grants l.desk) (places (g.P.StreamPort.rules l.self.port));
-  walk : Walks (TurnsAt (TakesTurn (AskedAlone g.P.StreamPort.fits g.P.StreamPort.rules g.P.StreamPort.root g.P.StreamPort.seen g.P.StreamPort.count g.P.StreamPort.wants g.P.StreamPort.busies g.P.StreamPort.adds g.P.StreamPort.kin g.P.StreamPort.branches) (GoesOn g.P.StreamPort.fits g.P.StreamPort.rules g.P.StreamPort.root g.P.StreamPort.seen g.P.StreamPort.busies) (g.G.Desk.grants l.desk) g.D.Link.Link.hears g.D.Link.Link.says)) l.key l.fn.self l.self;
+  walk : Walks (TurnsAt (TakesTurn (AskedAlone g.P.StreamPort.fits g.P.StreamPort.rules g.P.StreamPort.root g.P.StreamPort.seen g.P.StreamPort.count g.P.StreamPort.wants g.P.StreamPort.busies g.P.StreamPort.adds g.P.StreamPort.kin g.P.StreamPort.branches) (GoesOn g.P.StreamPort.fits g.P.StreamPort.rules g.P.StreamPort.root g.P.StreamPort.seen g.P.StreamPort.busies) (g.G.Desk.grants l.desk) g.D.Link.Link.hears g.D.Link.Link.says) g.P.StreamPort.busies g.D.Link.Link.ready) l.key l.fn.self l.self;
 }

@@ -15,7 +15,7 @@ returns-then-seated-clause-turns g c =
     let s = c.in-Some.seated.now in
     let at = sym c.in-Some.ensures in
     let over = over_if s.session.ended s.over (c.requires.sound.seated c.args.key s at).over c.if-seated.true in
-    turns_over (TakesTurn asks goes (g.G.Desk.grants c.args.desk.now) g.D.Link.Link.hears g.D.Link.Link.says) c.args.key s b at over
+    turns_over (TakesTurn asks goes (g.G.Desk.grants c.args.desk.now) g.D.Link.Link.hears g.D.Link.Link.says) g.P.StreamPort.busies g.D.Link.Link.ready c.args.key s b at over
 
 pub turn-answer-requires-clause-living : goal.turn-answer-requires-clause-living
 turn-answer-requires-clause-living g c =
@@ -49,12 +49,13 @@ returns-clause-turns g c =
     let s = c.in-Some.seated.now in
     let u = c.in-Some-get_mut.seated.now in
     let n = c.turn-answer.new.self in
-    turns_lives (TakesTurn asks goes (g.G.Desk.grants c.args.desk.now) g.D.Link.Link.hears g.D.Link.Link.says) c.args.key u b _ (sym c.in-Some-get_mut.ensures.value)
+    turns_lives (TakesTurn asks goes (g.G.Desk.grants c.args.desk.now) g.D.Link.Link.hears g.D.Link.Link.says) g.P.StreamPort.busies g.D.Link.Link.ready c.args.key u b _ (sym c.in-Some-get_mut.ensures.value)
     (living_at (get b.sessions c.args.key) s u c.in-Some.ensures c.in-Some-get_mut.ensures.value (c.requires.sound.seated c.args.key s (sym c.in-Some.ensures)).over c.if-seated.false)
     (record {
       now = n;
       answer = c.turn-answer.result;
       turn = c.turn-answer.ensures.turn;
+      due = c.turn-answer.ensures.due;
       there = put_updates b.sessions c.args.key u n (sym c.in-Some-get_mut.ensures.value);
       count = put_len b.sessions c.args.key u n (sym c.in-Some-get_mut.ensures.value);
       same = rw (c.is_moved.ensures, c.is_spent.ensures, c.is_worn.ensures) refl;

@@ -34,7 +34,7 @@ returns-clause-rounds g c =
     let new = c.record_all.new.recorders in
     let items = c.self.inside.recorders.items in
     let a : length new ≡ length items = omega (arith, c.record_all.auto.recorders, ap length c.as_mut_slice.ensures.value) in
-    rounds_at _ _ _ _ _ _ _ c.args.self.now _ c.round.result c.self.view_is
+    rounds_at _ _ _ _ _ _ _ _ _ c.args.self.now _ c.round.result c.self.view_is
     (record {
       admitted = c.admit.new.self;
       turned = c.turn_all.new.self;
@@ -87,4 +87,4 @@ returns-clause-books g c works =
     subst (λ t. Works rules root g.P.StreamPort.seen g.D.Link.Link.told g.D.Link.Link.counts g.D.Door.told desk t c.record_all.new.self) (sym r.terms)
     (round_works rules root g.P.StreamPort.seen g.D.Link.Link.told g.D.Link.Link.counts g.D.Door.told desk w.terms fits g.P.StreamPort.count g.P.StreamPort.wants g.P.StreamPort.busies g.P.StreamPort.adds g.P.StreamPort.kin g.P.StreamPort.branches files
     (λ x q a y q' k. let s = ahead_serves fits rules root g.P.StreamPort.busies (state_of q).seat.place x y k.serves in (s.fixed, s.roots))
-    g.D.Link.Link.hears c.link_law.ensures.heard g.D.Link.Link.says c.link_law.ensures.said c.decided_law.ensures fits w _ c.round.result refl sound r works)
+    g.D.Link.Link.hears c.link_law.ensures.heard g.D.Link.Link.says c.link_law.ensures.said c.decided_law.ensures g.P.StreamPort.busies g.D.Link.Link.ready fits w _ c.round.result refl sound r works)

@@ -12,7 +12,7 @@ returns-then-round-eq0-clause-keeps g c = keeps_trans g.P.StreamPort.fits g.P.St
 
 pub returns-then-round-eq0-clause-run : goal.returns-then-round-eq0-clause-run
 returns-then-round-eq0-clause-run g c =
-    has_run g.D.Link.Link.told g.D.Link.Link.counts g.D.Door.told _ _ _ g.P.StreamPort.fits g.P.StreamPort.rules c.loop.self c.round-round.new.self c.round-round.result c.round-round.ensures.rounds c.law.ensures.sound c.if-round.true c.if-round-eq0.true
+    has_run g.D.Link.Link.told g.D.Link.Link.counts g.D.Door.told _ _ _ _ _ g.P.StreamPort.fits g.P.StreamPort.rules c.loop.self c.round-round.new.self c.round-round.result c.round-round.ensures.rounds c.law.ensures.sound c.if-round.true c.if-round-eq0.true
 
 pub loop-preserved : goal.loop-preserved
 loop-preserved g c =
