@@ -1,5 +1,6 @@
 /* One call of a program to the system fails: the one whose number is in FAULT_AT, counted from 1. The file that FAULT_TOLD names is
- * made then. Counted are reads of standard input, files that are made, new names, and writes but those to standard error.
+ * made then. Counted are reads of standard input, files that are made, new names, writes but those to standard error, and what is to be
+ * written to the disk. With FAULT_SYNC nothing can be.
  *
  *     cc -shared -fPIC -o faults.so faults.c -ldl
  *     FAULT_AT=3 LD_PRELOAD=./faults.so relay remux < film.flv
@@ -61,6 +62,16 @@ int open(const char *name, int flags, ...)
             return -1;
     }
     return call(name, flags, mode);
+}
+
+int fsync(int fd)
+{
+    int (*call)(int) = real("fsync");
+    if (getenv("FAULT_SYNC")) {
+        errno = EIO;
+        return -1;
+    }
+    return fails(EIO) ? -1 : call(fd);
 }
 
 int rename(const char *from, const char *to)

@@ -74,7 +74,7 @@ def relayed(relay, folder):
     origin = Server(relay, home, {"cam": ""})
     here = edge(relay, other, origin.port)
     lines = lines_of(here)
-    expect(wait_for(lambda: says(lines, f"origin 127.0.0.1:{origin.port} plays live/cam")), f"relayed: the edge says {lines}")
+    expect(wait_for(lambda: says(lines, f'origin 127.0.0.1:{origin.port} plays "live/cam"')), f"relayed: the edge says {lines}")
     early = Client(here.port).open("play", "cam")
     for turn in range(2):
         sent = [picture(b"first"), inter(b"a"), inter(b"b"), picture(b"second"), inter(b"c")]
@@ -142,7 +142,7 @@ def refused(relay, folder):
     origin = Server(relay, home, {"cam": ""})
     here = edge(relay, other, origin.port, "accept = 1", name="none?hunter2")
     lines = lines_of(here)
-    want = f"origin 127.0.0.1:{origin.port} refused live/none: it has no such stream, or wants another key"
+    want = f'origin 127.0.0.1:{origin.port} refused "live/none": it has no such stream, or wants another key'
     expect(wait_for(lambda: says(here.said + lines, want)), f"refused: the edge says {here.said}, {lines}")
     Client(here.port).open("play", "cam").close()
     out, status = here.process.stdout.read().decode(), here.process.wait(30)
@@ -158,7 +158,7 @@ def in_use(relay, folder):
     origin = Server(relay, home, {"cam": ""})
     here = edge(relay, other, origin.port, "accept = 1")
     lines = lines_of(here)
-    expect(wait_for(lambda: says(here.said + lines, "plays live/cam")), "in use: the origin doesn't play")
+    expect(wait_for(lambda: says(here.said + lines, 'plays "live/cam"')), "in use: the origin doesn't play")
     own = begin(here.port)
     publisher = begin(origin.port)
     want = f"origin 127.0.0.1:{origin.port} isn't pulled: somebody publishes here"
@@ -199,7 +199,7 @@ def chained(relay, folder):
     ends = [edge(relay, other, first.port) for other in others[1:]]
     for server in (first, *ends):
         lines = lines_of(server)
-        expect(wait_for(lambda: says(lines, "plays live/cam")), f"chained: an edge says {lines}")
+        expect(wait_for(lambda: says(lines, 'plays "live/cam"')), f"chained: an edge says {lines}")
     players = [Client(server.port).open("play", "cam") for server in (origin, first, *ends)]
     publisher = begin(origin.port)
     sent = [picture(b"%d" % place) if place % 10 == 0 else inter(b"%d" % place) for place in range(100)]

@@ -7,6 +7,7 @@ Times are bounded from below, and from above by much more than they take.
 import fcntl
 import json
 import os
+import re
 import signal
 import socket
 import stat
@@ -44,6 +45,10 @@ def wait_for(holds, seconds=20):
             return True
         time.sleep(0.02)
     return holds()
+
+
+def has(lines, beginning):
+    return any(line.startswith(beginning) for line in lines)
 
 
 def address(client):
@@ -92,34 +97,41 @@ def logged(relay, folder):
     lines = lines_of(server)
     wants = []
     publisher = Client(server.port).open("publish", f"cam?{KEY}")
-    wants += [f"{address(publisher)} connected to live\n", f"{address(publisher)} publishes live/cam\n"]
+    wants += [f'{address(publisher)} connected to "live"\n', f'{address(publisher)} publishes "live/cam"\n']
     player = Client(server.port).open("play", f"cam?{KEY}")
-    wants.append(f"{address(player)} plays live/cam\n")
+    wants.append(f'{address(player)} plays "live/cam"\n')
     second = refused(server.port, "publish", f"cam?{KEY}")
-    wants.append(f"{address(second)} refused: somebody publishes live/cam\n")
+    wants.append(f'{address(second)} refused: somebody publishes "live/cam"\n')
     wrong = refused(server.port, "publish", "cam?guess")
-    wants.append(f"{address(wrong)} refused: wrong key for live/cam\n")
-    none = refused(server.port, "play", "a\x07\x1bb" + "x" * 100)
-    wants.append(f"{address(none)} refused: no such stream, live/a??b{'x' * 60}\n")
+    wants.append(f'{address(wrong)} refused: wrong key for "live/cam"\n')
+    # Nothing that a peer wrote stands outside of the quotation marks, or turns round what comes behind it.
+    none = refused(server.port, "play", "a\x07\x1bb\u202e\u2028\u2066\"" + "x" * 100)
+    wants.append(f'{address(none)} refused: no such stream, "live/a??b????{"x" * 50}"\n')
     publisher.socket.sendall(message(VIDEO, 0, 1, CONFIGURATION))
     publisher.call(0, "deleteStream", sockets.number(0), b"\x05", sockets.number(1))
-    wants.append(f"{address(publisher)} left live/cam\n")
+    wants.append(f'{address(publisher)} left "live/cam"\n')
     expect(wait_for(lambda: wants[-1] in lines), "logged: a publisher that leaves isn't told")
     version = socket.create_connection(("127.0.0.1", server.port), timeout=20)
     version.sendall(b"\x06" + bytes(1536))
-    wants.append(f"{address(version)} ended: asked for another version of RTMP, at byte 0\n")
+    wants.append(f"{address(version)} ended: asked for another version of RTMP, at byte 0; ")
     chunk = connect(server.port)
     chunk.socket.sendall(b"\xc0" + bytes(64))
     closes(chunk.socket)
-    wants.append(f"{address(player)} ended: the peer closed the link\n")
+    wants.append(f"{address(player)} ended: the peer closed the link; ")
     player.socket.shutdown(socket.SHUT_WR)
     closes(player.socket)
     reset = connect(server.port)
-    wants.append(f"{address(reset)} ended: the link failed: Connection reset by peer (os error 104)\n")
+    wants.append(f"{address(reset)} ended: the link failed: Connection reset by peer (os error 104); ")
     reset.socket.setsockopt(socket.SOL_SOCKET, socket.SO_LINGER, struct.pack("ii", 1, 0))
     reset.close()
     for want in wants:
-        expect(wait_for(lambda: want in lines), f"logged: the log lacks {want!r}")
+        expect(wait_for(lambda: has(lines, want)), f"logged: the log lacks {want!r}")
+    for line in lines:
+        if " ended: " in line:
+            tally = re.search(r"; (\d+)\.\d s, (\d+) bytes in, (\d+) bytes out\n$", line)
+            expect(tally, f"logged: {line!r} has no time and bytes")
+            if tally and line.startswith(address(player)):
+                expect(int(tally[2]) > 3073 and int(tally[3]) > 3073, f"logged: a player's bytes are {line!r}")
     at_chunk = [line for line in lines if line.startswith(address(chunk) + " ended: sent a chunk that is no chunk, at byte ")]
     expect(len(at_chunk) == 1, "logged: a broken chunk isn't told with its byte")
     expect(not [line for line in lines if KEY in line or "guess" in line], "logged: a key is in the log")
@@ -148,13 +160,17 @@ def quiet(relay, folder):
     publisher = Client(server.port).open("publish", f"cam?{KEY}")
     wrong = refused(server.port, "publish", "cam?guess")
     wrong.until(b"NetStream.Publish.BadName")
-    said = f"{address(wrong)} refused: wrong key for live/cam\n"
+    said = f'{address(wrong)} refused: wrong key for "live/cam"\n'
     wrong.leave()
     publisher.leave()
     ends = server.end()
     expect((ends[0], ends[2]) == (0, said), f"quiet: at warn it says {ends[2]!r}")
     config = os.path.join(folder, "relay.toml")
-    for variable, value, wanted in (("RELAY_LOG", "loud", "off, error, warn, info or debug"), ("RELAY_SILENCE", "-1", "a number of seconds")):
+    for variable, value, wanted in (
+        ("RELAY_LOG", "loud", "off, error, warn, info or debug"),
+        ("RELAY_SILENCE", "-1", "a number of seconds"),
+        ("RELAY_LOG_TIME", "yes", "0 or 1"),
+    ):
         ran = subprocess.run([relay, "serve", config], env={**os.environ, variable: value}, capture_output=True, text=True, timeout=60)
         said = f"relay: {variable}: {wanted} is wanted\n"
         expect(ran.returncode == 2 and ran.stderr.startswith(said), f"quiet: {variable}={value} gives {ran.returncode}, {ran.stderr!r}")
@@ -209,8 +225,8 @@ def silent(relay, folder):
     for name, begin in silences.items():
         client, took = lasting(begin)
         expect(took is not None and took > 0.9, f"silent: {name} is gone after {took} s")
-        want = f"{address(client)} ended: silent for 1 s\n"
-        expect(wait_for(lambda: want in lines), f"silent: {name} isn't told, the log has {lines}")
+        want = f"{address(client)} ended: silent for 1 s; "
+        expect(wait_for(lambda: has(lines, want)), f"silent: {name} isn't told, the log has {lines}")
     # The name is free again.
     patiently(publisher)
     expect(not [line for line in lines if line.startswith(address(waiting) + " ")], "silent: a player that waits is gone")
@@ -255,20 +271,20 @@ def is_stuck(relay, folder):
             pass
 
     threading.Thread(target=read, daemon=True).start()
-    said = f"{address(stuck)} ended: silent for 3 s\n"
+    said = f"{address(stuck)} ended: silent for 3 s; "
     sent, begun = [CONFIGURATION], time.monotonic()
     # The system keeps some megabytes for it. All together is less than the stream's window.
     try:
-        while said not in lines and time.monotonic() - begun < 60:
+        while not has(lines, said) and time.monotonic() - begun < 60:
             sent.append(picture(b"%d;" % len(sent), 60000 if len(sent) < 80 else 20000))
             publisher.push(VIDEO, 10 * len(sent), sent[-1])
             if len(sent) >= 80:
                 time.sleep(0.05)
     except OSError:
         pass
-    on_time = time.monotonic() - begun > 2.9 and not [line for line in lines if line != said]
+    on_time = time.monotonic() - begun > 2.9 and not [line for line in lines if not line.startswith(said)]
     if on_time:
-        expect(said in lines, "stuck: a player that takes nothing stays")
+        expect(has(lines, said), "stuck: a player that takes nothing stays")
         expect(wait_for(lambda: len(seen) == len(sent)) and seen == sent, f"stuck: of {len(sent)} units the other player has {len(seen)}, or others")
     server.kill()
     return on_time
@@ -306,6 +322,7 @@ def stats(relay, folder):
     expect(streams.get("cam") == want, f"stats: the stream is {streams.get('cam')}")
     want = {"app": "live", "name": "other", "publisher": None, "players": 1, "broadcasts": 0}
     expect(streams.get("other") == want, f"stats: the other stream is {streams.get('other')}")
+    expect({link["over"] for link in told["links"]} == {"rtmp"}, f"stats: the links are {told['links']}")
     table = ask(relay, "stats", path)
     expect(table.returncode == 0 and len(table.stdout.splitlines()) == 3 + 7 + 2 + 2, f"stats: the table is {table.stdout!r}")
     expect(all(address(client) in table.stdout for client in players + [waiting]), "stats: the table lacks a player")
@@ -396,7 +413,7 @@ def stopped(relay, folder):
         expect(others[-1] == b"closed" and any(b"UnpublishNotify" in body for body in others), f"stopped: player {place} ends with {others[-2:]}")
         expect(video == recorded[-len(video):], f"stopped: player {place} lacks what was recorded")
     server.reading.join(20)
-    ends = [line for line in lines if line.endswith(" ended: the relay stops\n")]
+    ends = [line for line in lines if " ended: the relay stops; " in line]
     expect(len(ends) == 14, f"stopped: of 14 connections {len(ends)} are told to have ended so")
     closes(idle.socket)
 
@@ -515,7 +532,52 @@ def crowded(relay, folder):
     server.kill()
 
 
-TESTS = [logged, no_room, quiet, silent, stuck, stats, stopped, held_back, full, crowded]
+def recorded(relay, folder):
+    """What is told of recordings: a pipe whose reader comes late, a file, and a device that takes nothing. Who plays over HTTP is told from others."""
+    path, pipe = os.path.join(folder, "control"), os.path.join(folder, "pipe")
+    os.mkfifo(pipe)
+    streams = {"cam": f'flv = "{pipe}"\nts = "cam.ts"', "other": 'flv = "/dev/full"'}
+    server = Server(relay, folder, streams, 'http = "127.0.0.2:0"', RELAY_CONTROL=path, RELAY_LOG="info", RELAY_LOG_TIME="1")
+    lines = lines_of(server)
+    wait_for(lambda: any("listens on 127.0.0.2:" in line for line in server.said + lines))
+    web = next(line for line in server.said + lines if "listens on 127.0.0.2:" in line)
+    publisher = Client(server.port).open("publish", "cam")
+    player = socket.create_connection(("127.0.0.2", int(web.rsplit(":", 1)[1])), timeout=20)
+    player.sendall(b"GET /live/cam.flv HTTP/1.0\r\n\r\n")
+    bodies = [CONFIGURATION] + [picture(b"%d;" % n, 30000) for n in range(20)]
+    for n, body in enumerate(bodies):
+        publisher.push(VIDEO, 40 * n, body)
+        if n == 0:
+            # The pipe has room for some of it. Its reader comes while a worker waits for it, or before.
+            came = bytearray()
+            reading = threading.Thread(target=lambda: came.extend(open(pipe, "rb").read()), daemon=True)
+            reading.start()
+    told = {}
+
+    def is_told():
+        nonlocal told
+        told = json.loads(ask(relay, "stats", path, "--json").stdout)
+        files = {one["file"]: one for one in told["recordings"]}
+        return files[pipe]["bytes"] > 600000 and files["cam.ts"]["bytes"] > 600000 and len(told["links"]) == 2
+
+    expect(wait_for(is_told), f"recorded: it tells {told}")
+    files = {one["file"]: one for one in told["recordings"]}
+    expect(list(files) == [pipe, "cam.ts", "/dev/full"], f"recorded: the recordings are {list(files)}")
+    expect(files[pipe]["fault"] is None and "No space left" in (files["/dev/full"]["fault"] or ""), f"recorded: the faults are {files}")
+    expect(sorted(link["over"] for link in told["links"]) == ["http", "rtmp"], f"recorded: the links are {told['links']}")
+    table = ask(relay, "stats", path).stdout
+    expect("/dev/full  No space left on device" in table and " http " in table, f"recorded: the table is {table!r}")
+    expect(ask(relay, "stop", path).returncode == 0, "recorded: it doesn't stop")
+    server.process.wait(60)
+    reading.join(20)
+    expect([body for _, _, body in tags(bytes(came))] == bodies, f"recorded: the pipe's reader has {len(came)} bytes, or others")
+    server.reading.join(20)
+    lines = server.said + lines
+    dated = [line for line in lines if re.match(r"20\d\d-\d\d-\d\dT\d\d:\d\d:\d\d\.\d{3}Z ", line)]
+    expect(dated == lines and len(lines) > 4, f"recorded: lines without the time: {[line for line in lines if line not in dated]}")
+
+
+TESTS = [recorded, logged, no_room, quiet, silent, stuck, stats, stopped, held_back, full, crowded]
 
 
 def main():

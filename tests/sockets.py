@@ -35,7 +35,7 @@ def expect(holds, text):
 # ------------------------------------------------------------------------------------------------ a client
 
 def text(value):
-    return b"\x02" + struct.pack(">H", len(value)) + value.encode()
+    return b"\x02" + struct.pack(">H", len(value.encode())) + value.encode()
 
 
 def number(value):
@@ -198,7 +198,7 @@ class Server:
         while True:
             line = self.process.stderr.readline().decode()
             self.said.append(line)
-            if line.startswith("relay: listens on "):
+            if "relay: listens on " in line:
                 self.port = int(line.rsplit(":", 1)[1])
                 return
             if not line:
@@ -464,7 +464,7 @@ def recording(relay, folder):
     expect(server.end()[0] == 0, "recording: the server ends otherwise")
     found = tags(open(path, "rb").read())
     expect(found == units, f"recording: of {len(units)} units, {len(found)} tags are in the file, or others")
-    expect(open(path + ".1", "rb").read() == b"of yesterday", "recording: the file that was there isn't kept aside")
+    expect(open(os.path.join(folder, "cam.1.flv"), "rb").read() == b"of yesterday", "recording: the file that was there isn't kept aside")
     made = subprocess.run([relay, "remux"], stdin=open(path, "rb"), stdout=subprocess.PIPE).stdout
     expect(made == open(os.path.join(folder, "cam.ts"), "rb").read(), "recording: the transport stream isn't what `remux` makes of the FLV file")
 

@@ -14,7 +14,6 @@ use std::os::fd::{AsFd, AsRawFd};
 use std::os::unix::fs::FileTypeExt;
 use std::os::unix::net;
 use std::os::unix::net::SocketAddr;
-use std::sync::Arc;
 
 /// The token of the socket.
 pub const CONTROL: usize = usize::MAX - 1;
@@ -30,6 +29,9 @@ const LONGEST: usize = 64;
 
 /// And is to be asked and answered in so many milliseconds.
 const PATIENCE: u64 = 5_000;
+
+/// The answer to the word to stop, before the server ends.
+const STOPS: &[u8; 6] = b"stops\n";
 
 /// Who may use the socket: its owner.
 const OWNER: u32 = 0o600;
@@ -167,11 +169,10 @@ impl Asker {
 pub struct Control {
     alloc: Global,
     listener: UnixListener,
-    registry: Registry,
     askers: Vec<Asker>,
     last: usize,
-    // Somebody may wait for whom the system had no descriptor.
-    short: bool,
+    // Somebody may wait who wasn't accepted: there were many, or the system had no descriptor.
+    more: bool,
 }
 
 impl Control {
@@ -179,29 +180,28 @@ impl Control {
     pub fn new(
         alloc: Global,
         listener: net::UnixListener,
-        registry: Registry,
+        registry: &Registry,
     ) -> io::Result<Control> {
         let mut listener = UnixListener::from_std(listener);
         registry.register(&mut listener, Token(CONTROL), Interest::READABLE)?;
         Ok(Control {
             alloc,
             listener,
-            registry,
             askers: Vec::new(alloc),
             last: ASKERS,
-            short: false,
+            more: false,
         })
     }
 
     // One more who asks, where somebody comes.
-    fn accept(&mut self, now: u64) -> io::Result<()> {
+    fn accept(&mut self, registry: &Registry, now: u64) -> io::Result<()> {
         let (mut stream, _) = self.listener.accept()?;
         if self.askers.len() >= MOST {
             return Ok(());
         }
         self.last = self.last.wrapping_add(1).max(ASKERS);
         let both = Interest::READABLE | Interest::WRITABLE;
-        self.registry.register(&mut stream, Token(self.last), both)?;
+        registry.register(&mut stream, Token(self.last), both)?;
         self.askers.push(Asker {
             stream,
             token: self.last,
@@ -215,14 +215,13 @@ impl Control {
     }
 
     /// Goes on with all who ask. Whether one told the server to stop.
-    pub fn go_on(&mut self, watch: &Arc<Watch, Global>, now: u64) -> bool {
+    pub fn go_on(&mut self, registry: &Registry, watch: &Watch, now: u64) -> bool {
+        self.more = true;
         for _ in 0..MOST {
-            match self.accept(now) {
-                Ok(()) => self.short = false,
-                Err(error) => {
-                    self.short = error.kind() != ErrorKind::WouldBlock;
-                    break;
-                }
+            if let Err(error) = self.accept(registry, now) {
+                self.more = error.kind() != ErrorKind::WouldBlock;
+                watch.lack(&error);
+                break;
             }
         }
         let mut stops = false;
@@ -236,6 +235,7 @@ impl Control {
                     let _ = waiting.push(asker);
                 }
                 State::Stops => {
+                    let _ = asker.stream.write(STOPS);
                     watch.stop(asker.stream, now);
                     stops = true;
                 }
@@ -253,6 +253,6 @@ impl Control {
 
     /// Whether somebody asks.
     pub fn is_asked(&self) -> bool {
-        self.short || !self.askers.is_empty()
+        self.more || !self.askers.is_empty()
     }
 }

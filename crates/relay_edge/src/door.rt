@@ -4,6 +4,7 @@ ghost use Rattle.std.specs.Prelude.{◌≡◌, None, false};
 use crate::cells::{DOOR, READABLE};
 use crate::link::{Guest, RealLink, Wire};
 use crate::post::Post;
+use crate::watch::is_shortage;
 use mio::net::TcpListener;
 use mio::{Interest, Registry, Token};
 use relay_outside::{Door, Knock};
@@ -12,17 +13,6 @@ use std::io;
 use std::io::ErrorKind;
 use std::marker::Model;
 use std::sync::Arc;
-
-// What the system says where there is no descriptor or no memory for a socket: ENOMEM, ENFILE, EMFILE and ENOBUFS.
-const SHORTAGES: [i32; 4] = [12, 23, 24, 105];
-
-// Whether the system has no room for a socket, so that it is to be asked again later.
-fn is_shortage(error: &io::Error) -> bool {
-    match error.raw_os_error() {
-        Some(number) => SHORTAGES.contains(&number),
-        None => false,
-    }
-}
 
 /// A worker's door. The doors of all workers share one listening socket; a worker that has clearly more links than
 /// another leaves new ones to that one, as long as it looks at its door. All doors together give so many links, and are closed
@@ -93,6 +83,7 @@ impl RealDoor {
     fn accept(&self, token: usize) -> io::Result<Option<Guest>> {
         match self.listener.accept() {
             Ok((mut stream, address)) => {
+                self.post.watch.supply();
                 stream.set_nodelay(true)?;
                 let both = Interest::READABLE | Interest::WRITABLE;
                 self.registry.register(&mut stream, Token(token), both)?;
@@ -100,8 +91,11 @@ impl RealDoor {
             }
             Err(error) if error.kind() == ErrorKind::WouldBlock || is_shortage(&error) => {
                 self.post.cells.remove(DOOR, READABLE);
+                self.post.watch.lack(&error);
                 Ok(None)
             }
+            // It listens no more.
+            Err(_) if self.post.watch.is_stopped() => Ok(None),
             Err(error) => Err(error),
         }
     }

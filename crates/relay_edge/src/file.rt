@@ -3,18 +3,38 @@ ghost use Rattle.std.specs.Prelude.{◌≡◌, ◌≤◌, ◌↔◌, None, IfOk,
 ghost use Rattle.std.specs.Io.{WritesAtMost};
 ghost use Rattle.relay_outside.specs.Put.{PutStep};
 
+use crate::recordings::Entry;
 use crate::shown::say;
-use libc::types::rlimit;
+use libc::net::{POLLOUT, poll};
+use libc::types::{pollfd, rlimit};
 use relay_outside::{Put, Sink, SinkNews};
 use std::fs::File;
 use std::io;
 use std::io::{Eprint, Write};
 use std::marker::Model;
+use std::os::fd::AsRawFd;
 
 // The resource whose limit is the length of a file, and the error of a write beyond it.
 const RLIMIT_FSIZE: i32 = 1;
 
 const EFBIG: i32 = 27;
+
+// Where a pipe has room there is room for so many bytes.
+const PIPE_PIECE: u64 = 4096;
+
+// How long a pipe may have none, in milliseconds.
+const PATIENCE: i32 = 1000;
+
+// So often a wait for that is begun anew which a signal ended.
+const SIGNALS: u32 = 100;
+
+/// What a file is.
+#[derive(Clone, Copy, PartialEq, Eq)]
+pub enum Kind {
+    Regular,
+    /// A pipe or a character device.
+    Pipe,
+}
 
 // How long the system lets a file be. A write beyond that would end the process.
 fn longest() -> u64 {
@@ -28,13 +48,16 @@ fn longest() -> u64 {
     limit.rlim_cur
 }
 
-/// A file that is written from its beginning. It says its first error on standard error, and keeps the last. Contracts see
-/// how often it has failed.
+/// A file that is written from its beginning. It says its first error on standard error, and keeps the last: no
+/// worker waits for who reads that. Contracts see how often it has failed.
 #[derive(Drop)]
 pub struct RealFile<'a, R> {
     rt: &'a R,
+    // Where it says its first error and what it has, if it is a server's recording.
+    entry: Option<Entry>,
     name: Vec<u8>,
     file: File,
+    kind: Kind,
     // How many bytes the system lets it have besides those that it has.
     room: u64,
     failed: u64,
@@ -52,15 +75,26 @@ impl<'a, R> Model for RealFile<'a, R> {
 }
 
 impl<'a, R> RealFile<'a, R> {
-    /// A file that is empty, and its name.
-    pub(crate) fn new(rt: &'a R, name: Vec<u8>, file: File) -> RealFile<'a, R>
+    /// A file that is empty, and its name. Where it is that of a server it says its error as the log says its lines.
+    pub(crate) fn new(
+        rt: &'a R,
+        entry: Option<Entry>,
+        name: Vec<u8>,
+        file: File,
+        kind: Kind,
+    ) -> RealFile<'a, R>
         ensures { result ≡ 0 }
     {
         RealFile {
             rt,
+            entry,
             name,
             file,
-            room: longest(),
+            kind,
+            room: match kind {
+                Kind::Regular => longest(),
+                Kind::Pipe => u64::MAX,
+            },
             failed: 0,
             last: None,
         }
@@ -71,6 +105,51 @@ impl<'a, R> RealFile<'a, R> {
         ensures { (result ≡ None) ↔ (self.now ≡ 0) }
     {
         self.last
+    }
+
+    /// Has the system write to the disk what it has of the file. It may find there that bytes are lost.
+    pub(crate) fn sync(&self) -> io::Result<()> {
+        match self.kind {
+            Kind::Regular => self.file.sync_all(),
+            Kind::Pipe => Ok(()),
+        }
+    }
+
+    // How many bytes the next write may have at most. A pipe is waited for until it has room.
+    fn next_room(&self) -> io::Result<u64> {
+        match self.kind {
+            Kind::Regular => Ok(self.room),
+            Kind::Pipe if has_room(&self.file) => Ok(PIPE_PIECE),
+            Kind::Pipe => Err(io::Error::from(io::ErrorKind::TimedOut)),
+        }
+    }
+}
+
+// Whether a pipe comes to have room in time.
+fn has_room(file: &File) -> bool {
+    for _ in 0..SIGNALS {
+        let mut asked = [pollfd {
+            fd: file.as_raw_fd(),
+            events: POLLOUT,
+            revents: 0,
+        }];
+        match poll(&mut asked, PATIENCE) {
+            0 => return false,
+            ready if ready > 0 => return true,
+            _ => {}
+        }
+    }
+    false
+}
+
+impl<'a, R: Eprint> RealFile<'a, R> {
+    // Says why a write failed.
+    fn say(&self, error: &io::Error) {
+        let name = self.name.as_slice();
+        match &self.entry {
+            Some(entry) => entry.fail(name, error),
+            None => say(self.rt, name, error),
+        }
     }
 }
 
@@ -108,27 +187,37 @@ impl<R: Eprint> Sink for RealFile<'_, R> {
     ghost takes = { λ f piece answer g. PutStep piece None None f g answer };
 
     fn put(&mut self, piece: &[u8]) -> Put {
-        let written = match within(piece, self.room) {
-            Ok(part) => write(&mut self.file, part),
+        let written = match self.next_room() {
+            Ok(room) => match within(piece, room) {
+                Ok(part) => write(&mut self.file, part),
+                Err(error) => Err(error),
+            },
             Err(error) => Err(error),
         };
         let error = match written {
             Ok(count) if count > 0 => {
                 self.room = self.room.saturating_sub(count as u64);
+                if let Some(entry) = &self.entry {
+                    entry.write(count);
+                }
                 return Put::Took(count);
             }
             Ok(_) => io::Error::from(io::ErrorKind::WriteZero),
             Err(error) => error,
         };
         if self.last.is_none() {
-            say(self.rt, self.name.as_slice(), &error);
+            self.say(&error);
         }
         self.last = Some(error);
         self.failed = self.failed.saturating_add(1);
         Put::Failed
     }
 
-    fn tell(&self, _news: SinkNews) {}
+    fn tell(&self, news: SinkNews) {
+        if let Some(entry) = &self.entry {
+            entry.tell(self.name.as_slice(), news);
+        }
+    }
 
     ghost takes_mean = { λ f piece answer g some step. step };
 }

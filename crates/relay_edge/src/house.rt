@@ -3,25 +3,24 @@ ghost use Rattle.std.specs.Prelude.{◌≡◌, None, IfOk, false};
 
 use crate::board::Board;
 use crate::cells::{DOOR, READABLE};
-use crate::control::{Control, listen};
+use crate::control::listen;
 use crate::door::RealDoor;
 use crate::file::RealFile;
 use crate::names::{Names, Refusal, text};
 use crate::origin::OriginLink;
 use crate::post::Post;
 use crate::rest::{RealRest, WAKER};
-use crate::shown::say;
 use crate::watch::{EDGE, Watch, Watching};
 use mio::net::TcpListener;
 use mio::{Events, Interest, Poll, Registry, Token, Waker};
 use relay_outside::House;
 use std::alloc::{AllocError, Global};
+use std::fmt::Display;
 use std::fs::{File, Files};
 use std::io::Eprint;
 use std::marker::Model;
 use std::net::{Net, SocketAddr};
 use std::os::fd::AsRawFd;
-use std::os::unix::net::UnixListener;
 use std::sync::Arc;
 use std::{io, net};
 
@@ -43,7 +42,6 @@ struct Hand {
     post: Arc<Post, Global>,
     registry: Option<Registry>,
     poll: Option<Poll>,
-    control: Option<Control>,
 }
 
 impl Hand {
@@ -61,17 +59,7 @@ impl Hand {
             post: Post::new(alloc, board, watch, worker as usize)?,
             registry: Some(poll.registry().try_clone()?),
             poll: Some(poll),
-            control: None,
         })
-    }
-
-    // Its rest is to answer at the socket.
-    fn answer(&mut self, alloc: Global, socket: UnixListener) -> io::Result<()> {
-        if let Some(poll) = &self.poll {
-            let registry = poll.registry().try_clone()?;
-            self.control = Some(Control::new(alloc, socket, registry)?);
-        }
-        Ok(())
     }
 
     // Its door, once.
@@ -107,7 +95,7 @@ impl Hand {
         };
         let events = Events::with_capacity(alloc, EVENTS)?;
         let post = Arc::try_clone(&self.post)?;
-        Ok(RealRest::new(poll, events, post, self.control.take()))
+        Ok(RealRest::new(poll, events, post))
     }
 }
 
@@ -127,7 +115,7 @@ struct Sockets {
 
 impl Sockets {
     // A handle of the socket that listens at that address, with the longest backlog that the system allows, and the address' number.
-    fn listener<R: Net + Eprint>(
+    fn listener<R: Net>(
         &mut self,
         rt: &R,
         listen: &[u8],
@@ -141,7 +129,7 @@ impl Sockets {
         }
         let socket = net::TcpListener::from(TcpListener::bind(rt, address(listen)?)?);
         let at = socket.local_addr()?;
-        let _ = eprintln!(rt; "relay: listens on {at}");
+        self.watch.listeners().add(at, socket.try_clone()?)?;
         let other = socket.try_clone()?;
         let address = listen.to_vec(self.alloc)?;
         if self.listening.push((address, other)).is_err() {
@@ -150,18 +138,17 @@ impl Sockets {
         Ok((socket, number))
     }
 
-    // It is asked how it is at the socket of its path, where it has one, by the rest of the worker.
-    fn answer<R: Net + Files<File = File>>(&mut self, rt: &R, worker: u32) -> Result<(), Refusal> {
+    // It is asked how it is at the socket of its path, where it has one, by the first worker that runs.
+    fn answer<R: Net + Files<File = File>>(&mut self, rt: &R) -> Result<(), Refusal> {
         if self.answers {
             return Ok(());
         }
         let Some(path) = &self.control else {
             return Ok(());
         };
-        let socket = listen(rt, path.as_str())?;
+        self.watch.set_control(listen(rt, path.as_str())?);
         self.answers = true;
-        let alloc = self.alloc;
-        Ok(self.hand(rt, worker)?.answer(alloc, socket)?)
+        Ok(())
     }
 
     // The worker's hand, which is made where it isn't there.
@@ -185,7 +172,7 @@ impl Sockets {
         }
     }
 
-    fn door<R: Net + Eprint>(
+    fn door<R: Net>(
         &mut self,
         rt: &R,
         worker: u32,
@@ -205,9 +192,9 @@ impl Sockets {
     }
 }
 
-/// A house over sockets and files: doors that share one listening socket, rests that wake each other, and files. It says on
-/// standard error where it listens, and why a door, a rest or a file couldn't be had. When one couldn't, all files are again as
-/// they were before it gave any.
+/// A house over sockets and files: doors that share one listening socket, rests that wake each other, and files.
+/// It says on standard error where it listens, once the first worker runs, and why a door, a rest or a file
+/// couldn't be had. When one couldn't, all files are again as they were before it gave any.
 #[derive(Drop)]
 pub struct RealHouse<'a, R> {
     rt: &'a R,
@@ -234,6 +221,11 @@ impl<'a, R: Eprint> RealHouse<'a, R> {
         RealHouse::watched(rt, alloc, Watching::nothing())
     }
 
+    /// A line of standard error, as the log's: nobody waits for who reads it.
+    pub fn say<D: Display>(&self, line: &D) {
+        self.sockets.watch.say(line);
+    }
+
     /// A house that has given nothing, and is watched so.
     pub fn watched(
         rt: &'a R,
@@ -244,6 +236,7 @@ impl<'a, R: Eprint> RealHouse<'a, R> {
     {
         let board = Board::new(alloc)?;
         let watch = Watch::new(alloc, &watching)?;
+        let names = Names::new(alloc, Arc::try_clone(&watch)?);
         Ok(RealHouse {
             rt,
             sockets: Sockets {
@@ -255,7 +248,7 @@ impl<'a, R: Eprint> RealHouse<'a, R> {
                 control: watching.control,
                 answers: false,
             },
-            names: Names::new(alloc),
+            names,
             failed: 0,
             spoilt: 0,
         })
@@ -270,7 +263,8 @@ impl<'a, R: Files<File = File>> RealHouse<'a, R> {
         self.names.spare(self.rt, name);
     }
 
-    /// Removes the file of the socket at which it is asked how it is, where it made one. Whoever told it to stop still waits until the
+    /// Removes the file of the socket at which it is asked how it is, where it made one, and leaves all files as they
+    /// were if no worker has run. Whoever told it to stop still waits until the
     /// house is dropped.
     pub fn clear(&mut self)
         ensures { self.new ≡ self.old }
@@ -279,6 +273,9 @@ impl<'a, R: Files<File = File>> RealHouse<'a, R> {
             let _ = self.rt.remove_file(path.as_str());
         }
         self.sockets.answers = false;
+        if !self.sockets.watch.has_run() {
+            self.names.undo(self.rt);
+        }
     }
 }
 
@@ -297,17 +294,17 @@ impl<'a, R: Net> RealHouse<'a, R> {
 
 impl<'a, R: Net + Files<File = File> + Eprint> RealHouse<'a, R> {
     // Whether it is asked how it is where it is to be. Else it says why not.
-    fn answers(&mut self, worker: u32) -> bool
+    fn answers(&mut self) -> bool
         ensures { self.new ≡ self.old }
     {
-        let Err(refusal) = self.sockets.answer(self.rt, worker) else {
+        let Err(refusal) = self.sockets.answer(self.rt) else {
             return true;
         };
         let path = match &self.sockets.control {
             Some(path) => path.as_bytes(),
             None => b"",
         };
-        say(self.rt, path, &refusal);
+        self.sockets.watch.say_of(path, &refusal);
         false
     }
 }
@@ -326,7 +323,7 @@ impl<'a, R: Net + Files<File = File> + Eprint + Sync> House for RealHouse<'a, R>
     ghost named = { λ _. None };
 
     fn door(&mut self, worker: u32, listen: &[u8], accept: u32) -> Option<RealDoor> {
-        if !self.answers(worker) {
+        if !self.answers() {
             self.names.undo(self.rt);
             self.failed = self.failed.saturating_add(1);
             return None;
@@ -334,7 +331,7 @@ impl<'a, R: Net + Files<File = File> + Eprint + Sync> House for RealHouse<'a, R>
         match self.sockets.door(self.rt, worker, listen, accept) {
             Ok(door) => Some(door),
             Err(refusal) => {
-                say(self.rt, listen, &refusal);
+                self.sockets.watch.say_of(listen, &refusal);
                 self.names.undo(self.rt);
                 self.failed = self.failed.saturating_add(1);
                 None
@@ -346,7 +343,7 @@ impl<'a, R: Net + Files<File = File> + Eprint + Sync> House for RealHouse<'a, R>
         match self.sockets.rest(self.rt, worker) {
             Ok(rest) => Some(rest),
             Err(error) => {
-                say(self.rt, b"a worker's poll", &error);
+                self.sockets.watch.say_of(b"a worker's poll", &error);
                 self.names.undo(self.rt);
                 self.failed = self.failed.saturating_add(1);
                 None
@@ -358,7 +355,7 @@ impl<'a, R: Net + Files<File = File> + Eprint + Sync> House for RealHouse<'a, R>
         match self.names.give(self.rt, name) {
             Ok(file) => Some(file),
             Err(refusal) => {
-                say(self.rt, name, &refusal);
+                self.sockets.watch.say_of(name, &refusal);
                 self.names.undo(self.rt);
                 self.failed = self.failed.saturating_add(1);
                 None
@@ -366,9 +363,12 @@ impl<'a, R: Net + Files<File = File> + Eprint + Sync> House for RealHouse<'a, R>
         }
     }
 
-    fn keep(&mut self, _name: &[u8], file: RealFile<'a, R>) -> Result<(), AllocError> {
+    fn keep(&mut self, name: &[u8], file: RealFile<'a, R>) -> Result<(), AllocError> {
+        let synced = file.sync();
         if file.error().is_some() {
             self.spoilt = self.spoilt.saturating_add(1);
+        } else if let Err(error) = synced {
+            self.sockets.watch.say_of(name, &error);
         }
         Ok(())
     }

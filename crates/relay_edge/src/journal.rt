@@ -1,5 +1,6 @@
 //! The log's lines, on standard error.
 
+use crate::date::Moment;
 use libc::STDERR_FILENO;
 use libc::net::{POLLOUT, poll};
 use libc::types::pollfd;
@@ -15,6 +16,14 @@ const MOST: usize = 1024;
 
 /// So often a thread looks whether another has written its line, and lets others run.
 const LOOKS: u32 = 300;
+
+/// How long the last words of a server wait for room on standard error at most, in milliseconds.
+const LAST_WAIT: i32 = 1000;
+
+/// Whether standard error has room for the last words of a server within a second. A pipe that nobody reads has none.
+pub fn is_heard() -> bool {
+    is_ready(LAST_WAIT)
+}
 
 /// Whether standard error has room for a line, within so many milliseconds. A pipe that nobody reads any more has none.
 pub fn is_ready(milliseconds: i32) -> bool {
@@ -76,13 +85,17 @@ impl Write for Line {
 /// thread waits for one who reads the log. The next line that is written tells how many were lost.
 #[derive(Drop)]
 pub struct Journal {
+    // Whether a line begins with the date and the time.
+    times: bool,
     busy: AtomicBool,
     missed: AtomicU64,
 }
 
 impl Journal {
-    pub fn new() -> Journal {
+    /// One whose lines begin with the date and the time, or don't.
+    pub fn new(times: bool) -> Journal {
         Journal {
+            times,
             busy: AtomicBool::new(false),
             missed: AtomicU64::new(0),
         }
@@ -104,6 +117,25 @@ impl Journal {
         false
     }
 
+    /// Writes a line, whatever the level of the log is.
+    pub fn say<D: Display>(&self, message: &D) {
+        if self.begin() {
+            let written = self.put(message);
+            self.busy.store(false, Ordering::SeqCst);
+            if written {
+                return;
+            }
+        }
+        self.missed.fetch_add(1, Ordering::SeqCst);
+    }
+
+    // Begins a line.
+    fn date(&self, line: &mut Line) {
+        if self.times {
+            let _ = write!(line, "{} ", Moment::now());
+        }
+    }
+
     // Writes a line, after how many were lost before.
     fn put<D: Display>(&self, message: &D) -> bool {
         if !is_ready(0) {
@@ -112,9 +144,11 @@ impl Journal {
         let missed = self.missed();
         let mut line = Line::new();
         if missed > 0 {
+            self.date(&mut line);
             let _ = write!(line, "relay: lost {missed} lines of the log");
             line.end();
         }
+        self.date(&mut line);
         let _ = write!(line, "{message}");
         line.end();
         if libc::write(STDERR_FILENO, line.text()) < 0 {
@@ -131,14 +165,7 @@ impl Log for Journal {
     }
 
     fn log<D: Display, K: Source, S: Spans>(&self, record: &Record<'_, D, K, S>) {
-        if self.begin() {
-            let written = self.put(record.args());
-            self.busy.store(false, Ordering::SeqCst);
-            if written {
-                return;
-            }
-        }
-        self.missed.fetch_add(1, Ordering::SeqCst);
+        self.say(record.args());
     }
 
     fn flush(&self) {}

@@ -1,8 +1,8 @@
 //! What is done over a link, and since when it is silent.
 
 use crate::post::Post;
-use crate::seats::Doing;
-use crate::shown::Written;
+use crate::quoted::{QuotedApp, QuotedName};
+use crate::seats::{Doing, Tally};
 use crate::words;
 use crate::words::Words;
 use log::{Level, log};
@@ -260,6 +260,7 @@ impl Life {
             published: in_use && post.watch.has_publisher(app, name),
             cause: self.cause,
             error,
+            tally: post.seat(token).map(|seat| seat.tally(post.now())),
         };
         log!(post.watch.log; line.level(), "{line}");
     }
@@ -276,6 +277,7 @@ struct Line<'a> {
     published: bool,
     cause: Cause,
     error: Option<io::Error>,
+    tally: Option<Tally>,
 }
 
 impl Line<'_> {
@@ -292,6 +294,21 @@ impl Line<'_> {
         }
     }
 
+    // How a link ended, for how long it was there and its bytes.
+    fn write_end<W: fmt::Write>(&self, f: &mut Formatter<W>) -> fmt::Result {
+        match self.news {
+            News::Ended {
+                ending: Ending::LinkFault | Ending::PeerClosed,
+                at: _,
+            } => self.write_cause(f)?,
+            _ => write!(f, "{}", Words(self.news))?,
+        }
+        match self.tally {
+            Some(tally) => write!(f, "; {tally}"),
+            None => Ok(()),
+        }
+    }
+
     // Why a link ended that failed or closed.
     fn write_cause<W: fmt::Write>(&self, f: &mut Formatter<W>) -> fmt::Result {
         match (self.cause, &self.error) {
@@ -305,20 +322,17 @@ impl Line<'_> {
 
 impl Display for Line<'_> {
     fn fmt<W: fmt::Write>(&self, f: &mut Formatter<W>) -> fmt::Result {
-        let (app, name) = (Written { bytes: self.app }, Written { bytes: self.name });
+        let (app, name) = (self.app, self.name);
         write!(f, "{} ", self.address)?;
         match self.news {
-            News::Ended {
-                ending: Ending::LinkFault | Ending::PeerClosed,
-                at: _,
-            } => self.write_cause(f),
-            News::Ended { .. } => write!(f, "{}", Words(self.news)),
-            News::Connected => write!(f, "{} {app}", Words(self.news)),
+            News::Ended { .. } => self.write_end(f),
+            News::Connected => write!(f, "{} {}", Words(self.news), QuotedApp { app }),
             News::Denied(Denied::InUse) if !self.published => write!(
                 f,
-                "refused: somebody publishes, or no place is left at {app}/{name}"
+                "refused: somebody publishes, or no place is left at {}",
+                QuotedName { app, name }
             ),
-            _ => write!(f, "{} {app}/{name}", Words(self.news)),
+            _ => write!(f, "{} {}", Words(self.news), QuotedName { app, name }),
         }
     }
 }

@@ -1,22 +1,45 @@
 //! The files that a house gives, by their names.
 ghost use Rattle.std.specs.Prelude.{◌≡◌, IfOk};
 
-use crate::file::RealFile;
+use crate::aside::numbered;
+use crate::file::{Kind, RealFile};
+use crate::recordings::Entry;
 use crate::shown::Shown;
+use crate::watch::Watch;
 use std::alloc::{AllocError, Global};
 use std::fmt::{Display, Formatter};
 use std::fs::{File, Files, Metadata, OpenOptions, TryLockError};
-use std::os::unix::fs::MetadataExt;
+use std::io::{Read, Write};
+use std::os::unix::fs::{FileTypeExt, MetadataExt};
+use std::sync::Arc;
 use std::{fmt, io, str};
 
 /// As many files of one name as are kept aside at most.
 const MOST_ASIDE: u32 = 1_000_000;
 
+/// The header of FLV, which is all of a recording to which nothing was published.
+const HEADER: &[u8; 13] = b"FLV\x01\x05\0\0\0\x09\0\0\0\0";
+
+/// The files that the server itself writes where they are regular ones, and why none of them can be a recording.
+const STANDARD: [(&str, &str); 2] = [
+    (
+        "/dev/stdout",
+        "it is standard output, where the report is written",
+    ),
+    (
+        "/dev/stderr",
+        "it is standard error, where the log is written",
+    ),
+];
+
 /// Why an address or a file can't be had.
 #[derive(Drop)]
 pub enum Refusal {
     System(io::Error),
-    NotRegular,
+    /// It is a folder, a socket or a block device.
+    NoFile,
+    /// It is a file of the server itself, as the words say.
+    Standard { words: &'static str },
     Locked,
     NoAddress,
     /// Another name of it was given before.
@@ -39,7 +62,8 @@ impl Display for Refusal {
     fn fmt<W: fmt::Write>(&self, f: &mut Formatter<W>) -> fmt::Result {
         match self {
             Refusal::System(error) => write!(f, "{error}"),
-            Refusal::NotRegular => f.write_str("it is no regular file"),
+            Refusal::NoFile => f.write_str("it is no file, pipe or character device"),
+            Refusal::Standard { words } => f.write_str(words),
             Refusal::Locked => f.write_str("another program records to it"),
             Refusal::NoAddress => {
                 f.write_str("an IP address and a port are wanted, as 127.0.0.1:1935")
@@ -87,19 +111,48 @@ struct Named {
 enum Deed {
     Made { path: String },
     SetAside { path: String, aside: String },
+    // It had so many bytes of the header of FLV.
+    Emptied { path: String, len: usize },
 }
 
-fn take_back<R: Files>(rt: &R, deed: &Deed) -> io::Result<()> {
+fn take_back<R: Files<File = File>>(rt: &R, deed: &Deed) -> io::Result<()> {
     match deed {
         Deed::Made { path } => rt.remove_file(path.as_str()),
         Deed::SetAside { path, aside } => rt.rename(aside.as_str(), path.as_str()),
+        Deed::Emptied { path, len } => {
+            let mut how = OpenOptions::new();
+            how.write(true);
+            let mut file = how.open(rt, path.as_str())?;
+            file.write_all(HEADER.get(..*len).unwrap_or(&[]))
+        }
     }
+}
+
+// Whether the file at the path has a first part of the header of FLV and no more.
+fn is_header<R: Files<File = File>>(rt: &R, path: &str) -> io::Result<bool> {
+    let mut room = [0u8; 14];
+    let count = File::open(rt, path)?.read(&mut room)?;
+    let part = HEADER.get(..count);
+    Ok(part.is_some() && part == room.get(..count))
+}
+
+// Why the server itself writes that file, if it does.
+fn standard<R: Files<File = File>>(rt: &R, there: &Metadata) -> Option<&'static str> {
+    for (path, words) in STANDARD {
+        if let Ok(own) = rt.metadata(path) {
+            if Identity::of(&own) == Identity::of(there) {
+                return Some(words);
+            }
+        }
+    }
+    None
 }
 
 /// The files of a house: those that it gave, and what it did for them.
 #[derive(Drop)]
 pub struct Names {
     alloc: Global,
+    watch: Arc<Watch, Global>,
     named: Vec<Named>,
     deeds: Vec<Deed>,
 }
@@ -125,19 +178,17 @@ fn open<R: Files<File = File>>(rt: &R, path: &str, fresh: bool) -> Result<File, 
 }
 
 impl Names {
-    pub fn new(alloc: Global) -> Names {
+    pub fn new(alloc: Global, watch: Arc<Watch, Global>) -> Names {
         Names {
             alloc,
+            watch,
             named: Vec::new(alloc),
             deeds: Vec::new(alloc),
         }
     }
 
-    // Notes a file, which has to be a regular one that wasn't noted before.
+    // Notes a file, which may not have been noted before.
     fn note(&mut self, name: &[u8], metadata: &Metadata) -> Result<(), Refusal> {
-        if !metadata.is_file() {
-            return Err(Refusal::NotRegular);
-        }
         let identity = Identity::of(metadata);
         for named in self.named.as_slice() {
             if named.identity == identity {
@@ -157,12 +208,12 @@ impl Names {
         }
     }
 
-    // The first of the names PATH.1, PATH.2, .. that no file has.
+    // The first of the names for files that are kept aside that no file has.
     fn free_name<R: Files<File = File>>(&self, rt: &R, path: &str) -> Result<String, Refusal> {
         for number in 1..=MOST_ASIDE {
-            let aside = format!(in self.alloc; "{path}.{number}")?;
-            match rt.symlink_metadata(aside.as_str()) {
-                Err(error) if error.kind() == io::ErrorKind::NotFound => return Ok(aside),
+            let free = numbered(self.alloc, path, number)?;
+            match rt.symlink_metadata(free.as_str()) {
+                Err(error) if error.kind() == io::ErrorKind::NotFound => return Ok(free),
                 Err(error) => return Err(Refusal::System(error)),
                 Ok(_) => {}
             }
@@ -180,7 +231,8 @@ impl Names {
         file
     }
 
-    /// An empty file of that name. What is there and isn't empty is set aside.
+    /// An empty file of that name, or the pipe or character device that is there. What is in a file that is there is
+    /// set aside.
     pub fn give<'a, R: Files<File = File>>(
         &mut self,
         rt: &'a R,
@@ -188,35 +240,98 @@ impl Names {
     ) -> Result<RealFile<'a, R>, Refusal>
         ensures { IfOk result (λ f. f ≡ 0) }
     {
-        let file = self.open(rt, name)?;
-        Ok(RealFile::new(rt, name.to_vec(self.alloc)?, file))
+        let entry = Entry::new(self.alloc, Arc::try_clone(&self.watch)?, name)?;
+        let (file, kind) = self.open(rt, name)?;
+        let name = name.to_vec(self.alloc)?;
+        Ok(RealFile::new(rt, Some(entry), name, file, kind))
     }
 
-    // The same.
-    fn open<R: Files<File = File>>(&mut self, rt: &R, name: &[u8]) -> Result<File, Refusal> {
+    // The same, and what it is.
+    fn open<R: Files<File = File>>(
+        &mut self,
+        rt: &R,
+        name: &[u8],
+    ) -> Result<(File, Kind), Refusal> {
         let path = text(name)?;
-        let there = match rt.metadata(path) {
-            Ok(metadata) => {
-                self.note(name, &metadata)?;
-                true
+        match rt.metadata(path) {
+            Ok(there) if there.is_file() => Ok((self.empty(rt, name, &there)?, Kind::Regular)),
+            Ok(there) => Ok((self.open_pipe(rt, name, &there)?, Kind::Pipe)),
+            Err(error) if error.kind() == io::ErrorKind::NotFound => {
+                Ok((self.make(rt, name)?, Kind::Regular))
             }
-            Err(error) if error.kind() == io::ErrorKind::NotFound => false,
-            Err(error) => return Err(Refusal::System(error)),
-        };
+            Err(error) => Err(Refusal::System(error)),
+        }
+    }
+
+    // Makes a file where none is.
+    fn make<R: Files<File = File>>(&mut self, rt: &R, name: &[u8]) -> Result<File, Refusal> {
+        let path = text(name)?;
         self.deeds.reserve(1)?;
+        let is_link = rt.symlink_metadata(path).is_ok();
+        let file = open(rt, path, false)?;
+        match rt.canonicalize(self.alloc, path) {
+            Ok(real) => {
+                let path = real.into_string();
+                add(&mut self.deeds, Deed::Made { path })?;
+            }
+            Err(error) => {
+                if !is_link {
+                    let _ = rt.remove_file(path);
+                }
+                return Err(Refusal::System(error));
+            }
+        }
+        self.note(name, &file.metadata()?)?;
+        Ok(file)
+    }
+
+    // An empty file in place of the one that is there. One with a first part of FLV's header alone counts as empty.
+    fn empty<R: Files<File = File>>(
+        &mut self,
+        rt: &R,
+        name: &[u8],
+        there: &Metadata,
+    ) -> Result<File, Refusal> {
+        if let Some(words) = standard(rt, there) {
+            return Err(Refusal::Standard { words });
+        }
+        self.note(name, there)?;
+        self.deeds.reserve(1)?;
+        let path = text(name)?;
         let file = open(rt, path, false)?;
         let real = rt.canonicalize(self.alloc, path)?.into_string();
-        if !there {
-            add(&mut self.deeds, Deed::Made { path: real })?;
-            self.note(name, &file.metadata()?)?;
+        let len = file.metadata()?.len();
+        if len == 0 {
             return Ok(file);
         }
-        if file.metadata()?.len() == 0 {
+        if is_header(rt, path).unwrap_or(false) {
+            let len = len as usize;
+            add(&mut self.deeds, Deed::Emptied { path: real, len })?;
+            file.set_len(0)?;
             return Ok(file);
         }
         let file = self.set_aside(rt, real)?;
         self.note(name, &file.metadata()?)?;
         Ok(file)
+    }
+
+    // Opens a pipe or a character device, which is written as it is. A pipe is opened to be read too, since one that
+    // has no reader yet would
+    // keep the server waiting.
+    fn open_pipe<R: Files<File = File>>(
+        &mut self,
+        rt: &R,
+        name: &[u8],
+        there: &Metadata,
+    ) -> Result<File, Refusal> {
+        let kind = there.file_type();
+        if !kind.is_fifo() && !kind.is_char_device() {
+            return Err(Refusal::NoFile);
+        }
+        self.note(name, there)?;
+        let mut how = OpenOptions::new();
+        how.write(true).read(kind.is_fifo());
+        Ok(how.open(rt, text(name)?)?)
     }
 
     /// Leaves all files as they were before the first was given.

@@ -6,23 +6,20 @@ ghost use Rattle.relay_outside.specs.Said.{SayStep};
 
 use crate::cells::{CLOSING, DOOR, READABLE, WRITABLE};
 use crate::life::Cause;
+use crate::origin_line::Line;
 use crate::post::Post;
 use crate::seats::Doing;
-use crate::shown::Written;
-use crate::words;
-use crate::words::Words;
-use log::{Level, log};
+use log::log;
 use mio::net::TcpStream;
 use mio::{Interest, Registry, Token};
-use relay_outside::{Denied, Ending, Heard, Link, News, Said};
+use relay_outside::{Heard, Link, News, Said};
 use std::alloc::Global;
 use std::cell::Cell;
-use std::fmt::{Display, Formatter};
+use std::io;
 use std::io::{ErrorKind, Read, Write};
 use std::marker::Model;
 use std::net::{Net, Shutdown, SocketAddr};
 use std::sync::Arc;
-use std::{fmt, io};
 
 /// The token of its socket.
 const ORIGIN: usize = DOOR + 1;
@@ -199,6 +196,10 @@ impl Pipe {
             name,
             cause: self.cause,
             error: self.error,
+            tally: self
+                .post
+                .seat(ORIGIN)
+                .map(|seat| seat.tally(self.post.now())),
         };
         log!(self.post.watch.log; line.level(), "{line}");
         match news {
@@ -331,68 +332,4 @@ impl Link for OriginLink {
     ghost hears_mean = { λ l room answer m some step. step };
 
     ghost says_mean = { λ l piece answer m some step. step };
-}
-
-// A line of the log.
-#[derive(Drop)]
-struct Line<'a> {
-    address: SocketAddr,
-    news: News,
-    app: &'a [u8],
-    name: &'a [u8],
-    cause: Cause,
-    error: Option<io::Error>,
-}
-
-impl Line<'_> {
-    fn level(&self) -> Level {
-        match self.news {
-            News::Plays => Level::Info,
-            News::Ended {
-                ending: Ending::OutOfMemory,
-                at: _,
-            } => Level::Error,
-            News::Ended { .. } if self.cause == Cause::Stopped => Level::Info,
-            _ => Level::Warn,
-        }
-    }
-
-    // Why a link ended that failed or closed.
-    fn write_cause<W: fmt::Write>(&self, f: &mut Formatter<W>) -> fmt::Result {
-        match (self.cause, &self.error) {
-            (Cause::Silent { seconds }, _) => write!(f, "ended: silent for {seconds} s"),
-            (Cause::Stopped, _) => write!(f, "ended: {}", words::Cause(Ending::Quit)),
-            (Cause::Peer, Some(error)) => write!(f, "{}: {error}", Words(self.news)),
-            (Cause::Peer, None) => write!(f, "{}", Words(self.news)),
-        }
-    }
-
-    // Why the stream isn't pulled: the origin refused it, or there is no place for it here.
-    fn write_denied<W: fmt::Write>(&self, f: &mut Formatter<W>, why: Denied) -> fmt::Result {
-        let (app, name) = (Written { bytes: self.app }, Written { bytes: self.name });
-        match why {
-            Denied::InUse => f.write_str("isn't pulled: somebody publishes here"),
-            Denied::Full => f.write_str("isn't pulled: no place is left here"),
-            Denied::NoName | Denied::WrongKey => write!(
-                f,
-                "refused {app}/{name}: it has no such stream, or wants another key"
-            ),
-        }
-    }
-}
-
-impl Display for Line<'_> {
-    fn fmt<W: fmt::Write>(&self, f: &mut Formatter<W>) -> fmt::Result {
-        let (app, name) = (Written { bytes: self.app }, Written { bytes: self.name });
-        write!(f, "origin {} ", self.address)?;
-        match self.news {
-            News::Plays => write!(f, "plays {app}/{name}"),
-            News::Denied(why) => self.write_denied(f, why),
-            News::Ended {
-                ending: Ending::LinkFault | Ending::PeerClosed,
-                at: _,
-            } => self.write_cause(f),
-            _ => write!(f, "{}", Words(self.news)),
-        }
-    }
 }

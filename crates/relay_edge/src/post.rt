@@ -4,7 +4,7 @@ use crate::board::Board;
 use crate::cells::{Cells, DOOR, LEFT, READABLE};
 use crate::clock::milliseconds;
 use crate::seats::{Seat, Seats};
-use crate::watch::Watch;
+use crate::watch::{EDGE, Watch};
 use libc::net::{POLLIN, poll};
 use libc::types::pollfd;
 use std::alloc::{AllocError, Global};
@@ -109,6 +109,11 @@ impl Post {
     /// Whether the worker has a door.
     pub fn has_door(&self) -> bool {
         self.door.load(Ordering::SeqCst) >= 0
+    }
+
+    /// Whether it is that of a worker of the server, and not that of who pulls from an origin.
+    pub fn serves(&self) -> bool {
+        self.worker != EDGE as usize
     }
 
     /// How many links the worker has.

@@ -118,12 +118,7 @@ fn mark(cells: &Cells, event: &Event) {
 
 impl RealRest {
     /// The rest of a worker whose waker is registered.
-    pub(crate) fn new(
-        poll: Poll,
-        events: Events,
-        post: Arc<Post, Global>,
-        control: Option<Control>,
-    ) -> RealRest {
+    pub(crate) fn new(poll: Poll, events: Events, post: Arc<Post, Global>) -> RealRest {
         let recorded = Vec::new(post.alloc);
         RealRest {
             poll,
@@ -137,7 +132,20 @@ impl RealRest {
             recorded,
             learned: 0,
             runs: false,
-            control,
+            control: None,
+        }
+    }
+
+    // The first worker of a server that runs says where that listens, and is to answer at its socket.
+    fn open(&mut self) {
+        let watch = &self.post.watch;
+        watch.say_addresses(self.post.alloc);
+        let Some(socket) = watch.take_control() else {
+            return;
+        };
+        match Control::new(self.post.alloc, socket, self.poll.registry()) {
+            Ok(control) => self.control = Some(control),
+            Err(error) => watch.say_of(b"the socket of RELAY_CONTROL", &error),
         }
     }
 
@@ -180,11 +188,14 @@ impl RealRest {
 
     // The worker runs. Tells the log where others don't.
     fn run(&mut self) {
-        let post = &self.post;
         if !self.runs {
             self.runs = true;
-            post.watch.run(post.now());
+            self.post.watch.run(self.post.now());
+            if self.post.serves() {
+                self.open();
+            }
         }
+        let post = &self.post;
         if let Some(waiting) = post.watch.waiting(post.now()) {
             warn!(post.watch.log;
                 "relay: {waiting} of the workers have no thread, since the system gives no more: they wait until another ends"
@@ -196,7 +207,9 @@ impl RealRest {
     fn answer(&mut self, asked: bool) {
         let now = self.post.now();
         if let Some(control) = &mut self.control {
-            if (asked || control.is_asked()) && control.go_on(&self.post.watch, now) {
+            if (asked || control.is_asked())
+                && control.go_on(self.poll.registry(), &self.post.watch, now)
+            {
                 self.post.wake_all();
             }
         }

@@ -2,6 +2,8 @@
 
 use crate::cells::MOST_LINKS;
 use std::alloc::{AllocError, Global};
+use std::fmt;
+use std::fmt::{Display, Formatter};
 use std::net::SocketAddr;
 use std::sync::atomic::{AtomicBool, AtomicU64, Ordering};
 use std::sync::{Mutex, MutexGuard};
@@ -39,6 +41,8 @@ pub enum Doing {
 pub struct Told {
     pub address: Option<SocketAddr>,
     pub doing: Doing,
+    /// It plays, and had not connected to an application: so it speaks HTTP.
+    pub http: bool,
     pub app: Vec<u8>,
     pub name: Vec<u8>,
 }
@@ -48,6 +52,7 @@ impl Told {
         Told {
             address,
             doing: Doing::Nothing,
+            http: false,
             app: Vec::new(alloc),
             name: Vec::new(alloc),
         }
@@ -71,12 +76,36 @@ pub struct Seat {
 pub struct Sight {
     pub address: SocketAddr,
     pub doing: Doing,
+    pub http: bool,
     pub app: Vec<u8>,
     pub name: Vec<u8>,
     pub begun: u64,
     pub received: u64,
     pub sent: u64,
     pub even: u64,
+}
+
+/// How long a link was there, the bytes that it gave and those that it took.
+#[derive(Clone, Copy)]
+pub struct Tally {
+    milliseconds: u64,
+    received: u64,
+    sent: u64,
+}
+
+impl Display for Tally {
+    fn fmt<W: fmt::Write>(&self, f: &mut Formatter<W>) -> fmt::Result {
+        let Tally {
+            milliseconds,
+            received,
+            sent,
+        } = *self;
+        let (seconds, tenths) = (milliseconds / 1000, milliseconds % 1000 / 100);
+        write!(
+            f,
+            "{seconds}.{tenths} s, {received} bytes in, {sent} bytes out"
+        )
+    }
 }
 
 impl Seat {
@@ -112,6 +141,7 @@ impl Seat {
     pub fn tell(&self, alloc: Global, doing: Doing, app: &[u8], name: &[u8]) {
         if let Some(mut told) = held(&self.told) {
             let told = &mut *told;
+            told.http = told.http || (doing == Doing::Plays && told.doing == Doing::Nothing);
             told.doing = doing;
             told.app = app.to_vec(alloc).unwrap_or(Vec::new(alloc));
             told.name = name.to_vec(alloc).unwrap_or(Vec::new(alloc));
@@ -155,6 +185,15 @@ impl Seat {
         }
     }
 
+    /// How long its link has been there, and its bytes.
+    pub fn tally(&self, now: u64) -> Tally {
+        Tally {
+            milliseconds: now.saturating_sub(self.begun.load(Ordering::SeqCst)),
+            received: self.received.load(Ordering::SeqCst),
+            sent: self.sent.load(Ordering::SeqCst),
+        }
+    }
+
     // What it has, where a link is there.
     fn sight(&self, alloc: Global) -> Result<Option<Sight>, AllocError> {
         if !self.taken.load(Ordering::SeqCst) {
@@ -169,6 +208,7 @@ impl Seat {
         Ok(Some(Sight {
             address,
             doing: told.doing,
+            http: told.http,
             app: told.app.as_slice().to_vec(alloc)?,
             name: told.name.as_slice().to_vec(alloc)?,
             begun: self.begun.load(Ordering::SeqCst),

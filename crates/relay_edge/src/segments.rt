@@ -2,7 +2,7 @@
 ghost use Rattle.std.specs.Prelude.{◌≡◌, None, IfOk};
 
 use crate::door::RealDoor;
-use crate::file::RealFile;
+use crate::file::{Kind, RealFile};
 use crate::names::text;
 use crate::rest::RealRest;
 use crate::shown::say;
@@ -83,11 +83,13 @@ impl<'a, R: Files<File = File> + Eprint> SegmentHouse<'a, R> {
         let name = name.to_vec(self.alloc)?;
         let file = File::create(self.rt, text(part.as_slice())?)?;
         self.part = Some(part);
-        Ok(RealFile::new(self.rt, name, file))
+        Ok(RealFile::new(self.rt, None, name, file, Kind::Regular))
     }
 
-    // Gives a whole file its name, in place of what stood there.
-    fn finish(&self, name: &[u8]) -> io::Result<()> {
+    // Gives a whole file its name, in place of what stood there, once the disk has its bytes.
+    fn finish(&self, name: &[u8], file: RealFile<'a, R>) -> io::Result<()> {
+        file.sync()?;
+        drop(file);
         let part = unfinished(self.alloc, name)?;
         self.rt.rename(text(part.as_slice())?, text(name)?)
     }
@@ -144,8 +146,7 @@ impl<'a, R: Files<File = File> + Eprint + Sync> House for SegmentHouse<'a, R> {
             self.spoilt = self.spoilt.saturating_add(1);
             return Ok(());
         }
-        drop(file);
-        match self.finish(name) {
+        match self.finish(name, file) {
             Ok(()) => {
                 self.part = None;
                 Ok(())

@@ -1,5 +1,6 @@
 //! Texts of others on standard error.
 
+use crate::hidden::is_hidden;
 use crate::journal::is_ready;
 use std::fmt::{Display, Formatter};
 use std::io::Eprint;
@@ -11,8 +12,9 @@ const MOST: usize = 64;
 /// How long a line waits for room on standard error at most, in milliseconds.
 const PATIENCE: i32 = 1000;
 
-/// A text in which `?` stands for each control character, those from U+0080 to U+009F too, so that it is on one line and
-/// commands no terminal.
+/// A text in which `?` stands for each control character, those from U+0080 to U+009F too, for each format character
+/// and each
+/// separator of lines, so that it is on one line, in its own order, and commands no terminal.
 #[derive(Clone, Copy)]
 pub struct Shown<'a> {
     pub text: &'a str,
@@ -21,13 +23,14 @@ pub struct Shown<'a> {
 impl Display for Shown<'_> {
     fn fmt<W: fmt::Write>(&self, f: &mut Formatter<W>) -> fmt::Result {
         for c in self.text.chars() {
-            f.write_char(if c.is_control() { '?' } else { c })?;
+            f.write_char(if is_hidden(c) { '?' } else { c })?;
         }
         Ok(())
     }
 }
 
-/// The first 64 bytes of what a peer wrote, so that no character is cut. `?` stands for each control character, and for each byte
+/// The first 64 bytes of what a peer wrote, so that no character is cut. `?` stands for what [`Shown`] has it for,
+/// and for each byte
 /// that isn't ASCII where it is no text.
 #[derive(Clone, Copy)]
 pub struct Written<'a> {
@@ -60,13 +63,27 @@ impl Display for Written<'_> {
     }
 }
 
-/// Says what something is of which a name tells, on one line of standard error. Where there is no room for a second, it says nothing.
-pub fn say<R: Eprint, D: Display>(rt: &R, name: &[u8], what: &D) {
-    if !is_ready(PATIENCE) {
-        return;
+/// A line that says what something is of which a name tells.
+#[derive(Drop)]
+pub struct Named<'a, D> {
+    pub name: &'a [u8],
+    pub what: &'a D,
+}
+
+impl<D: Display> Display for Named<'_, D> {
+    fn fmt<W: fmt::Write>(&self, f: &mut Formatter<W>) -> fmt::Result {
+        let what = self.what;
+        match str::from_utf8(self.name) {
+            Ok(text) => write!(f, "relay: {}: {what}", Shown { text }),
+            Err(_) => write!(f, "relay: a name that isn't UTF-8: {what}"),
+        }
     }
-    let _ = match str::from_utf8(name) {
-        Ok(text) => eprintln!(rt; "relay: {}: {what}", Shown { text }),
-        Err(_) => eprintln!(rt; "relay: a name that isn't UTF-8: {what}"),
-    };
+}
+
+/// Says what something is of which a name tells, on one line of standard error, for a command that nobody waits
+/// for. Where there is no room for a second, it says nothing.
+pub fn say<R: Eprint, D: Display>(rt: &R, name: &[u8], what: &D) {
+    if is_ready(PATIENCE) {
+        let _ = eprintln!(rt; "{}", Named { name, what });
+    }
 }

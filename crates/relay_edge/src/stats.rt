@@ -1,7 +1,9 @@
 //! What a server is doing, as a table for people and as JSON for programs.
 
+use crate::json::{Quoted, QuotedText};
+use crate::recordings::Recorded;
 use crate::seats::{Doing, Sight};
-use crate::shown::Written;
+use crate::shown::{Shown, Written};
 use crate::watch::{Broadcasts, Watch};
 use std::alloc::{AllocError, Global};
 use std::fmt::{Display, Formatter};
@@ -16,6 +18,7 @@ pub struct Stats {
     missed: u64,
     sights: Vec<Sight>,
     broadcasts: Vec<Broadcasts>,
+    recordings: Vec<Recorded>,
 }
 
 // So many milliseconds, in seconds and tenths.
@@ -49,42 +52,6 @@ impl Display for Name<'_> {
     }
 }
 
-// A text of JSON, of what a peer wrote.
-#[derive(Clone, Copy)]
-struct Quoted<'a> {
-    bytes: &'a [u8],
-}
-
-// Writes what is written to it without the two characters that JSON's texts can't have as they are.
-#[derive(Drop)]
-struct Escapes<'a, W> {
-    f: &'a mut Formatter<W>,
-}
-
-impl<W: fmt::Write> fmt::Write for Escapes<'_, W> {
-    fn write_str(&mut self, s: &str) -> fmt::Result {
-        for c in s.chars() {
-            if c == '"' || c == '\\' {
-                self.f.write_char('\\')?;
-            }
-            self.f.write_char(c)?;
-        }
-        Ok(())
-    }
-}
-
-impl Display for Quoted<'_> {
-    fn fmt<W: fmt::Write>(&self, f: &mut Formatter<W>) -> fmt::Result {
-        f.write_char('"')?;
-        let mut escapes = Escapes { f: &mut *f };
-        fmt::Write::write_fmt(
-            &mut escapes,
-            format_args!("{}", Written { bytes: self.bytes }),
-        )?;
-        f.write_char('"')
-    }
-}
-
 fn word_of(doing: Doing) -> &'static str {
     match doing {
         Doing::Nothing => "connects",
@@ -93,6 +60,16 @@ fn word_of(doing: Doing) -> &'static str {
         Doing::Plays => "plays",
         Doing::Pulled => "is pulled",
     }
+}
+
+// The protocol of a link, once it is known.
+fn protocol_of(sight: &Sight) -> &'static str {
+    if sight.http { "http" } else { "rtmp" }
+}
+
+// The name of a recording's file.
+fn file_of(recorded: &Recorded) -> &str {
+    str::from_utf8(recorded.name.as_slice()).unwrap_or("?")
 }
 
 // How many players a name has, and who publishes it.
@@ -144,6 +121,7 @@ impl Stats {
             missed: watch.log.sink().missed(),
             sights,
             broadcasts,
+            recordings: watch.recordings().see(alloc)?,
         })
     }
 
@@ -161,7 +139,7 @@ impl Stats {
 
     fn add_link(&self, alloc: Global, text: &mut String, sight: &Sight) -> Result<(), AllocError> {
         let address = format!(in alloc; "{}", sight.address)?;
-        let does = word_of(sight.doing);
+        let (does, over) = (word_of(sight.doing), protocol_of(sight));
         let behind = match self.behind(sight) {
             Some(seconds) => format!(in alloc; "{seconds}")?,
             None => format!(in alloc; "-")?,
@@ -173,7 +151,7 @@ impl Stats {
             name: sight.name.as_slice(),
         };
         let line = format!(in alloc;
-            "{address:<22} {does:<12} {received:>13} {sent:>13} {seconds:>10} {behind:>8}  {name}\n"
+            "{address:<22} {over:<5} {does:<12} {received:>13} {sent:>13} {seconds:>10} {behind:>8}  {name}\n"
         )?;
         text.push_str(&line)
     }
@@ -198,14 +176,57 @@ impl Stats {
         text.push_str(&line)
     }
 
-    /// A line for each link and for each stream.
+    fn add_recording(
+        &self,
+        alloc: Global,
+        text: &mut String,
+        recorded: &Recorded,
+    ) -> Result<(), AllocError> {
+        let file = Shown {
+            text: file_of(recorded),
+        };
+        let fault = match &recorded.fault {
+            Some(words) => Shown {
+                text: words.as_str(),
+            },
+            None => Shown { text: "-" },
+        };
+        let Recorded {
+            bytes,
+            broadcasts,
+            skipped,
+            ..
+        } = recorded;
+        let line = format!(in alloc;
+            "{bytes:>13} {broadcasts:>10} {skipped:>8}  {file}  {fault}\n"
+        )?;
+        text.push_str(&line)
+    }
+
+    fn add_recordings(&self, alloc: Global, text: &mut String) -> Result<(), AllocError> {
+        if self.recordings.is_empty() {
+            return Ok(());
+        }
+        let head = format!(in alloc;
+            "\n{:>13} {:>10} {:>8}  {}  {}\n",
+            "BYTES", "BROADCASTS", "SKIPPED", "RECORDING", "FAULT"
+        )?;
+        text.push_str(&head)?;
+        for recorded in self.recordings.as_slice() {
+            self.add_recording(alloc, text, recorded)?;
+        }
+        Ok(())
+    }
+
+    /// A line for each link, each stream and each recording.
     pub fn table(&self, alloc: Global) -> Result<String, AllocError> {
         let mut text = format!(in alloc;
-            "runs for {} s, {} links, lost {} lines of the log\n\n{:<22} {:<12} {:>13} {:>13} {:>10} {:>8}  {}\n",
+            "runs for {} s, {} links, lost {} lines of the log\n\n{:<22} {:<5} {:<12} {:>13} {:>13} {:>10} {:>8}  {}\n",
             self.since(self.begun),
             self.sights.len(),
             self.missed,
             "LINK",
+            "OVER",
             "DOES",
             "BYTES IN",
             "BYTES OUT",
@@ -224,6 +245,7 @@ impl Stats {
         for stream in self.broadcasts.as_slice() {
             self.add_stream(alloc, &mut text, stream)?;
         }
+        self.add_recordings(alloc, &mut text)?;
         Ok(text)
     }
 
@@ -237,7 +259,7 @@ impl Stats {
             Some(seconds) => format!(in alloc; "{seconds}")?,
             None => format!(in alloc; "null")?,
         };
-        let does = word_of(sight.doing);
+        let (does, over) = (word_of(sight.doing), protocol_of(sight));
         let app = Quoted {
             bytes: sight.app.as_slice(),
         };
@@ -247,7 +269,7 @@ impl Stats {
         let (address, received, sent) = (sight.address, sight.received, sight.sent);
         let seconds = self.since(sight.begun);
         let line = format!(in alloc;
-            "{{\"address\": \"{address}\", \"does\": \"{does}\", \"app\": {app}, \"name\": {name}, "
+            "{{\"address\": \"{address}\", \"over\": \"{over}\", \"does\": \"{does}\", \"app\": {app}, \"name\": {name}, "
         )?;
         text.push_str(&line)?;
         let line = format!(in alloc;
@@ -280,7 +302,37 @@ impl Stats {
         text.push_str(&line)
     }
 
-    /// An object with the links and the streams.
+    fn add_json_recording(
+        &self,
+        alloc: Global,
+        text: &mut String,
+        recorded: &Recorded,
+    ) -> Result<(), AllocError> {
+        let file = QuotedText {
+            text: file_of(recorded),
+        };
+        let fault = match &recorded.fault {
+            Some(words) => format!(in alloc;
+                "{}",
+                QuotedText {
+                    text: words.as_str()
+                }
+            )?,
+            None => format!(in alloc; "null")?,
+        };
+        let Recorded {
+            bytes,
+            broadcasts,
+            skipped,
+            ..
+        } = recorded;
+        let line = format!(in alloc;
+            "{{\"file\": {file}, \"bytes\": {bytes}, \"broadcasts\": {broadcasts}, \"skipped\": {skipped}, \"fault\": {fault}}}"
+        )?;
+        text.push_str(&line)
+    }
+
+    /// An object with the links, the streams and the recordings.
     pub fn json(&self, alloc: Global) -> Result<String, AllocError> {
         let mut text = format!(in alloc;
             "{{\"seconds\": {}, \"lost_lines\": {}, \"links\": [",
@@ -299,6 +351,13 @@ impl Stats {
             text.push_str(if first { "\n  " } else { ",\n  " })?;
             first = false;
             self.add_json_stream(alloc, &mut text, stream)?;
+        }
+        text.push_str("], \"recordings\": [")?;
+        first = true;
+        for recorded in self.recordings.as_slice() {
+            text.push_str(if first { "\n  " } else { ",\n  " })?;
+            first = false;
+            self.add_json_recording(alloc, &mut text, recorded)?;
         }
         text.push_str("]}\n")?;
         Ok(text)

@@ -2,10 +2,16 @@
 
 use crate::clock::milliseconds;
 use crate::journal::Journal;
+use crate::listeners::Listeners;
+use crate::recordings::Recordings;
 use crate::seats::{Seats, Sight, held};
-use log::{LevelFilter, Logged};
+use crate::shown::Named;
+use log::{LevelFilter, Logged, warn};
 use mio::net::UnixStream;
 use std::alloc::{AllocError, Global};
+use std::fmt::Display;
+use std::io;
+use std::os::unix::net::UnixListener;
 use std::sync::atomic::{AtomicBool, AtomicU64, Ordering};
 use std::sync::{Arc, Mutex, OnceLock};
 
@@ -21,6 +27,17 @@ const STARTING: u64 = 2000;
 /// Of so many names broadcasts are counted.
 const MOST_NAMES: usize = 1024;
 
+// What the system says where there is no descriptor or no memory for a socket: ENOMEM, ENFILE, EMFILE and ENOBUFS.
+const SHORTAGES: [i32; 4] = [12, 23, 24, 105];
+
+/// Whether the system has no room for a socket, so that it is to be asked again later.
+pub fn is_shortage(error: &io::Error) -> bool {
+    match error.raw_os_error() {
+        Some(number) => SHORTAGES.contains(&number),
+        None => false,
+    }
+}
+
 /// How a server is watched.
 #[derive(Drop)]
 pub struct Watching {
@@ -28,6 +45,8 @@ pub struct Watching {
     pub level: LevelFilter,
     /// After how many seconds a link that gives nothing ends; 0 stands for never.
     pub silence: u64,
+    /// Whether each line of its log begins with the date and the time.
+    pub times: bool,
     /// Where the Unix socket is by which it is asked how it is and told to stop, if it has one.
     pub control: Option<String>,
 }
@@ -38,6 +57,7 @@ impl Watching {
         Watching {
             level: LevelFilter::Off,
             silence: 0,
+            times: false,
             control: None,
         }
     }
@@ -80,10 +100,18 @@ pub struct Watch {
     publishing: AtomicU64,
     // When it was told to stop, by the clock, or 0.
     stopped: AtomicU64,
-    // Who told it, and is to wait for its end.
-    waiting: OnceLock<UnixStream>,
+    // Those who told it, and are to wait for its end.
+    waiting: Mutex<Vec<UnixStream>>,
+    recordings: Recordings,
+    // Where it listens for connections, and for those who ask how it is.
+    listeners: Listeners,
+    // It has said where.
+    told: AtomicBool,
+    control: Mutex<Option<UnixListener>>,
     // The log has told that all links are taken, and none is gone since.
     crowded: AtomicBool,
+    // The log has told that the system has no descriptor or memory for a connection, and none came since.
+    short: AtomicBool,
     // How many workers run, and since when, by the clock, or 0.
     running: AtomicU64,
     ran: AtomicU64,
@@ -106,15 +134,20 @@ impl Watch {
             add(&mut seats, OnceLock::new())?;
         }
         let watch = Watch {
-            log: Logged::new((), watching.level, Journal::new()),
+            log: Logged::new((), watching.level, Journal::new(watching.times)),
             silence: watching.silence.saturating_mul(1000),
             begun: milliseconds(),
             seats,
             broadcasts: Mutex::new(Vec::new(alloc)),
             publishing: AtomicU64::new(0),
             stopped: AtomicU64::new(0),
-            waiting: OnceLock::new(),
+            waiting: Mutex::new(Vec::new(alloc)),
+            recordings: Recordings::new(alloc),
+            listeners: Listeners::new(alloc),
+            told: AtomicBool::new(false),
+            control: Mutex::new(None),
             crowded: AtomicBool::new(false),
+            short: AtomicBool::new(false),
             running: AtomicU64::new(0),
             ran: AtomicU64::new(0),
             counted: AtomicBool::new(false),
@@ -134,6 +167,58 @@ impl Watch {
         if self.running.fetch_add(1, Ordering::SeqCst) == 0 {
             self.ran.store(now, Ordering::SeqCst);
         }
+    }
+
+    /// Whether a worker has run.
+    pub fn has_run(&self) -> bool {
+        self.running.load(Ordering::SeqCst) > 0
+    }
+
+    /// A line of standard error, whatever the level of the log is. Nobody waits for who reads it: where there
+    /// is no room it is lost and counted.
+    pub fn say<D: Display>(&self, line: &D) {
+        self.log.sink().say(line);
+    }
+
+    /// The same, of what something is of which a name tells.
+    pub fn say_of<D: Display>(&self, name: &[u8], what: &D) {
+        self.say(&Named { name, what });
+    }
+
+    /// What it records.
+    pub fn recordings(&self) -> &Recordings {
+        &self.recordings
+    }
+
+    /// Where it listens.
+    pub fn listeners(&self) -> &Listeners {
+        &self.listeners
+    }
+
+    /// Says where it listens, once.
+    pub fn say_addresses(&self, alloc: Global) {
+        if self.told.swap(true, Ordering::SeqCst) {
+            return;
+        }
+        if let Ok(addresses) = self.listeners.addresses(alloc) {
+            for at in addresses.as_slice() {
+                self.say(&format_args!("relay: listens on {at}"));
+            }
+        }
+    }
+
+    /// It is asked how it is at this socket, by the first worker that takes it.
+    pub fn set_control(&self, socket: UnixListener) {
+        if let Some(mut place) = held(&self.control) {
+            *place = Some(socket);
+        }
+    }
+
+    /// The socket at which it is asked how it is, once.
+    pub fn take_control(&self) -> Option<UnixListener> {
+        let mut place = held(&self.control)?;
+        let place = &mut *place;
+        place.take()
     }
 
     /// How many workers don't run, where that is to be told: once, some time after the first one does. The system gave them no
@@ -217,12 +302,15 @@ impl Watch {
         Ok(copies)
     }
 
-    /// The server is to stop. Who told it is let go at its very end.
+    /// The server is to stop, and listens no more. Who told it is let go at its very end.
     pub fn stop(&self, who: UnixStream, now: u64) {
-        let _ = self.waiting.try_set(who);
+        if let Some(mut waiting) = held(&self.waiting) {
+            let _ = add(&mut *waiting, who);
+        }
         if !self.is_stopped() {
             self.stopped.store(now, Ordering::SeqCst);
         }
+        self.listeners.close();
     }
 
     /// Whether it was told to stop.
@@ -238,6 +326,21 @@ impl Watch {
     /// All links are taken, and one more waits. Whether that is new.
     pub fn crowd(&self) -> bool {
         !self.crowded.swap(true, Ordering::SeqCst)
+    }
+
+    /// A connection couldn't be accepted. The log is told where the system had no descriptor or no memory for
+    /// it, and that is new.
+    pub fn lack(&self, error: &io::Error) {
+        if is_shortage(error) && !self.short.swap(true, Ordering::SeqCst) {
+            warn!(self.log; "relay: a connection waits, since the system refuses it: {error}");
+        }
+    }
+
+    /// One came.
+    pub fn supply(&self) {
+        if self.short.load(Ordering::SeqCst) {
+            self.short.store(false, Ordering::SeqCst);
+        }
     }
 
     /// One is gone.

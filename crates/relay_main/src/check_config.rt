@@ -210,8 +210,8 @@ fn names_of(config: &Config) -> u32 {
     names
 }
 
-// How many links all workers have, that of the HTTP players too.
-fn all_links(config: &Config) -> u32 {
+/// How many links all workers have, that of the HTTP players too.
+pub fn all_links(config: &Config) -> u32 {
     let workers = config.workers.saturating_add(http_workers(config));
     workers.saturating_mul(config.links)
 }
@@ -305,8 +305,8 @@ pub fn command<R: Eprint + Files<File = File>>(host: &HostRuntime, rt: &R, name:
     }
 }
 
-// What the file of that name holds, where it is one that can be read anew.
-fn read_anew<R: Files<File = File>>(rt: &R, alloc: Global, name: &str) -> Option<Vec<u8>> {
+/// What the file of that name holds, where it is one that can be read anew.
+pub fn read_anew<R: Files<File = File>>(rt: &R, alloc: Global, name: &str) -> Option<Vec<u8>> {
     let there = rt.metadata(name).ok()?;
     if !there.is_file() {
         return None;

@@ -2,9 +2,9 @@
 
 use crate::{BAD_WORDS, LINK_FAULT, WRITE_FAULT, is, status, tell_fault};
 use relay_base::Status;
-use std::io::{ErrorKind, Read, Write};
+use relay_edge::Asking;
+use std::io::Write;
 use std::net::Net;
-use std::os::unix::net::UnixStream;
 use std::{io, str};
 
 /// An answer has at most so many pieces.
@@ -16,36 +16,52 @@ enum Fault {
     Output(io::Error),
 }
 
+// What a server is asked.
+#[derive(Clone, Copy, PartialEq, Eq)]
+enum Question {
+    Stop,
+    Stats,
+    StatsAsJson,
+}
+
+impl Question {
+    fn text(self) -> &'static [u8] {
+        match self {
+            Question::Stop => b"stop\n",
+            Question::Stats => b"stats\n",
+            Question::StatsAsJson => b"stats --json\n",
+        }
+    }
+}
+
 // What the words ask at which socket.
-fn question(words: &[Vec<u8>]) -> Option<(&'static [u8], &str)> {
+fn question(words: &[Vec<u8>]) -> Option<(Question, &str)> {
     let [command, path, more @ ..] = words else {
         return None;
     };
-    let asked: &'static [u8] = match (command.as_slice(), more) {
-        (b"stop", []) => b"stop\n",
-        (b"stats", []) => b"stats\n",
-        (b"stats", [form]) if is(form, "--json") => b"stats --json\n",
+    let question = match (command.as_slice(), more) {
+        (b"stop", []) => Question::Stop,
+        (b"stats", []) => Question::Stats,
+        (b"stats", [form]) if is(form, "--json") => Question::StatsAsJson,
         _ => return None,
     };
-    Some((asked, str::from_utf8(path.as_slice()).ok()?))
+    Some((question, str::from_utf8(path.as_slice()).ok()?))
 }
 
-// Asks, and writes what is answered on standard output.
-fn ask<T: Net>(host: &HostRuntime, rt: &T, path: &str, asked: &[u8]) -> Result<(), Fault> {
-    let mut stream = UnixStream::connect(rt, path).map_err(Fault::Server)?;
-    stream.write_all(asked).map_err(Fault::Server)?;
+// Asks, and writes what is answered on standard output. A server that says that it stops may take any time until
+// it has, and then closes.
+fn ask<T: Net>(host: &HostRuntime, rt: &T, path: &str, question: Question) -> Result<(), Fault> {
+    let mut asking = Asking::begin(rt, path, question.text()).map_err(Fault::Server)?;
     let mut out = io::writer(host);
     let mut room = [0u8; 4096];
     for _ in 0..MOST_PIECES {
-        match stream.read(&mut room) {
-            Ok(0) => return Ok(()),
-            Ok(count) => {
-                if let Some(piece) = room.get(..count) {
-                    out.write_all(piece).map_err(Fault::Output)?;
-                }
+        let count = asking.read(&mut room).map_err(Fault::Server)?;
+        match room.get(..count) {
+            Some(piece) if count > 0 && question != Question::Stop => {
+                out.write_all(piece).map_err(Fault::Output)?;
             }
-            Err(error) if error.kind() == ErrorKind::Interrupted => {}
-            Err(error) => return Err(Fault::Server(error)),
+            Some(_) if count > 0 => asking.wait(),
+            _ => return Ok(()),
         }
     }
     Ok(())
@@ -53,10 +69,10 @@ fn ask<T: Net>(host: &HostRuntime, rt: &T, path: &str, asked: &[u8]) -> Result<(
 
 /// Asks the server at the socket that the words name. `stop` waits until it has ended.
 pub fn command<T: Net>(host: &HostRuntime, rt: &T, words: &[Vec<u8>]) -> Status {
-    let Some((asked, path)) = question(words) else {
+    let Some((question, path)) = question(words) else {
         return status(BAD_WORDS);
     };
-    match ask(host, rt, path, asked) {
+    match ask(host, rt, path, question) {
         Ok(()) => status(0),
         Err(Fault::Server(error)) => {
             tell_fault(host, path, Some(error));

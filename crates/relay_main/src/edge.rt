@@ -3,6 +3,7 @@
 use crate::adapters::{ConfigFile, Reading, Writing};
 use crate::check_config::is_open;
 use crate::serve::{file_name, tell_end};
+use crate::starting::prepare;
 use crate::watching::{Unfit, tell_unfit, watching};
 use crate::{BAD_WORDS, HOUSE_FAULT, NO_MEMORY, status, tell_fault};
 use edge_serve::{Edged, edge, edge_target};
@@ -54,18 +55,21 @@ pub fn command<
             return status(BAD_WORDS);
         }
     };
-    if is_open(rt, alloc, name) {
-        let _ = eprintln!(host;
-            "relay: {}: it lists no stream, so nobody can ask for what the origin sends",
-            Shown { text: name }
-        );
-    }
     let mut config = Reading::new(ConfigFile::open(rt, name));
     let mut report = Writing::new(io::writer(host));
     let Ok(mut house) = RealHouse::watched(rt, alloc, watching) else {
         return status(NO_MEMORY);
     };
     house.spare(name);
+    if is_open(rt, alloc, name) {
+        house.say(&format_args!(
+            "relay: {}: it lists no stream, so nobody can ask for what the origin sends",
+            Shown { text: name }
+        ));
+    }
+    if let Some(refused) = prepare(rt, alloc, &house, name, 1) {
+        return refused;
+    }
     let (link, rest) = match house.reach(address) {
         Ok(both) => both,
         Err(error) => {

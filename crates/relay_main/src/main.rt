@@ -14,6 +14,7 @@ mod script;
 mod segments;
 mod serve;
 mod spot;
+mod starting;
 mod texts;
 mod usage;
 mod watching;
@@ -23,7 +24,7 @@ use adapters::{Reading, Writing};
 use file_commands::{Remuxed, remux_and_tell};
 use key_guard::{Grants, Guard, Guards, Mode, by_digest, by_name, by_named};
 use relay_base::Status;
-use relay_edge::Shown;
+use relay_edge::{Shown, is_heard};
 use relay_outside::{Sink, Source};
 use relay_program::{Command, command_of, run};
 use script::Script;
@@ -306,18 +307,25 @@ fn read_words(rt: &HostRuntime) -> Result<Vec<Vec<u8>>, u8> {
     }
 }
 
+// Whether the words are those of a server, which waits for nobody who reads what it says.
+fn serves(words: &[Vec<u8>]) -> bool {
+    is_first(words, "serve") || is_first(words, "edge")
+}
+
 fn main(rt: HostRuntime) -> ExitCode {
+    let mut heard = true;
     let Status { code, place } = match read_words(&rt) {
         Ok(words) => {
             let answered = answer(&rt, &rt, &words);
-            if answered.code == BAD_WORDS {
+            heard = answered.code == 0 || !serves(&words) || is_heard();
+            if answered.code == BAD_WORDS && heard {
                 tell_misuse(&rt, &words);
             }
             answered
         }
         Err(code) => status(code),
     };
-    if code != 0 {
+    if code != 0 && heard {
         let _ = eprintln!(rt; "relay: status {code} at {place}");
     }
     ExitCode::from(code)

@@ -2,11 +2,12 @@
 
 use crate::adapters::{ConfigFile, Reading, Writing};
 use crate::check_config::explain;
+use crate::starting::prepare;
 use crate::watching::{Unfit, tell_unfit, watching};
 use crate::{BAD_INPUT, BAD_WORDS, NO_MEMORY, READ_FAULT, WRITE_FAULT, status, tell_fault};
 use key_guard::Guards;
 use relay_base::Status;
-use relay_edge::RealHouse;
+use relay_edge::{RealHouse, is_heard};
 use relay_serve::serve;
 use std::fs::{File, Files};
 use std::io::Eprint;
@@ -32,6 +33,9 @@ pub fn tell_end<R: Eprint + Files<File = File>>(
     file: Option<io::Error>,
     output: Option<io::Error>,
 ) {
+    if ended.code == 0 || !is_heard() {
+        return;
+    }
     match ended.code {
         READ_FAULT => tell_fault(host, name, file),
         BAD_INPUT => explain(rt, host.alloc(), name),
@@ -68,6 +72,9 @@ pub fn command<
         return status(NO_MEMORY);
     };
     house.spare(name);
+    if let Some(refused) = prepare(rt, alloc, &house, name, 0) {
+        return refused;
+    }
     let ended = serve(
         rt,
         alloc,

@@ -63,6 +63,7 @@ Then it prints a line for each stream and each open application.
 Environment:
   RELAY_LOG=LEVEL      what is logged on standard error: off, error, warn, info
                        or debug, each with those before it; default info
+  RELAY_LOG_TIME=1     begins each line of the log with the date and the time
   RELAY_SILENCE=N      closes a publisher that sends nothing for N seconds, a
                        connection that neither publishes nor plays by then, and
                        a player that reads none of the data waiting for it for
@@ -92,17 +93,19 @@ has to start playing.
 const STATS: &str = "usage: relay stats PATH [--json]
 
 Asks the server whose RELAY_CONTROL is PATH, and prints a line for each
-connection and each stream: its address, what it does, its bytes in each
-direction, its age, and how far a player is behind its stream, in seconds. With
---json it prints the same as JSON.
+connection, each stream and each recording: its address, what it does, its bytes
+in each direction, its age, how far a player is behind its stream, in seconds,
+and what ended a recording. With --json it prints the same as JSON. It gives up
+after 10 seconds without an answer.
 ";
 
 const STOP: &str = "usage: relay stop PATH
 
 Tells the server whose RELAY_CONTROL is PATH to stop, and waits until it has
-exited: it accepts no more connections, publishers are closed, players are sent
+exited: it closes its listening sockets, publishers are closed, players are sent
 what is left and the end of the stream, recordings are completed, and the report
-is printed.
+is printed. It gives up if the server doesn't say within 10 seconds that it stops.
+The script contrib/relay-run does the same at a signal.
 ";
 
 const CHECK_CONFIG: &str = "usage: relay check-config FILE
@@ -322,13 +325,15 @@ pub const STATUS: &str = "Exit status:
       fails
   5   standard output could not be written; segment: or a file
   6   out of memory
-  7   an address or a file could not be had; serve, edge: nobody was served
+  7   an address or a file could not be had; serve, edge: or a thread for each
+      worker, and nobody was served
   8   remux, segment: the file was read to its end, and an audio or video frame
       was left out
   9   segment: there would be more than 100000 segments; loop: the file did not
       come back
   10  push, pull: the server closed the connection
-  11  push, pull, stats, stop: there was no connection, or it failed
+  11  push, pull, stats, stop: there was no connection, or it failed; stats, stop:
+      or there was no answer
   12  push, pull: the server sent invalid RTMP at byte PLACE
   13  push, pull: the server refused the request
 

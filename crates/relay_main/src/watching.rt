@@ -1,6 +1,6 @@
 //! How a server is watched, by the variables of its environment.
 
-use relay_edge::{Shown, Watching};
+use relay_edge::{Shown, Watching, is_heard};
 use std::env;
 use std::env::VarError;
 
@@ -12,6 +12,9 @@ const SILENCE: &str = "RELAY_SILENCE";
 
 /// Where the socket is by which the server is asked how it is and told to stop.
 const CONTROL: &str = "RELAY_CONTROL";
+
+/// Whether each line of the log begins with the date and the time.
+const TIMES: &str = "RELAY_LOG_TIME";
 
 /// They are so many where the variable isn't set.
 const SECONDS: u64 = 20;
@@ -61,14 +64,30 @@ pub fn watching(host: &HostRuntime) -> Result<Watching, Unfit> {
             wanted: "a number of seconds",
         });
     };
+    let times = match variable(host, TIMES)? {
+        None => false,
+        Some(value) => match value.as_str() {
+            "0" => false,
+            "1" => true,
+            _ => {
+                return Err(Unfit::Variable {
+                    name: TIMES,
+                    wanted: "0 or 1",
+                });
+            }
+        },
+    };
     Ok(Watching {
         level,
         silence,
+        times,
         control: variable(host, CONTROL)?,
     })
 }
 
 /// Says on standard error what is wanted of a variable.
 pub fn tell_unfit(host: &HostRuntime, name: &str, wanted: &str) {
-    let _ = eprintln!(host; "relay: {}: {wanted} is wanted", Shown { text: name });
+    if is_heard() {
+        let _ = eprintln!(host; "relay: {}: {wanted} is wanted", Shown { text: name });
+    }
 }

@@ -1,0 +1,129 @@
+//! What a configuration needs of the system: descriptors, and a thread for each worker.
+
+use crate::check_config::{all_links, read_anew};
+use crate::{HOUSE_FAULT, status};
+use relay_base::Status;
+use relay_config::{Config, http_workers, read_config};
+use relay_edge::{RealHouse, most_descriptors};
+use std::alloc::Global;
+use std::fs::{File, Files};
+use std::io::Eprint;
+use std::sync::Arc;
+use std::sync::atomic::{AtomicBool, Ordering};
+use std::thread;
+use std::thread::Threads;
+
+/// A thread that is tried goes on for so many milliseconds at most.
+const LONGEST: u32 = 60_000;
+
+/// How many descriptors a worker has: its poll, a handle of that, its waker, and a handle of the socket at which
+/// it listens.
+const OF_WORKER: u64 = 4;
+
+/// How many a server has besides: the standard streams, two sockets at which it listens with two handles of each,
+/// the one at which it is asked how it is, 16 who ask, and some of the C library's.
+const OF_SERVER: u64 = 32;
+
+/// What a server needs of the system.
+#[derive(Clone, Copy)]
+struct Needs {
+    /// Descriptors, when all links are taken.
+    pub descriptors: u64,
+    /// Workers, with that of HTTP players and that of an edge. Each needs a thread of its own, and the first
+    /// has the program's.
+    pub workers: u32,
+}
+
+// How many files the configuration has recordings in.
+fn recordings(config: &Config) -> u64 {
+    let mut count = 0u64;
+    for rule in config.places.as_slice() {
+        count = count.saturating_add(u64::from(rule.flv.is_some()));
+        count = count.saturating_add(u64::from(rule.ts.is_some()));
+    }
+    count
+}
+
+// What the configuration in the file of that name needs, with so many origins of an edge. `None` where it is
+// refused, or can't be read anew.
+fn needs<R: Files<File = File>>(rt: &R, alloc: Global, name: &str, edges: u32) -> Option<Needs> {
+    let text = read_anew(rt, alloc, name)?;
+    let config = read_config(alloc, text.as_slice()).ok()?;
+    let workers = config
+        .workers
+        .saturating_add(http_workers(&config))
+        .saturating_add(edges);
+    let polls = u64::from(workers).saturating_mul(OF_WORKER);
+    let links = u64::from(all_links(&config)).saturating_add(u64::from(edges));
+    Some(Needs {
+        descriptors: polls
+            .saturating_add(links)
+            .saturating_add(recordings(&config))
+            .saturating_add(OF_SERVER),
+        workers,
+    })
+}
+
+// Goes on until it is told to end.
+fn go_on(over: &AtomicBool) {
+    for _ in 0..LONGEST {
+        if over.load(Ordering::SeqCst) {
+            return;
+        }
+        libc::net::poll(&mut [], 1);
+    }
+}
+
+// How many threads the system gives at once beside this one, of so many.
+fn threads<R: Threads>(rt: &R, alloc: Global, most: u32) -> u32 {
+    let Ok(over) = Arc::new(alloc, AtomicBool::new(false)) else {
+        return 0;
+    };
+    let mut running = Vec::new(alloc);
+    let mut count = 0u32;
+    for _ in 0..most {
+        let Ok(theirs) = Arc::try_clone(&over) else {
+            break;
+        };
+        let Ok(thread) = thread::spawn(rt, move || go_on(&theirs)) else {
+            break;
+        };
+        count = count.saturating_add(1);
+        let _ = running.push(thread);
+    }
+    over.store(true, Ordering::SeqCst);
+    for thread in running {
+        thread.join(rt);
+    }
+    count
+}
+
+/// Says where the system gives fewer descriptors than the configuration in the file of that name needs. Where it
+/// gives fewer threads than there are workers the server can't start: that is said too, and `Some` of the status
+/// it ends with. A file that can't be read anew is looked at only when it is served.
+pub fn prepare<R: Threads + Eprint + Files<File = File>>(
+    rt: &R,
+    alloc: Global,
+    house: &RealHouse<'_, R>,
+    name: &str,
+    edges: u32,
+) -> Option<Status> {
+    let needs = needs(rt, alloc, name, edges)?;
+    let given = most_descriptors();
+    if given < needs.descriptors {
+        house.say(&format_args!(
+            "relay: all links together need {} descriptors, and the system gives {given}",
+            needs.descriptors
+        ));
+    }
+    let beside = needs.workers.saturating_sub(1);
+    let given = threads(rt, alloc, beside).saturating_add(1);
+    if given >= needs.workers {
+        return None;
+    }
+    house.say(&format_args!(
+        "relay: the system gives threads to {given} of {} workers, and each needs one",
+        needs.workers
+    ));
+    Some(status(HOUSE_FAULT))
+}
