@@ -9,6 +9,7 @@ pub mod Few
 pub mod Numbered
 pub mod Telling
 pub mod Enlisting
+pub mod Serves
 pub mod Recording
 pub mod Settling
 pub mod Players
