@@ -145,8 +145,8 @@ def no_room(relay, folder):
     publisher = Client(server.port).open("publish", "one")
     again, other = refused(server.port, "publish", "one"), refused(server.port, "publish", "two")
     wants = [
-        f"{address(again)} refused: somebody publishes live/one\n",
-        f"{address(other)} refused: somebody publishes, or no place is left at live/two\n",
+        f'{address(again)} refused: somebody publishes "live/one"\n',
+        f'{address(other)} refused: somebody publishes, or no place is left at "live/two"\n',
     ]
     for want in wants:
         expect(wait_for(lambda: want in lines), f"no_room: the log lacks {want!r}")
@@ -488,8 +488,12 @@ def full(relay, folder):
     """Nobody reads the log: connections are served all the same, and the lines that were lost are counted."""
     server = Server(relay, folder, {"cam": ""}, RELAY_LOG="debug")
     fcntl.fcntl(server.process.stderr.fileno(), 1031, 4096)
-    for _ in range(40):
-        Client(server.port).open("play", "cam").close()
+    for _ in range(2):
+        for _ in range(20):
+            Client(server.port).open("play", "cam").close()
+            refused(server.port, "play", "x" * 64).close()
+        # Of one kind 20 lines are logged in a second.
+        time.sleep(1)
     publisher = Client(server.port).open("publish", "cam")
     publisher.push(VIDEO, 0, CONFIGURATION)
     player = Client(server.port).open("play", "cam")

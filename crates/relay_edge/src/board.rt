@@ -22,6 +22,8 @@ struct Peer {
     // It has looked at its door since a connection was left to it.
     looked: AtomicBool,
     links: AtomicU64,
+    // Peers that it sees off.
+    farewells: AtomicU64,
     // It waits, or is about to.
     asleep: AtomicBool,
     // Something came since its last wait.
@@ -37,6 +39,7 @@ impl Peer {
             full: AtomicBool::new(false),
             looked: AtomicBool::new(false),
             links: AtomicU64::new(0),
+            farewells: AtomicU64::new(0),
             asleep: AtomicBool::new(false),
             due: AtomicBool::new(false),
         }
@@ -249,6 +252,35 @@ impl Board {
         }
     }
 
+    /// It sees off one peer more.
+    pub fn add_farewell(&self, worker: usize) {
+        if let Some(peer) = self.peers.get(worker) {
+            peer.farewells.fetch_add(1, Ordering::SeqCst);
+        }
+    }
+
+    /// It sees off one peer less.
+    pub fn remove_farewell(&self, worker: usize) {
+        if let Some(peer) = self.peers.get(worker) {
+            peer.farewells.fetch_sub(1, Ordering::SeqCst);
+        }
+    }
+
+    /// The worker is to look at once, before it waits again.
+    pub fn hurry(&self, worker: usize) {
+        if let Some(peer) = self.peers.get(worker) {
+            peer.due.store(true, Ordering::SeqCst);
+        }
+    }
+
+    /// Whether the doors of two workers listen at one address.
+    pub fn listens_alike(&self, worker: usize, other: usize) -> bool {
+        match (self.peers.get(worker), self.peers.get(other)) {
+            (Some(mine), Some(peer)) => listen_alike(mine, peer),
+            _ => false,
+        }
+    }
+
     /// Whether the other worker takes links at the same address and has clearly fewer than this one.
     pub fn is_lighter(&self, worker: usize, other: usize) -> bool {
         match (self.peers.get(worker), self.peers.get(other)) {
@@ -290,10 +322,10 @@ impl Board {
         most != 0 && self.given.load(Ordering::SeqCst) >= most as u64 && self.is_empty()
     }
 
-    /// Whether no worker has a link.
+    /// Whether no worker has a link, or sees a peer off.
     pub fn is_empty(&self) -> bool {
         for peer in self.peers.as_slice() {
-            if peer.links.load(Ordering::SeqCst) > 0 {
+            if peer.links.load(Ordering::SeqCst) > 0 || peer.farewells.load(Ordering::SeqCst) > 0 {
                 return false;
             }
         }

@@ -27,6 +27,12 @@ pub const DOOR: usize = 0;
 /// As many links as a worker may have.
 pub const MOST_LINKS: usize = 64;
 
+/// As many peers are seen off at a time.
+pub const MOST_FAREWELLS: usize = 64;
+
+/// The last token: each link has one, and each peer that is seen off.
+pub const LAST_TOKEN: usize = MOST_LINKS + MOST_FAREWELLS;
+
 /// A cell of bits for the door and one for each link of a worker, by their tokens. The door, the links and the rest of
 /// a worker are never used at the same time.
 #[derive(Drop)]
@@ -45,7 +51,7 @@ pub struct Cells {
 impl Cells {
     pub fn new(alloc: Global) -> Result<Cells, AllocError> {
         let mut list = Vec::new(alloc);
-        for _ in 0..=MOST_LINKS {
+        for _ in 0..=LAST_TOKEN {
             if list.push(AtomicU64::new(0)).is_err() {
                 return Err(AllocError);
             }

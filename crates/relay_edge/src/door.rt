@@ -1,18 +1,25 @@
 //! Doors over a listening socket.
 ghost use Rattle.std.specs.Prelude.{◌≡◌, None, false};
 
-use crate::cells::{DOOR, READABLE};
-use crate::link::{Guest, RealLink, Wire};
+use crate::cells::{DOOR, MOST_FAREWELLS, READABLE};
+use crate::link::{Guest, RealLink};
+use crate::options::{bound_buffer, keep_alive};
 use crate::post::Post;
+use crate::throttle::Kind;
 use crate::watch::is_shortage;
-use mio::net::TcpListener;
+use crate::wire::Wire;
+use mio::net::{TcpListener, TcpStream};
 use mio::{Interest, Registry, Token};
 use relay_outside::{Door, Knock};
 use std::alloc::{AllocError, Global};
 use std::io;
 use std::io::ErrorKind;
 use std::marker::Model;
+use std::net::SocketAddr;
 use std::sync::Arc;
+
+/// As many connections are turned away at a time.
+const AT_ONCE: usize = 64;
 
 /// A worker's door. The doors of all workers share one listening socket; a worker that has clearly more links than
 /// another leaves new ones to that one, as long as it looks at its door. All doors together give so many links, and are closed
@@ -20,7 +27,7 @@ use std::sync::Arc;
 ///
 /// The peer of a link that comes back, and was answered why it isn't served, is seen off: it is told that no more comes, and what it
 /// still sends is passed over, until it has closed too or for three seconds. A connection that is closed with bytes unread is reset, and
-/// the peer may lose the answer. So long it counts as a link.
+/// the peer may lose the answer. It counts as no link; where there are 64 the oldest is closed for another.
 #[derive(Drop)]
 pub struct RealDoor {
     listener: TcpListener,
@@ -79,25 +86,68 @@ impl RealDoor {
         self.post.cells.has(DOOR, READABLE) && !self.post.leaves()
     }
 
-    // The next connection, if there is one, registered under the token.
-    fn accept(&self, token: usize) -> io::Result<Option<Guest>> {
-        match self.listener.accept() {
-            Ok((mut stream, address)) => {
-                self.post.watch.supply();
-                stream.set_nodelay(true)?;
-                let both = Interest::READABLE | Interest::WRITABLE;
-                self.registry.register(&mut stream, Token(token), both)?;
-                Ok(Some(Guest { stream, address }))
-            }
-            Err(error) if error.kind() == ErrorKind::WouldBlock || is_shortage(&error) => {
-                self.post.cells.remove(DOOR, READABLE);
-                self.post.watch.lack(&error);
-                Ok(None)
-            }
-            // It listens no more.
-            Err(_) if self.post.watch.is_stopped() => Ok(None),
-            Err(error) => Err(error),
+    // A connection that was accepted, registered under the token.
+    fn prepare(
+        &self,
+        mut stream: TcpStream,
+        address: SocketAddr,
+        token: usize,
+    ) -> io::Result<Guest> {
+        stream.set_nodelay(true)?;
+        keep_alive(&stream);
+        bound_buffer(&stream, self.post.watch.bounds.send_buffer);
+        let both = Interest::READABLE | Interest::WRITABLE;
+        self.registry.register(&mut stream, Token(token), both)?;
+        Ok(Guest { stream, address })
+    }
+
+    // The link of a connection that was accepted is to have the token. None where its address has as many links as it may.
+    fn welcome(
+        &self,
+        stream: TcpStream,
+        address: SocketAddr,
+        token: usize,
+    ) -> io::Result<Option<Guest>> {
+        if !self.post.admits(token, address) {
+            drop(stream);
+            self.post.warn_of(
+                Kind::turned_away(),
+                address,
+                "its address has as many links as it may",
+            );
+            return Ok(None);
         }
+        match self.prepare(stream, address, token) {
+            Ok(guest) => Ok(Some(guest)),
+            Err(error) => {
+                self.post.dismiss(token);
+                Err(error)
+            }
+        }
+    }
+
+    // The next connection, if there is one, registered under the token. Those whose address has as many links as it may are closed.
+    fn accept(&self, token: usize) -> io::Result<Option<Guest>> {
+        for _ in 0..AT_ONCE {
+            match self.listener.accept() {
+                Ok((stream, address)) => {
+                    self.post.watch.supply();
+                    if let Some(guest) = self.welcome(stream, address, token)? {
+                        return Ok(Some(guest));
+                    }
+                }
+                Err(error) if error.kind() == ErrorKind::WouldBlock || is_shortage(&error) => {
+                    self.post.cells.remove(DOOR, READABLE);
+                    self.post.watch.lack(&error);
+                    return Ok(None);
+                }
+                // It listens no more.
+                Err(_) if self.post.watch.is_stopped() => return Ok(None),
+                Err(error) => return Err(error),
+            }
+        }
+        self.post.hurry();
+        Ok(None)
     }
 
     // The same where one more may be given, which is then claimed.
@@ -158,6 +208,9 @@ impl Door for RealDoor {
     fn back(&mut self, link: RealLink) -> Result<(), AllocError> {
         let _ = &self.over;
         if let Some(wire) = link.leave() {
+            if self.leaving.len() >= MOST_FAREWELLS {
+                drop(self.leaving.remove(0));
+            }
             let _ = self.leaving.push(wire);
             self.see_off();
         }

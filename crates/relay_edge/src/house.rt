@@ -10,6 +10,7 @@ use crate::names::{Names, Refusal, text};
 use crate::origin::OriginLink;
 use crate::post::Post;
 use crate::rest::{RealRest, WAKER};
+use crate::turnstile::Turnstile;
 use crate::watch::{EDGE, Watch, Watching};
 use mio::net::TcpListener;
 use mio::{Events, Interest, Poll, Registry, Token, Waker};
@@ -42,6 +43,7 @@ struct Hand {
     post: Arc<Post, Global>,
     registry: Option<Registry>,
     poll: Option<Poll>,
+    turnstile: Option<Turnstile>,
 }
 
 impl Hand {
@@ -59,7 +61,16 @@ impl Hand {
             post: Post::new(alloc, board, watch, worker as usize)?,
             registry: Some(poll.registry().try_clone()?),
             poll: Some(poll),
+            turnstile: None,
         })
+    }
+
+    // Its links are those of HTTP players, and its rest is to turn away those for whom no place is left.
+    fn serve_http(&mut self, alloc: Global, socket: &net::TcpListener) -> io::Result<()> {
+        let listener = TcpListener::from_std(socket.try_clone()?);
+        self.turnstile = Some(Turnstile::new(alloc, listener));
+        self.post.serve_http();
+        Ok(())
     }
 
     // Its door, once.
@@ -95,7 +106,7 @@ impl Hand {
         };
         let events = Events::with_capacity(alloc, EVENTS)?;
         let post = Arc::try_clone(&self.post)?;
-        Ok(RealRest::new(poll, events, post))
+        Ok(RealRest::new(poll, events, post, self.turnstile.take()))
     }
 }
 
@@ -183,7 +194,12 @@ impl Sockets {
     {
         let (socket, number) = self.listener(rt, listen)?;
         self.board.listen(worker as usize, number);
-        Ok(self.hand(rt, worker)?.door(socket, accept)?)
+        let alloc = self.alloc;
+        let hand = self.hand(rt, worker)?;
+        if number > 0 {
+            hand.serve_http(alloc, &socket)?;
+        }
+        Ok(hand.door(socket, accept)?)
     }
 
     fn rest<R: Net>(&mut self, rt: &R, worker: u32) -> io::Result<RealRest> {

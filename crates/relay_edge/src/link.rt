@@ -1,397 +1,25 @@
 //! Links over sockets.
 ghost use Rattle.std.specs.Prelude.{◌≡◌, None};
-ghost use Rattle.std.specs.Io.{ReadsAtMost};
 ghost use Rattle.relay_outside.specs.Heard.{HearStep};
 ghost use Rattle.relay_outside.specs.Said.{SayStep};
 
-use crate::cells::{CALM, CLOSING, READABLE, TAKEN, WRITABLE};
-use crate::inbox::Inbox;
+use crate::cells::{CALM, READABLE, TAKEN, WRITABLE};
 use crate::life::{Life, STUCK};
-use crate::outbox::Outbox;
 use crate::post::Post;
+use crate::wire::{Flushed, Wire};
 use mio::net::TcpStream;
 use relay_outside::{Heard, Link, News, Said};
 use std::alloc::Global;
-use std::io;
-use std::io::{ErrorKind, Read, Write};
+use std::io::ErrorKind;
 use std::marker::Model;
-use std::net::{Shutdown, SocketAddr};
+use std::net::SocketAddr;
 use std::sync::Arc;
-
-/// One that was sent all, once its server stops or it was answered why it isn't served, has so many milliseconds to close too.
-const FAREWELL: u64 = 3_000;
-
-/// As many pieces are passed over at a time then.
-const LAST_PIECES: u32 = 16;
 
 /// A connection, with the address of its peer.
 #[derive(Drop)]
 pub(crate) struct Guest {
     pub stream: TcpStream,
     pub address: SocketAddr,
-}
-
-/// The cell of a link. It is free again when the link is dropped.
-struct Cell {
-    post: Arc<Post, Global>,
-    token: usize,
-    // The worker is to go on for what its link keeps.
-    keeps: bool,
-    // Its link received bytes, and wasn't asked for more since.
-    fed: bool,
-}
-
-impl Drop for Cell {
-    fn drop(self) {
-        let Cell {
-            post,
-            token,
-            keeps,
-            fed,
-        } = self;
-        if keeps {
-            post.cells.release();
-        }
-        if fed {
-            post.cells.ask();
-        }
-        post.cells.set(token, 0);
-        if let Some(seat) = post.seat(token) {
-            seat.leave();
-        }
-        post.remove_link();
-    }
-}
-
-impl Cell {
-    fn has(&self, bit: u64) -> bool {
-        self.post.cells.has(self.token, bit)
-    }
-
-    fn remove(&self, bit: u64) {
-        self.post.cells.remove(self.token, bit);
-    }
-
-    fn add(&self, bit: u64) {
-        self.post.cells.add(self.token, bit);
-    }
-
-    // Its link received bytes. Whether more are at hand.
-    fn receive(&mut self, more: bool) {
-        if more {
-            self.post.cells.begin();
-            return;
-        }
-        if !self.fed {
-            self.post.cells.feed();
-        }
-        self.fed = true;
-    }
-
-    // Its link is asked for bytes.
-    fn ask(&mut self) {
-        self.remove(CALM);
-        if self.fed {
-            self.post.cells.ask();
-        }
-        self.fed = false;
-    }
-
-    // Whether the worker is to go on for what its link keeps.
-    fn keep(&mut self, keeps: bool) {
-        if keeps && !self.keeps {
-            self.post.cells.hold();
-        }
-        if !keeps && self.keeps {
-            self.post.cells.release();
-        }
-        self.keeps = keeps;
-    }
-}
-
-// What became of the bytes that were kept.
-#[derive(Clone, Copy, PartialEq, Eq)]
-enum Flushed {
-    All,
-    // Not all yet.
-    Some,
-    Failed,
-}
-
-/// A socket with its cell, the bytes that it is to be sent and those that were received from it. What is kept when it is
-/// dropped is handed to the system once more.
-pub(crate) struct Wire {
-    stream: TcpStream,
-    cell: Cell,
-    outbox: Outbox,
-    inbox: Inbox,
-    // The last recv filled the room that there was.
-    filled: bool,
-    // It took a piece since the last recv.
-    fresh: bool,
-    // It took nothing of the last piece.
-    refused: bool,
-    // Bytes that were taken couldn't be sent.
-    broken: bool,
-    // Why a call of the system failed.
-    cause: Option<io::Error>,
-    // Since when the system takes none of what is kept, by the clock, or 0.
-    stuck: u64,
-    // When the peer was told that no more comes, by the clock, or 0.
-    shut: u64,
-}
-
-impl Drop for Wire {
-    fn drop(self) {
-        let Wire {
-            mut stream,
-            cell,
-            outbox,
-            inbox,
-            filled: _,
-            fresh: _,
-            refused: _,
-            broken: _,
-            cause: _,
-            stuck: _,
-            shut: _,
-        } = self;
-        if !outbox.is_empty() {
-            let _ = stream.write(outbox.left());
-        }
-        drop(inbox);
-        drop(outbox);
-        drop(stream);
-        drop(cell);
-    }
-}
-
-impl Wire {
-    // Hands what is kept to the system, by one call.
-    fn flush(&mut self) -> Flushed {
-        if self.outbox.is_empty() {
-            return Flushed::All;
-        }
-        let error = match self.stream.write(self.outbox.left()) {
-            Ok(count) if count > 0 => {
-                self.sent(count);
-                if self.outbox.is_empty() {
-                    return Flushed::All;
-                }
-                self.cell.remove(WRITABLE);
-                return Flushed::Some;
-            }
-            Ok(_) => io::Error::from(ErrorKind::WriteZero),
-            Err(error) => error,
-        };
-        match error.kind() {
-            ErrorKind::WouldBlock => {
-                self.cell.remove(WRITABLE);
-                if self.stuck == 0 {
-                    self.stuck = self.cell.post.now();
-                }
-                Flushed::Some
-            }
-            ErrorKind::Interrupted => Flushed::Some,
-            _ => {
-                self.cause = Some(error);
-                self.broken = true;
-                self.outbox.forget();
-                Flushed::Failed
-            }
-        }
-    }
-
-    // The system took so many of the bytes that are kept.
-    fn sent(&mut self, count: usize) {
-        self.outbox.take(count);
-        self.stuck = if self.outbox.is_empty() {
-            0
-        } else {
-            self.cell.post.now()
-        };
-        if let Some(seat) = self.cell.post.seat(self.cell.token) {
-            seat.send(count);
-        }
-    }
-
-    // Its link gave so many bytes.
-    fn received(&self, count: usize) {
-        if let Some(seat) = self.cell.post.seat(self.cell.token) {
-            seat.receive(count);
-        }
-    }
-
-    // The turn before this one had nothing to send, where it is so.
-    fn level(&self, quiet: bool) {
-        if quiet && self.outbox.is_empty() {
-            if let Some(seat) = self.cell.post.seat(self.cell.token) {
-                seat.level();
-            }
-        }
-    }
-
-    // There is more to send.
-    fn lag(&self) {
-        if let Some(seat) = self.cell.post.seat(self.cell.token) {
-            seat.lag(self.cell.post.now());
-        }
-    }
-
-    // Whether a turn may receive or send something, or find that it is over.
-    fn is_ready(&self) -> bool {
-        let more = self.refused || !self.outbox.is_empty();
-        let writable = more && self.cell.has(WRITABLE);
-        let readable = self.inbox.has_more() || self.cell.has(READABLE);
-        writable || readable || self.broken || self.shut > 0
-    }
-
-    // Whether the system has taken none of what is kept for so many milliseconds, and takes none now.
-    fn is_stuck(&mut self, milliseconds: u64) -> bool {
-        if self.stuck == 0 || self.cell.post.now().saturating_sub(self.stuck) < milliseconds {
-            return false;
-        }
-        let before = self.stuck;
-        // Where all went there may be room for more, though the poll tells of it only once much of the socket's buffer is free.
-        if self.flush() == Flushed::All {
-            self.cell.add(WRITABLE);
-        }
-        self.stuck == before
-    }
-
-    // Whether bytes came that the poll hasn't told of: a wait that a stop of the process ended tells of nothing.
-    fn has_bytes(&self) -> bool {
-        let mut room = [0u8; 1];
-        let came = self.stream.peek(&mut room).is_ok();
-        if came {
-            self.cell.add(READABLE);
-        }
-        came
-    }
-
-    // Tells the peer that no more comes, and passes over what still comes of it: a connection that is closed with bytes unread is
-    // reset, and the peer may lose the last that it was sent. Whether it has closed too, or had time to.
-    fn is_shut(&mut self) -> bool {
-        let now = self.cell.post.now();
-        if self.shut == 0 {
-            let _ = self.stream.shutdown(Shutdown::Write);
-            self.shut = now;
-        }
-        if now.saturating_sub(self.shut) >= FAREWELL {
-            return true;
-        }
-        if !self.cell.has(READABLE) {
-            return false;
-        }
-        let mut room = [0u8; 4096];
-        for _ in 0..LAST_PIECES {
-            match self.stream.read(&mut room) {
-                Ok(0) => return true,
-                Ok(_) => {}
-                Err(error) if error.kind() == ErrorKind::WouldBlock => {
-                    self.cell.remove(READABLE);
-                    return false;
-                }
-                Err(error) => return error.kind() != ErrorKind::Interrupted,
-            }
-        }
-        false
-    }
-
-    /// Sends what is kept, and sees the peer off. Whether that is over.
-    pub(crate) fn is_seen_off(&mut self) -> bool {
-        let flushed = self.flush();
-        self.tell_kept();
-        self.cell.add(CALM);
-        match flushed {
-            Flushed::All => self.is_shut(),
-            Flushed::Some => self.is_stuck(FAREWELL),
-            Flushed::Failed => true,
-        }
-    }
-
-    // Tells the cell whether the worker is to go on for what is kept.
-    fn tell_kept(&mut self) {
-        let keeps = !self.outbox.is_empty() && self.cell.has(WRITABLE);
-        self.cell.keep(keeps);
-    }
-
-    // Takes the whole piece or nothing of it.
-    fn take(&mut self, piece: &[u8]) -> Flushed {
-        if !self.outbox.keep(piece) {
-            match self.flush() {
-                Flushed::All => {}
-                other => return other,
-            }
-            if !self.outbox.keep(piece) {
-                return Flushed::Some;
-            }
-        }
-        self.fresh = true;
-        if self.outbox.is_full() {
-            match self.flush() {
-                Flushed::Failed => return Flushed::Failed,
-                _ => {}
-            }
-        }
-        Flushed::All
-    }
-
-    // Hands on what is kept, where the turn before this one had no more to send.
-    fn settle(&mut self) -> Flushed {
-        if self.fresh || !self.cell.has(WRITABLE) {
-            self.fresh = false;
-            return Flushed::Some;
-        }
-        self.flush()
-    }
-
-    // Receives bytes from the socket.
-    fn receive(&mut self, into: &mut [u8]) -> io::Result<usize>
-        ensures { ReadsAtMost result into.new }
-    {
-        if !self.filled && !self.inbox.is_open() {
-            let count = self.stream.read(into)?;
-            self.filled = count >= into.len();
-            self.note(self.filled);
-            return Ok(count);
-        }
-        if !self.inbox.is_open() {
-            self.inbox.open();
-        }
-        if !self.inbox.is_open() {
-            let count = self.stream.read(into)?;
-            self.note(count >= into.len());
-            return Ok(count);
-        }
-        let count = self.stream.read(self.inbox.room())?;
-        self.filled = self.inbox.receive(count, into.len());
-        self.note(self.filled);
-        Ok(self.inbox.give(into))
-    }
-
-    // Bytes came. A socket that filled no room has no more.
-    fn note(&self, filled: bool) {
-        if !filled && !self.cell.has(CLOSING) {
-            self.cell.remove(READABLE);
-        }
-    }
-
-    // Gives bytes that were received before, or receives some.
-    fn give(&mut self, into: &mut [u8]) -> io::Result<usize>
-        ensures { ReadsAtMost result into.new }
-    {
-        let count = if self.inbox.has_more() {
-            self.inbox.give(into)
-        } else if self.cell.has(READABLE) {
-            self.receive(into)?
-        } else {
-            return Err(io::Error::from(ErrorKind::WouldBlock));
-        };
-        let more = self.inbox.has_more() || (self.filled && !self.inbox.is_open());
-        self.cell.receive(more);
-        Ok(count)
-    }
 }
 
 /// A link over a socket. It asks the system only where the poll has reported that there is something to do, and tells no
@@ -445,28 +73,10 @@ impl RealLink {
         if let Some(seat) = post.seat(token) {
             seat.take(post.alloc, address, post.now());
         }
-        let alloc = post.alloc;
-        let life = Life::new(address, post.now());
+        let life = Life::new(address, token, post.now());
         RealLink {
             life,
-            wire: Wire {
-                stream,
-                cell: Cell {
-                    post,
-                    token,
-                    keeps: false,
-                    fed: false,
-                },
-                outbox: Outbox::new(alloc),
-                inbox: Inbox::new(alloc),
-                filled: false,
-                fresh: false,
-                refused: false,
-                broken: false,
-                cause: None,
-                stuck: 0,
-                shut: 0,
-            },
+            wire: Wire::new(stream, post, token),
             failed: 0,
             waited: 0,
             ended: 0,
@@ -486,7 +96,7 @@ impl RealLink {
         let answered = life.is_answered();
         drop(life);
         if answered {
-            wire.cell.ask();
+            wire.cell.part();
             return Some(wire);
         }
         drop(wire);
@@ -513,13 +123,18 @@ fn is_silent(life: &mut Life, wire: &mut Wire) -> bool {
     true
 }
 
-// Whether a link ends, since the server stops.
+// Whether a link ends by itself: its server stops, its peer was refused too often, or the broadcast is over that it had over HTTP.
 fn is_over(life: &mut Life, wire: &mut Wire) -> bool {
-    let stopped = wire.cell.post.watch.is_stopped();
-    if !stopped {
+    let empty = wire.outbox.is_empty();
+    if life.is_barred() {
+        return life.is_barred_long(&wire.cell.post, empty);
+    }
+    if life.is_left(&wire.cell.post, empty) {
+        return wire.is_shut();
+    }
+    if !wire.cell.post.watch.is_stopped() {
         return false;
     }
-    let empty = wire.outbox.is_empty();
     let done = empty || wire.is_stuck(STUCK);
     if !life.is_over(&wire.cell.post, done) {
         return false;
@@ -559,6 +174,10 @@ impl Link for RealLink {
             self.ended = self.ended.saturating_add(1);
             return Heard::End;
         }
+        if self.life.is_barred() {
+            self.waited = self.waited.saturating_add(1);
+            return Heard::NotYet;
+        }
         match self.wire.give(into) {
             Ok(0) => {
                 self.ended = self.ended.saturating_add(1);
@@ -595,7 +214,7 @@ impl Link for RealLink {
     fn send(&mut self, piece: &[u8]) -> Said {
         self.wire.cell.remove(CALM);
         self.life.look(self.wire.cell.post.now());
-        if self.wire.broken {
+        if self.wire.broken || self.life.is_spent() {
             self.failed = self.failed.saturating_add(1);
             return Said::Failed;
         }
@@ -631,14 +250,8 @@ impl Link for RealLink {
     }
 
     fn tell(&self, news: News, app: &[u8], name: &[u8]) {
-        let Cell {
-            post,
-            token,
-            keeps: _,
-            fed: _,
-        } = &self.wire.cell;
         self.life
-            .tell(post, *token, news, app, name, self.wire.cause);
+            .tell(&self.wire.cell.post, news, app, name, self.wire.cause);
     }
 
     ghost hears_mean = { λ l room answer m some step. step };

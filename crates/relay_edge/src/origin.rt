@@ -4,9 +4,10 @@ ghost use Rattle.std.specs.Io.{ReadsAtMost, WritesAtMost};
 ghost use Rattle.relay_outside.specs.Heard.{HearStep};
 ghost use Rattle.relay_outside.specs.Said.{SayStep};
 
+use crate::cause::Cause;
 use crate::cells::{CLOSING, DOOR, READABLE, WRITABLE};
-use crate::life::Cause;
-use crate::origin_line::Line;
+use crate::options::keep_alive;
+use crate::origin_line::OriginLine;
 use crate::post::Post;
 use crate::seats::Doing;
 use log::log;
@@ -21,6 +22,9 @@ use std::marker::Model;
 use std::net::{Net, Shutdown, SocketAddr};
 use std::sync::Arc;
 
+/// A broadcast that has gone on for so many milliseconds isn't what an origin has of the last one.
+const SETTLES: u64 = 1_000;
+
 /// The token of its socket.
 const ORIGIN: usize = DOOR + 1;
 
@@ -28,6 +32,7 @@ const ORIGIN: usize = DOOR + 1;
 fn open<R: Net>(rt: &R, registry: &Registry, address: SocketAddr) -> io::Result<TcpStream> {
     let mut stream = TcpStream::connect(rt, address)?;
     stream.set_nodelay(true)?;
+    keep_alive(&stream);
     let both = Interest::READABLE | Interest::WRITABLE;
     registry.register(&mut stream, Token(ORIGIN), both)?;
     Ok(stream)
@@ -52,6 +57,10 @@ struct Pipe {
     fed: bool,
     // When it was made, by the clock.
     begun: u64,
+    // When it gave bytes last.
+    gave: u64,
+    // When the broadcast began that is live, or 0.
+    live: Cell<u64>,
     state: Cell<State>,
     cause: Cause,
     // Why a call of the system failed.
@@ -73,6 +82,7 @@ impl Pipe {
 
     // It gave bytes. Whether it may have more.
     fn feed(&mut self, count: usize, more: bool) {
+        self.gave = self.post.now();
         if let Some(seat) = self.post.seat(ORIGIN) {
             seat.receive(count);
         }
@@ -98,11 +108,26 @@ impl Pipe {
         stopped
     }
 
-    // Whether the origin has had too long to say that it plays.
+    // Since when the origin may not be silent: it is to say that it plays, or a broadcast is live. Between two of them an origin gives at
+    // once what it has of the last one, and then nothing, so a broadcast counts from the second after it began.
+    fn awaited(&self) -> Option<u64> {
+        let live = self.live.get();
+        match self.state.get() {
+            State::Waits => Some(self.begun),
+            State::Plays if live > 0 && self.gave >= live.saturating_add(SETTLES) => {
+                Some(self.gave)
+            }
+            State::Plays | State::Over => None,
+        }
+    }
+
+    // Whether the origin has been silent for too long.
     fn is_silent(&mut self) -> bool {
         let most = self.post.watch.silence;
-        let waits = self.state.get() == State::Waits;
-        if most == 0 || !waits || self.post.now().saturating_sub(self.begun) < most {
+        let Some(since) = self.awaited() else {
+            return false;
+        };
+        if most == 0 || self.post.now().saturating_sub(since) < most {
             return false;
         }
         self.cause = Cause::Silent {
@@ -167,9 +192,13 @@ impl Pipe {
             return;
         }
         self.state.set(State::Plays);
-        self.post.watch.begin(self.post.alloc, app, name);
+        self.post
+            .watch
+            .begin(self.post.alloc, app, name, self.post.now());
         if let Some(seat) = self.post.seat(ORIGIN) {
-            seat.tell(self.post.alloc, Doing::Pulled, app, name);
+            seat.tell(self.post.alloc, Doing::Pulled, app, name, self.post.now());
+            // Until it is told otherwise.
+            seat.air(true);
         }
     }
 
@@ -188,8 +217,21 @@ impl Pipe {
         self.post.wake_all();
     }
 
+    // A broadcast has begun, or is over.
+    fn air(&self, live: bool) {
+        self.live.set(if live { self.post.now() } else { 0 });
+        if let Some(seat) = self.post.seat(ORIGIN) {
+            seat.air(live);
+        }
+    }
+
     fn tell(&self, news: News, app: &[u8], name: &[u8]) {
-        let line = Line {
+        match news {
+            News::Publishes => return self.air(true),
+            News::Left => return self.air(false),
+            _ => {}
+        }
+        let line = OriginLine {
             address: self.address,
             news,
             app,
@@ -212,8 +254,9 @@ impl Pipe {
 /// A link to an origin over a socket, which tells no bytes. It asks the system only where the poll has reported that there is something
 /// to do. Where there is no connection, each call fails.
 ///
-/// What it is told goes to the log. Where the origin doesn't come to play for longer than the server allows silence it fails; one that
-/// plays may be silent for ever. Where the server stops, or all its doors have closed, it answers as at its peer's end.
+/// What it is told goes to the log. Where the origin doesn't come to play for longer than the server allows silence it fails, and where it is
+/// silent for so long while a broadcast is live; between two it may be silent for ever. Where the server stops, or all its doors have
+/// closed, it answers as at its peer's end.
 #[derive(Drop)]
 pub struct OriginLink {
     pipe: Pipe,
@@ -258,6 +301,8 @@ impl OriginLink {
                 post,
                 fed: false,
                 begun,
+                gave: begun,
+                live: Cell::new(0),
                 state: Cell::new(State::Waits),
                 cause: Cause::Peer,
                 error,

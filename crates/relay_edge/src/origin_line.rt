@@ -1,9 +1,8 @@
 //! The lines of the log on links to an origin.
 
-use crate::life::Cause;
+use crate::cause::Cause;
 use crate::quoted::QuotedName;
 use crate::seats::Tally;
-use crate::words;
 use crate::words::Words;
 use log::Level;
 use relay_outside::{Denied, Ending, News};
@@ -13,7 +12,7 @@ use std::{fmt, io};
 
 /// A line of the log on a link to an origin. `error` is why a call of the system failed.
 #[derive(Drop)]
-pub struct Line<'a> {
+pub struct OriginLine<'a> {
     pub address: SocketAddr,
     pub news: News,
     pub app: &'a [u8],
@@ -23,7 +22,8 @@ pub struct Line<'a> {
     pub tally: Option<Tally>,
 }
 
-impl Line<'_> {
+impl OriginLine<'_> {
+    /// Its level.
     pub fn level(&self) -> Level {
         match self.news {
             News::Plays => Level::Info,
@@ -33,31 +33,6 @@ impl Line<'_> {
             } => Level::Error,
             News::Ended { .. } if self.cause == Cause::Stopped => Level::Info,
             _ => Level::Warn,
-        }
-    }
-
-    // How a link ended, for how long it was there and its bytes.
-    fn write_end<W: fmt::Write>(&self, f: &mut Formatter<W>) -> fmt::Result {
-        match self.news {
-            News::Ended {
-                ending: Ending::LinkFault | Ending::PeerClosed,
-                at: _,
-            } => self.write_cause(f)?,
-            _ => write!(f, "{}", Words(self.news))?,
-        }
-        match self.tally {
-            Some(tally) => write!(f, "; {tally}"),
-            None => Ok(()),
-        }
-    }
-
-    // Why a link ended that failed or closed.
-    fn write_cause<W: fmt::Write>(&self, f: &mut Formatter<W>) -> fmt::Result {
-        match (self.cause, &self.error) {
-            (Cause::Silent { seconds }, _) => write!(f, "ended: silent for {seconds} s"),
-            (Cause::Stopped, _) => write!(f, "ended: {}", words::Cause(Ending::Quit)),
-            (Cause::Peer, Some(error)) => write!(f, "{}: {error}", Words(self.news)),
-            (Cause::Peer, None) => write!(f, "{}", Words(self.news)),
         }
     }
 
@@ -76,14 +51,14 @@ impl Line<'_> {
     }
 }
 
-impl Display for Line<'_> {
+impl Display for OriginLine<'_> {
     fn fmt<W: fmt::Write>(&self, f: &mut Formatter<W>) -> fmt::Result {
         let (app, name) = (self.app, self.name);
         write!(f, "origin {} ", self.address)?;
         match self.news {
             News::Plays => write!(f, "plays {}", QuotedName { app, name }),
             News::Denied(why) => self.write_denied(f, why),
-            News::Ended { .. } => self.write_end(f),
+            News::Ended { .. } => self.cause.write_end(f, self.news, &self.error, self.tally),
             _ => write!(f, "{}", Words(self.news)),
         }
     }

@@ -3,11 +3,15 @@
 use crate::board::Board;
 use crate::cells::{Cells, DOOR, LEFT, READABLE};
 use crate::clock::milliseconds;
+use crate::giving_way::Way;
 use crate::seats::{Seat, Seats};
+use crate::throttle::Kind;
 use crate::watch::{EDGE, Watch};
 use libc::net::{POLLIN, poll};
 use libc::types::pollfd;
+use log::log;
 use std::alloc::{AllocError, Global};
+use std::net::SocketAddr;
 use std::sync::Arc;
 use std::sync::atomic::{AtomicBool, AtomicI64, AtomicU64, Ordering};
 
@@ -27,6 +31,8 @@ pub struct Post {
     knocked: AtomicBool,
     // The descriptor of its socket, once it is there.
     door: AtomicI64,
+    // Its links are those of HTTP players.
+    http: AtomicBool,
     board: Arc<Board, Global>,
     worker: usize,
     // The workers that are to hear of what was pushed here, a bit for each.
@@ -54,6 +60,7 @@ impl Post {
             clock: AtomicU64::new(milliseconds()),
             knocked: AtomicBool::new(false),
             door: AtomicI64::new(-1),
+            http: AtomicBool::new(false),
             board,
             worker,
             listeners: AtomicU64::new(0),
@@ -90,6 +97,16 @@ impl Post {
         self.door.store(i64::from(descriptor), Ordering::SeqCst);
     }
 
+    /// Its door is that of HTTP players.
+    pub fn serve_http(&self) {
+        self.http.store(true, Ordering::SeqCst);
+    }
+
+    /// Whether its links are those of HTTP players.
+    pub fn is_http(&self) -> bool {
+        self.http.load(Ordering::SeqCst)
+    }
+
     /// Whether a connection waits at the door.
     pub fn has_waiting(&self) -> bool {
         let fd = i32::try_from(self.door.load(Ordering::SeqCst)).unwrap_or(-1);
@@ -124,6 +141,88 @@ impl Post {
     /// All workers are to hear that the server stops, or that an origin is gone.
     pub fn wake_all(&self) {
         self.board.wake_others(self.worker);
+    }
+
+    /// Somebody is refused since the name is in use: the link that publishes under it is to give way, if it gives nothing. Whether there is
+    /// such a link.
+    pub fn ask_for_name(&self, app: &[u8], name: &[u8]) -> bool {
+        let published = self.watch.ask_for_name(app, name);
+        if published {
+            self.wake_all();
+        }
+        published
+    }
+
+    /// Somebody waits for a place. A link that is to give its own up is woken.
+    pub fn ask_for_place(&self) -> Way {
+        let asked = self
+            .watch
+            .ask_for_place(&self.board, self.worker, self.now());
+        if asked == Way::Given {
+            self.wake_all();
+            self.board.hurry(self.worker);
+        }
+        asked
+    }
+
+    /// Whether somebody publishes what the link of that token plays, or may do so.
+    pub fn is_played_live(&self, token: usize) -> bool {
+        let Some(seat) = self.seat(token) else {
+            return true;
+        };
+        match seat.names(self.alloc) {
+            Ok(Some(names)) => self
+                .watch
+                .is_published_as(names.app.as_slice(), names.name.as_slice()),
+            _ => true,
+        }
+    }
+
+    /// Whether the address of a peer may have one link more: that one has then the seat of the token.
+    pub fn admits(&self, token: usize, address: SocketAddr) -> bool {
+        match self.seat(token) {
+            Some(seat) => self.watch.admit(self.alloc, seat, address, self.now()),
+            None => true,
+        }
+    }
+
+    /// The seat of a link that wasn't given is free again.
+    pub fn dismiss(&self, token: usize) {
+        if let Some(seat) = self.seat(token) {
+            seat.leave();
+        }
+    }
+
+    /// The worker is to go on before it waits again.
+    pub fn hurry(&self) {
+        self.board.hurry(self.worker);
+    }
+
+    /// The log has this line of that kind, where it has room for one more.
+    pub fn warn_of(&self, kind: Kind, address: SocketAddr, what: &str) {
+        if self.watch.throttle.admits(kind, self.now()) {
+            log!(self.watch.log; kind.level(), "{address} {kind}: {what}");
+        }
+    }
+
+    /// The log tells of lines of one kind that were left out.
+    pub fn tell_left_out(&self) {
+        if let Some((kind, more)) = self.watch.throttle.left_out(self.now()) {
+            log!(self.watch.log; kind.level(), "relay: and {more} more: {kind}");
+        }
+    }
+
+    /// A link is gone, and its peer is seen off.
+    pub fn begin_farewell(&self) {
+        self.board.add_farewell(self.worker);
+        self.remove_link();
+    }
+
+    /// That is over.
+    pub fn end_farewell(&self) {
+        self.board.remove_farewell(self.worker);
+        self.board.wake_others(self.worker);
+        self.cells.add(DOOR, READABLE);
     }
 
     /// A link was given.

@@ -2,8 +2,11 @@
 
 use crate::cells::{CLOSING, Cells, DOOR, LEFT, READABLE, WRITABLE};
 use crate::control::Control;
+use crate::giving_way::Way;
 use crate::life::STALE;
 use crate::post::Post;
+use crate::throttle::Kind;
+use crate::turnstile::Turnstile;
 use log::warn;
 use mio::event::Event;
 use mio::{Events, Poll, Token};
@@ -18,9 +21,6 @@ pub const WAKER: usize = usize::MAX;
 /// The longest wait, in milliseconds. A link is looked into after a wait if it wasn't for as long.
 const LONGEST: u64 = STALE;
 
-/// So often the worker looks whether a connection finds no place.
-const LOOK_AT_CROWD: u64 = 1000;
-
 /// After so many milliseconds the streams that a worker plays are learned anew.
 const LEARN_PLAYS: u64 = 1000;
 
@@ -29,6 +29,12 @@ const FIRST: [u64; 4] = [0, 1, 4, 16];
 
 /// Those after them, as long as that may be.
 const NEXT: u64 = 32;
+
+/// After so many milliseconds it is looked again whether a connection finds no place.
+const CROWDED: u64 = 100;
+
+/// As many are turned away at a time.
+const AT_ONCE: usize = 64;
 
 /// The longest wait once the server stops.
 const STOPPING: u64 = 20;
@@ -70,6 +76,8 @@ pub struct RealRest {
     learned: u64,
     runs: bool,
     control: Option<Control>,
+    // Where those are turned away for whom no place is left, over HTTP.
+    turnstile: Option<Turnstile>,
 }
 
 impl Drop for RealRest {
@@ -87,9 +95,11 @@ impl Drop for RealRest {
             learned: _,
             runs: _,
             control,
+            turnstile,
         } = self;
         post.retire();
         drop(recorded);
+        drop(turnstile);
         drop(control);
         drop(events);
         drop(poll);
@@ -116,9 +126,39 @@ fn mark(cells: &Cells, event: &Event) {
     cells.add(token, bits);
 }
 
+// Tells the log that a connection waits, once until a link is gone.
+fn tell_crowd(post: &Post) {
+    if post.watch.crowd() {
+        warn!(post.watch.log;
+            "relay: a connection waits, since all places for links are taken, {} of them at this worker",
+            post.links()
+        );
+    }
+}
+
+// Answers all who wait that no place is left.
+fn turn_away(post: &Post, turnstile: &mut Turnstile) {
+    for _ in 0..AT_ONCE {
+        let Some(address) = turnstile.turn_away(post.now()) else {
+            return;
+        };
+        post.warn_of(
+            Kind::turned_away(),
+            address,
+            "all places for players are taken",
+        );
+    }
+    post.hurry();
+}
+
 impl RealRest {
     /// The rest of a worker whose waker is registered.
-    pub(crate) fn new(poll: Poll, events: Events, post: Arc<Post, Global>) -> RealRest {
+    pub(crate) fn new(
+        poll: Poll,
+        events: Events,
+        post: Arc<Post, Global>,
+        turnstile: Option<Turnstile>,
+    ) -> RealRest {
         let recorded = Vec::new(post.alloc);
         RealRest {
             poll,
@@ -133,6 +173,7 @@ impl RealRest {
             learned: 0,
             runs: false,
             control: None,
+            turnstile,
         }
     }
 
@@ -171,19 +212,36 @@ impl RealRest {
         ready
     }
 
-    // Tells the log where a connection waits, and no worker has a place for it. It looks once a second.
-    fn tell_crowd(&mut self) {
+    // No worker at this address has a place for a connection. Where one waits, a link that neither publishes nor plays gives its place up;
+    // else a player over HTTP is told so, and of another the log tells.
+    fn make_room(&mut self) {
         let post = &self.post;
-        if post.now().saturating_sub(self.looked) < LOOK_AT_CROWD {
+        let now = post.now();
+        let wait = if post.is_http() { 0 } else { CROWDED };
+        if now.saturating_sub(self.looked) < wait || !post.is_crowded() || !post.has_waiting() {
             return;
         }
-        self.looked = post.now();
-        if post.is_crowded() && post.has_waiting() && post.watch.crowd() {
-            warn!(post.watch.log;
-                "relay: a connection waits, since all places for links are taken, {} of them at this worker",
-                post.links()
-            );
+        self.looked = now;
+        let way = post.ask_for_place();
+        match &mut self.turnstile {
+            Some(turnstile) if way != Way::Given => turn_away(post, turnstile),
+            None if way == Way::Closed => tell_crowd(post),
+            _ => {}
         }
+    }
+
+    // Makes room where the worker has no place for a link, and goes on with those who were turned away.
+    fn attend(&mut self) {
+        if !self.post.take_knocked() {
+            self.make_room();
+        }
+        let now = self.post.now();
+        if self.post.watch.is_stopped() {
+            self.turnstile = None;
+        } else if let Some(turnstile) = &mut self.turnstile {
+            turnstile.see_off(now);
+        }
+        self.post.tell_left_out();
     }
 
     // The worker runs. Tells the log where others don't.
@@ -274,9 +332,7 @@ impl Rest for RealRest {
         self.run();
         self.post.tell_all();
         self.calm = self.post.cells.take_calm();
-        if !self.post.take_knocked() {
-            self.tell_crowd();
-        }
+        self.attend();
         let most = self.next_wait();
         let due = self.post.begin_wait();
         let ready = self.wait(if due { 0 } else { most });
@@ -301,8 +357,8 @@ impl Rest for RealRest {
         if self.moves % LOOK_AT_DOOR == 0 {
             self.post.ask_door();
         }
-        if self.moves % LOOK_AT_PLACES == 0 && !self.post.take_knocked() {
-            self.tell_crowd();
+        if self.moves % LOOK_AT_PLACES == 0 {
+            self.attend();
         }
         if self.moves % LOOK == 0 {
             self.run();

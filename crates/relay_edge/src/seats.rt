@@ -1,10 +1,10 @@
 //! What the links of a worker are and do, for those who ask how a server is.
 
-use crate::cells::MOST_LINKS;
+use crate::cells::LAST_TOKEN;
 use std::alloc::{AllocError, Global};
 use std::fmt;
 use std::fmt::{Display, Formatter};
-use std::net::SocketAddr;
+use std::net::{IpAddr, SocketAddr};
 use std::sync::atomic::{AtomicBool, AtomicU64, Ordering};
 use std::sync::{Mutex, MutexGuard};
 
@@ -59,11 +59,27 @@ impl Told {
     }
 }
 
+/// An application and a name.
+#[derive(Drop)]
+pub struct Names {
+    pub app: Vec<u8>,
+    pub name: Vec<u8>,
+}
+
 /// The seat of a link. Times are in milliseconds of the clock.
 #[derive(Drop)]
 pub struct Seat {
     taken: AtomicBool,
     told: Mutex<Told>,
+    // It publishes, or what it pulls is live.
+    publishes: AtomicBool,
+    // It is to an origin. What it pulls has another name here.
+    pulled: AtomicBool,
+    // It neither publishes nor plays, and since when what is done over it is as it is.
+    idle: AtomicBool,
+    changed: AtomicU64,
+    // Somebody else asks for its place, or for the name that it publishes.
+    asked: AtomicBool,
     begun: AtomicU64,
     received: AtomicU64,
     sent: AtomicU64,
@@ -113,6 +129,11 @@ impl Seat {
         Seat {
             taken: AtomicBool::new(false),
             told: Mutex::new(Told::nothing(alloc, None)),
+            publishes: AtomicBool::new(false),
+            pulled: AtomicBool::new(false),
+            idle: AtomicBool::new(false),
+            changed: AtomicU64::new(0),
+            asked: AtomicBool::new(false),
             begun: AtomicU64::new(0),
             received: AtomicU64::new(0),
             sent: AtomicU64::new(0),
@@ -125,6 +146,7 @@ impl Seat {
         if let Some(mut told) = held(&self.told) {
             *told = Told::nothing(alloc, Some(address));
         }
+        self.change(Doing::Nothing, now);
         self.begun.store(now, Ordering::SeqCst);
         self.even.store(now, Ordering::SeqCst);
         self.received.store(0, Ordering::SeqCst);
@@ -137,8 +159,19 @@ impl Seat {
         self.taken.store(false, Ordering::SeqCst);
     }
 
+    fn change(&self, doing: Doing, now: u64) {
+        let idle = doing == Doing::Nothing || doing == Doing::Connected;
+        self.publishes
+            .store(doing == Doing::Publishes, Ordering::SeqCst);
+        self.pulled.store(doing == Doing::Pulled, Ordering::SeqCst);
+        self.idle.store(idle, Ordering::SeqCst);
+        self.changed.store(now, Ordering::SeqCst);
+        self.asked.store(false, Ordering::SeqCst);
+    }
+
     /// What is done over it changes.
-    pub fn tell(&self, alloc: Global, doing: Doing, app: &[u8], name: &[u8]) {
+    pub fn tell(&self, alloc: Global, doing: Doing, app: &[u8], name: &[u8], now: u64) {
+        self.change(doing, now);
         if let Some(mut told) = held(&self.told) {
             let told = &mut *told;
             told.http = told.http || (doing == Doing::Plays && told.doing == Doing::Nothing);
@@ -148,8 +181,77 @@ impl Seat {
         }
     }
 
+    /// Its link gave so many bytes. Whoever asks for the name that it publishes asks in vain.
     pub fn receive(&self, count: usize) {
         self.received.fetch_add(count as u64, Ordering::SeqCst);
+        if self.publishes.load(Ordering::SeqCst) && self.is_asked() {
+            self.asked.store(false, Ordering::SeqCst);
+        }
+    }
+
+    /// Whether somebody else asks for its place, or for the name that it publishes.
+    pub fn is_asked(&self) -> bool {
+        self.asked.load(Ordering::SeqCst)
+    }
+
+    /// Somebody does.
+    pub fn ask(&self) {
+        self.asked.store(true, Ordering::SeqCst);
+    }
+
+    /// Whether a link is there that publishes or plays.
+    pub fn is_busy(&self) -> bool {
+        self.taken.load(Ordering::SeqCst) && !self.idle.load(Ordering::SeqCst)
+    }
+
+    /// Whether its link was told these names last. None where it is just being told.
+    pub fn has_names(&self, app: &[u8], name: &[u8]) -> Option<bool> {
+        let told = held(&self.told)?;
+        Some(told.app.as_slice() == app && told.name.as_slice() == name)
+    }
+
+    /// What it pulls is live, or isn't any more.
+    pub fn air(&self, live: bool) {
+        self.publishes.store(live, Ordering::SeqCst);
+    }
+
+    /// Whether a link is there that publishes under that name. None where that isn't known: it is just being told, or of an origin.
+    pub fn publishes_as(&self, app: &[u8], name: &[u8]) -> Option<bool> {
+        if !self.taken.load(Ordering::SeqCst) || !self.publishes.load(Ordering::SeqCst) {
+            return Some(false);
+        }
+        if self.pulled.load(Ordering::SeqCst) {
+            return None;
+        }
+        self.has_names(app, name)
+    }
+
+    /// Whether a link is there whose peer has that address.
+    pub fn is_of(&self, address: IpAddr) -> bool {
+        if !self.taken.load(Ordering::SeqCst) {
+            return false;
+        }
+        match held(&self.told) {
+            Some(told) => told.address.is_some_and(|peer| peer.ip() == address),
+            None => false,
+        }
+    }
+
+    /// The names that its link was told.
+    pub fn names(&self, alloc: Global) -> Result<Option<Names>, AllocError> {
+        let Some(told) = held(&self.told) else {
+            return Ok(None);
+        };
+        Ok(Some(Names {
+            app: told.app.as_slice().to_vec(alloc)?,
+            name: told.name.as_slice().to_vec(alloc)?,
+        }))
+    }
+
+    /// Since when a link is there that neither publishes nor plays.
+    pub fn idle_since(&self) -> Option<u64> {
+        let idle = self.taken.load(Ordering::SeqCst) && self.idle.load(Ordering::SeqCst);
+        idle.then_some(self.changed.load(Ordering::SeqCst))
     }
 
     pub fn send(&self, count: usize) {
@@ -167,21 +269,6 @@ impl Seat {
     pub fn lag(&self, now: u64) {
         if self.even.load(Ordering::SeqCst) == EVEN {
             self.even.store(now, Ordering::SeqCst);
-        }
-    }
-
-    // Whether its link publishes under that name.
-    fn publishes(&self, app: &[u8], name: &[u8]) -> bool {
-        if !self.taken.load(Ordering::SeqCst) {
-            return false;
-        }
-        match held(&self.told) {
-            Some(told) => {
-                told.doing == Doing::Publishes
-                    && told.app.as_slice() == app
-                    && told.name.as_slice() == name
-            }
-            None => false,
         }
     }
 
@@ -228,7 +315,7 @@ pub struct Seats {
 impl Seats {
     pub fn new(alloc: Global) -> Result<Seats, AllocError> {
         let mut list = Vec::new(alloc);
-        for _ in 0..=MOST_LINKS {
+        for _ in 0..=LAST_TOKEN {
             if list.push(Seat::new(alloc)).is_err() {
                 return Err(AllocError);
             }
@@ -240,12 +327,21 @@ impl Seats {
         self.list.get(token)
     }
 
-    /// Whether a link publishes under that name.
-    pub fn has_publisher(&self, app: &[u8], name: &[u8]) -> bool {
-        self.list
-            .as_slice()
-            .iter()
-            .any(|seat| seat.publishes(app, name))
+    pub fn as_slice(&self) -> &[Seat] {
+        self.list.as_slice()
+    }
+
+    /// The seat of the link that neither publishes nor plays for longest, and since when.
+    pub fn idlest(&self) -> Option<(u64, &Seat)> {
+        let mut idlest: Option<(u64, &Seat)> = None;
+        for seat in self.list.as_slice() {
+            if let Some(since) = seat.idle_since() {
+                if idlest.is_none_or(|(other, _)| since < other) {
+                    idlest = Some((since, seat));
+                }
+            }
+        }
+        idlest
     }
 
     /// Adds what all seats have that are taken.

@@ -101,6 +101,7 @@ fn add_waiting(
                 app: app.to_vec(alloc)?,
                 name: name.to_vec(alloc)?,
                 count: 0,
+                begun: 0,
             };
             if list.push(stream).is_err() {
                 return Err(AllocError);

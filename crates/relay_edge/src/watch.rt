@@ -1,11 +1,13 @@
 //! What a server tells of itself, and what it is told from outside.
 
+use crate::bounds::Bounds;
 use crate::clock::milliseconds;
 use crate::journal::Journal;
 use crate::listeners::Listeners;
 use crate::recordings::Recordings;
 use crate::seats::{Seats, Sight, held};
 use crate::shown::Named;
+use crate::throttle::Throttle;
 use log::{LevelFilter, Logged, warn};
 use mio::net::UnixStream;
 use std::alloc::{AllocError, Global};
@@ -24,7 +26,7 @@ pub const EDGE: u32 = 17;
 /// So many milliseconds after the first worker runs each of the others has a thread, if it can have one.
 const STARTING: u64 = 2000;
 
-/// Of so many names broadcasts are counted.
+/// Of so many names broadcasts are counted at most.
 const MOST_NAMES: usize = 1024;
 
 // What the system says where there is no descriptor or no memory for a socket: ENOMEM, ENFILE, EMFILE and ENOBUFS.
@@ -47,6 +49,8 @@ pub struct Watching {
     pub silence: u64,
     /// Whether each line of its log begins with the date and the time.
     pub times: bool,
+    /// What else bounds its links.
+    pub bounds: Bounds,
     /// Where the Unix socket is by which it is asked how it is and told to stop, if it has one.
     pub control: Option<String>,
 }
@@ -58,6 +62,7 @@ impl Watching {
             level: LevelFilter::Off,
             silence: 0,
             times: false,
+            bounds: Bounds::none(),
             control: None,
         }
     }
@@ -69,6 +74,8 @@ pub struct Broadcasts {
     pub app: Vec<u8>,
     pub name: Vec<u8>,
     pub count: u64,
+    /// When that was last, by the clock in milliseconds.
+    pub begun: u64,
 }
 
 impl Broadcasts {
@@ -82,6 +89,7 @@ impl Broadcasts {
             app: self.app.as_slice().to_vec(alloc)?,
             name: self.name.as_slice().to_vec(alloc)?,
             count: self.count,
+            begun: self.begun,
         })
     }
 }
@@ -92,12 +100,17 @@ pub struct Watch {
     pub log: Logged<(), Journal>,
     /// How many milliseconds a link may be silent; 0 stands for any number.
     pub silence: u64,
+    pub bounds: Bounds,
     /// When the server began, by the clock.
     pub begun: u64,
-    seats: Vec<OnceLock<Arc<Seats, Global>>>,
+    pub seats: Vec<OnceLock<Arc<Seats, Global>>>,
     broadcasts: Mutex<Vec<Broadcasts>>,
     // Links that publish.
     publishing: AtomicU64,
+    // Held by who counts the links of an address, and takes a seat for one more.
+    pub admitting: Mutex<()>,
+    /// How many lines of one kind the log has.
+    pub throttle: Throttle,
     // When it was told to stop, by the clock, or 0.
     stopped: AtomicU64,
     // Those who told it, and are to wait for its end.
@@ -136,10 +149,13 @@ impl Watch {
         let watch = Watch {
             log: Logged::new((), watching.level, Journal::new(watching.times)),
             silence: watching.silence.saturating_mul(1000),
+            bounds: watching.bounds,
             begun: milliseconds(),
             seats,
             broadcasts: Mutex::new(Vec::new(alloc)),
             publishing: AtomicU64::new(0),
+            admitting: Mutex::new(()),
+            throttle: Throttle::new(alloc)?,
             stopped: AtomicU64::new(0),
             waiting: Mutex::new(Vec::new(alloc)),
             recordings: Recordings::new(alloc),
@@ -153,6 +169,11 @@ impl Watch {
             counted: AtomicBool::new(false),
         };
         Ok(Arc::new(alloc, watch)?)
+    }
+
+    /// For how many milliseconds a publisher may give nothing; 0 stands for any number.
+    pub fn publisher_silence(&self) -> u64 {
+        self.bounds.publisher_silence.saturating_mul(1000)
     }
 
     /// A worker begins.
@@ -253,37 +274,64 @@ impl Watch {
     }
 
     /// Somebody begins to publish.
-    pub fn begin(&self, alloc: Global, app: &[u8], name: &[u8]) {
+    pub fn begin(&self, alloc: Global, app: &[u8], name: &[u8], now: u64) {
         self.publishing.fetch_add(1, Ordering::SeqCst);
         if let Some(mut list) = held(&self.broadcasts) {
             let list = &mut *list;
             for one in list.iter_mut() {
                 if one.are_of(app, name) {
                     one.count = one.count.saturating_add(1);
+                    one.begun = now;
                     return;
                 }
             }
-            if list.len() < MOST_NAMES {
-                let _ = add_name(alloc, list, app, name);
+            let _ = self.add_name(alloc, list, app, name, now);
+        }
+    }
+
+    // The first broadcast of a name. Where there is no room for it, that is let go of which nobody publishes or plays, and of which a
+    // broadcast began longest ago.
+    fn add_name(
+        &self,
+        alloc: Global,
+        list: &mut Vec<Broadcasts>,
+        app: &[u8],
+        name: &[u8],
+        now: u64,
+    ) -> Result<(), AllocError> {
+        let first = Broadcasts {
+            app: app.to_vec(alloc)?,
+            name: name.to_vec(alloc)?,
+            count: 1,
+            begun: now,
+        };
+        if list.len() < MOST_NAMES {
+            return add(list, first);
+        }
+        if let Some(place) = self.oldest_unused(list.as_slice()) {
+            if let Some(old) = list.get_mut(place) {
+                *old = first;
             }
         }
+        Ok(())
+    }
+
+    fn oldest_unused(&self, list: &[Broadcasts]) -> Option<usize> {
+        let mut oldest: Option<(usize, u64)> = None;
+        let mut place = 0usize;
+        for one in list {
+            let older = oldest.is_none_or(|(_, begun)| one.begun < begun);
+            if older && !self.is_used(one.app.as_slice(), one.name.as_slice()) {
+                oldest = Some((place, one.begun));
+            }
+            place = place.saturating_add(1);
+        }
+        oldest.map(|(place, _)| place)
     }
 
     /// And ends.
     pub fn end(&self) {
         self.publishing.fetch_sub(1, Ordering::SeqCst);
-    }
-
-    /// Whether a link publishes under that name, as far as the seats tell.
-    pub fn has_publisher(&self, app: &[u8], name: &[u8]) -> bool {
-        for place in self.seats.as_slice() {
-            if let Some(seats) = place.get() {
-                if seats.has_publisher(app, name) {
-                    return true;
-                }
-            }
-        }
-        false
     }
 
     /// Whether somebody publishes.
@@ -349,19 +397,4 @@ impl Watch {
             self.crowded.store(false, Ordering::SeqCst);
         }
     }
-}
-
-// The first broadcast of a name.
-fn add_name(
-    alloc: Global,
-    list: &mut Vec<Broadcasts>,
-    app: &[u8],
-    name: &[u8],
-) -> Result<(), AllocError> {
-    let first = Broadcasts {
-        app: app.to_vec(alloc)?,
-        name: name.to_vec(alloc)?,
-        count: 1,
-    };
-    add(list, first)
 }

@@ -67,7 +67,14 @@ Environment:
   RELAY_SILENCE=N      closes a publisher that sends nothing for N seconds, a
                        connection that neither publishes nor plays by then, and
                        a player that reads none of the data waiting for it for
-                       3 times N; default 20, and 0 is never
+                       3 times N; default 20, 8 for a publisher; 0 is never
+  RELAY_WAIT=N         closes a player that has waited N seconds for a broadcast;
+                       default 0, which is never
+  RELAY_ADDRESS_LINKS=N
+                       the most connections of one IP address at a time; default
+                       0, which is any number
+  RELAY_SEND_BUFFER=N  bytes that the system buffers for each connection; default
+                       262144, and 0 is as many as it likes
   RELAY_CONTROL=PATH   the Unix socket for stats and stop, which only its owner
                        may use; default none
 ";
@@ -87,7 +94,7 @@ report has one more line:
       else publishes here; noslot or worn.
 
 'relay stop' ends the pull too. RELAY_SILENCE is also the time that the origin
-has to start playing.
+has to start playing, and may send nothing during a broadcast.
 ";
 
 const STATS: &str = "usage: relay stats PATH [--json]

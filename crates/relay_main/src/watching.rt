@@ -1,6 +1,6 @@
 //! How a server is watched, by the variables of its environment.
 
-use relay_edge::{Shown, Watching, is_heard};
+use relay_edge::{Bounds, Shown, Watching, is_heard};
 use std::env;
 use std::env::VarError;
 
@@ -18,6 +18,21 @@ const TIMES: &str = "RELAY_LOG_TIME";
 
 /// They are so many where the variable isn't set.
 const SECONDS: u64 = 20;
+
+/// And so many for one that publishes.
+const PUBLISHER_SECONDS: u64 = 8;
+
+/// For how many seconds a player may wait for a broadcast.
+const WAIT: &str = "RELAY_WAIT";
+
+/// How many links one address may have.
+const ADDRESS_LINKS: &str = "RELAY_ADDRESS_LINKS";
+
+/// How many bytes of what a link is sent the system keeps.
+const SEND_BUFFER: &str = "RELAY_SEND_BUFFER";
+
+/// They are so many where the variable isn't set.
+const BYTES: u64 = 262_144;
 
 /// A variable that can't be had, or has a value that it may not have.
 #[derive(Clone, Copy)]
@@ -42,15 +57,52 @@ fn variable(host: &HostRuntime, name: &'static str) -> Result<Option<String>, Un
     }
 }
 
+// The number that a variable says, where it is set and isn't empty.
+fn number(
+    host: &HostRuntime,
+    name: &'static str,
+    wanted: &'static str,
+) -> Result<Option<u64>, Unfit> {
+    let Some(value) = variable(host, name)? else {
+        return Ok(None);
+    };
+    match value.parse::<u64>() {
+        Ok(number) => Ok(Some(number)),
+        Err(_) => Err(Unfit::Variable { name, wanted }),
+    }
+}
+
+// What bounds the links of a server, where one may be silent for so many seconds, if that is said.
+fn bounds(host: &HostRuntime, silence: Option<u64>) -> Result<Bounds, Unfit> {
+    let buffer = number(host, SEND_BUFFER, "a number of bytes")?.unwrap_or(BYTES);
+    Ok(Bounds {
+        publisher_silence: silence.unwrap_or(PUBLISHER_SECONDS),
+        wait: number(host, WAIT, "a number of seconds")?.unwrap_or(0),
+        address_links: number(host, ADDRESS_LINKS, "a number of links")?.unwrap_or(0),
+        send_buffer: u32::try_from(buffer).unwrap_or(u32::MAX),
+    })
+}
+
+// Whether each line of the log begins with the date and the time.
+fn has_times(host: &HostRuntime) -> Result<bool, Unfit> {
+    match variable(host, TIMES)? {
+        None => Ok(false),
+        Some(value) => match value.as_str() {
+            "0" => Ok(false),
+            "1" => Ok(true),
+            _ => Err(Unfit::Variable {
+                name: TIMES,
+                wanted: "0 or 1",
+            }),
+        },
+    }
+}
+
 /// What the variables say, or which of them says nothing that it may.
 pub fn watching(host: &HostRuntime) -> Result<Watching, Unfit> {
     let level = match variable(host, LOG)? {
         None => "info".parse(),
         Some(value) => value.parse(),
-    };
-    let silence = match variable(host, SILENCE)? {
-        None => Ok(SECONDS),
-        Some(value) => value.parse::<u64>(),
     };
     let Ok(level) = level else {
         return Err(Unfit::Variable {
@@ -58,29 +110,12 @@ pub fn watching(host: &HostRuntime) -> Result<Watching, Unfit> {
             wanted: "off, error, warn, info or debug",
         });
     };
-    let Ok(silence) = silence else {
-        return Err(Unfit::Variable {
-            name: SILENCE,
-            wanted: "a number of seconds",
-        });
-    };
-    let times = match variable(host, TIMES)? {
-        None => false,
-        Some(value) => match value.as_str() {
-            "0" => false,
-            "1" => true,
-            _ => {
-                return Err(Unfit::Variable {
-                    name: TIMES,
-                    wanted: "0 or 1",
-                });
-            }
-        },
-    };
+    let silence = number(host, SILENCE, "a number of seconds")?;
     Ok(Watching {
         level,
-        silence,
-        times,
+        silence: silence.unwrap_or(SECONDS),
+        times: has_times(host)?,
+        bounds: bounds(host, silence)?,
         control: variable(host, CONTROL)?,
     })
 }

@@ -1,6 +1,7 @@
 //! Connections to servers.
 ghost use Rattle.std.specs.Prelude.{◌≡◌, IfOk};
 
+use crate::keeping::keep_alive;
 use crate::{PeerLink, PeerRest};
 use mio::net::TcpStream;
 use mio::{Events, Interest, Poll, Token};
@@ -25,6 +26,7 @@ fn open<R: Net<Stream = net::TcpStream>>(
     stream.set_nonblocking(true)?;
     stream.set_nodelay(true)?;
     let mut stream = TcpStream::from_std(stream);
+    keep_alive(&stream);
     let poll = Poll::new(rt)?;
     poll.registry().register(
         &mut stream,

@@ -1,0 +1,41 @@
+//! The lines of the log on links.
+
+use crate::cause::Cause;
+use crate::quoted::{QuotedApp, QuotedName};
+use crate::seats::Tally;
+use crate::words::Words;
+use relay_outside::{Denied, News};
+use std::fmt::{Display, Formatter};
+use std::net::SocketAddr;
+use std::{fmt, io};
+
+/// A line of the log on a link. `error` is why a call of the system failed.
+#[derive(Drop)]
+pub struct LinkLine<'a> {
+    pub address: SocketAddr,
+    pub news: News,
+    pub app: &'a [u8],
+    pub name: &'a [u8],
+    /// A link publishes under that name, if one was refused it.
+    pub published: bool,
+    pub cause: Cause,
+    pub error: Option<io::Error>,
+    pub tally: Option<Tally>,
+}
+
+impl Display for LinkLine<'_> {
+    fn fmt<W: fmt::Write>(&self, f: &mut Formatter<W>) -> fmt::Result {
+        let (app, name) = (self.app, self.name);
+        write!(f, "{} ", self.address)?;
+        match self.news {
+            News::Ended { .. } => self.cause.write_end(f, self.news, &self.error, self.tally),
+            News::Connected => write!(f, "{} {}", Words(self.news), QuotedApp { app }),
+            News::Denied(Denied::InUse) if !self.published => write!(
+                f,
+                "refused: somebody publishes, or no place is left at {}",
+                QuotedName { app, name }
+            ),
+            _ => write!(f, "{} {}", Words(self.news), QuotedName { app, name }),
+        }
+    }
+}
