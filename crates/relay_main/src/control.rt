@@ -35,7 +35,7 @@ impl Question {
 }
 
 // What the words ask at which socket.
-fn question(words: &[Vec<u8>]) -> Option<(Question, &str)> {
+fn make_question(words: &[Vec<u8>]) -> Option<(Question, &str)> {
     let [command, path, more @ ..] = words else {
         return None;
     };
@@ -69,7 +69,7 @@ fn ask<T: Net>(host: &HostRuntime, rt: &T, path: &str, question: Question) -> Re
 
 /// Asks the server at the socket that the words name. `stop` waits until it has ended.
 pub fn command<T: Net>(host: &HostRuntime, rt: &T, words: &[Vec<u8>]) -> Status {
-    let Some((question, path)) = question(words) else {
+    let Some((question, path)) = make_question(words) else {
         return status(BAD_WORDS);
     };
     match ask(host, rt, path, question) {

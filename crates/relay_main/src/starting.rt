@@ -46,7 +46,7 @@ fn recordings(config: &Config) -> u64 {
 
 // What the configuration in the file of that name needs, with so many origins of an edge. `None` where it is
 // refused, or can't be read anew.
-fn needs<R: Files<File = File>>(rt: &R, alloc: Global, name: &str, edges: u32) -> Option<Needs> {
+fn needs_of<R: Files<File = File>>(rt: &R, alloc: Global, name: &str, edges: u32) -> Option<Needs> {
     let text = read_anew(rt, alloc, name)?;
     let config = read_config(alloc, text.as_slice()).ok()?;
     let workers = config
@@ -108,7 +108,7 @@ pub fn prepare<R: Threads + Eprint + Files<File = File>>(
     name: &str,
     edges: u32,
 ) -> Option<Status> {
-    let needs = needs(rt, alloc, name, edges)?;
+    let needs = needs_of(rt, alloc, name, edges)?;
     let given = most_descriptors();
     if given < needs.descriptors {
         house.say(&format_args!(
