@@ -9,6 +9,7 @@ import socket
 import subprocess
 import sys
 import tempfile
+import time
 
 import sockets
 from operate import ask, lines_of, wait_for
@@ -225,6 +226,43 @@ def silent(relay, folder):
     mute.close()
 
 
+def vanishes(relay, folder):
+    """An origin that freezes during a broadcast is given up after a time, and the edge's players are told the end. Before and between broadcasts
+    it may be silent for longer."""
+    home, other = folders(folder, "origin", "edge")
+    origin = Server(relay, home, {"cam": ""})
+    here = edge(relay, other, origin.port, RELAY_SILENCE="3")
+    lines = lines_of(here)
+    expect(wait_for(lambda: says(here.said + lines, 'plays "live/cam"')), f"vanishes: the edge says {here.said}, {lines}")
+    player = Client(here.port).open("play", "cam")
+    over = f"origin 127.0.0.1:{origin.port} ended: "
+    for turn in range(2):
+        # Longer than the origin may be silent during a broadcast.
+        time.sleep(5)
+        expect(not says(lines, over), f"vanishes: an origin that waits before broadcast {turn} is given up: {lines}")
+        publisher = begin(origin.port)
+        # A broadcast counts from a second after it began.
+        for place in range(20):
+            publisher.push(VIDEO, 100 * place, picture(b"%d;" % place))
+            time.sleep(0.1)
+        expect(len(pictures(player, 20)) == 20, f"vanishes: broadcast {turn} doesn't come")
+        if turn == 0:
+            publisher.leave()
+            told(player, b"UnpublishNotify")
+    begun = time.monotonic()
+    origin.process.send_signal(signal.SIGSTOP)
+    told(player, b"UnpublishNotify")
+    took = time.monotonic() - begun
+    expect(2.5 < took < 15, f"vanishes: the players are told the end after {took:.1f} s")
+    expect(wait_for(lambda: says(lines, f"{over}silent for 3 s; ")), f"vanishes: the edge says {lines}")
+    again = begin(here.port)
+    again.push(VIDEO, 0, picture(b"own"))
+    expect(pictures(player, 1) == [picture(b"own")], "vanishes: nobody else can publish then")
+    origin.process.send_signal(signal.SIGCONT)
+    close(here, again, player, publisher)
+    origin.kill()
+
+
 def alone(relay, folder):
     """An edge whose links are all gone ends, though its origin lives. Where its first place is an open table it says that nobody can ask for it."""
     home, other = folders(folder, "origin", "edge")
@@ -239,7 +277,7 @@ def alone(relay, folder):
     origin.kill()
 
 
-TESTS = [relayed, lost, nobody, refused, in_use, stopped, chained, silent, alone]
+TESTS = [relayed, lost, nobody, refused, in_use, stopped, chained, silent, vanishes, alone]
 
 
 def main():

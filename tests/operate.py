@@ -22,6 +22,8 @@ import sockets
 from sockets import CONFIGURATION, VIDEO, Client, Server, expect, fail, message, picture, tags
 
 KEY = "hunter2"
+# The counts of a stream whose players have missed nothing.
+NOTHING = {"jumps": 0, "skipped": 0, "left_out": 0}
 
 
 def lines_of(server):
@@ -139,14 +141,14 @@ def logged(relay, folder):
 
 
 def no_room(relay, folder):
-    """In an open application that is full, a refused publish of another name isn't told as one of a name in use."""
+    """In an open application without room for one more name, the log gives that as the reason for refusing a publish of another name."""
     server = Server(relay, folder, {}, '[[open]]\napp = "live"\nnames = 1', RELAY_LOG="info")
     lines = lines_of(server)
     publisher = Client(server.port).open("publish", "one")
     again, other = refused(server.port, "publish", "one"), refused(server.port, "publish", "two")
     wants = [
         f'{address(again)} refused: somebody publishes "live/one"\n',
-        f'{address(other)} refused: somebody publishes, or no place is left at "live/two"\n',
+        f'{address(other)} refused: no place is left at "live/two"\n',
     ]
     for want in wants:
         expect(wait_for(lambda: want in lines), f"no_room: the log lacks {want!r}")
@@ -170,10 +172,31 @@ def quiet(relay, folder):
         ("RELAY_LOG", "loud", "off, error, warn, info or debug"),
         ("RELAY_SILENCE", "-1", "a number of seconds"),
         ("RELAY_LOG_TIME", "yes", "0 or 1"),
+        ("RELAY_GATHER", "501", "a number of milliseconds, 0 to 500"),
     ):
         ran = subprocess.run([relay, "serve", config], env={**os.environ, variable: value}, capture_output=True, text=True, timeout=60)
         said = f"relay: {variable}: {wanted} is wanted\n"
         expect(ran.returncode == 2 and ran.stderr.startswith(said), f"quiet: {variable}={value} gives {ran.returncode}, {ran.stderr!r}")
+
+
+def gathered(relay, folder):
+    """Bytes for a player wait for more and then come, even if none follow."""
+    server = Server(relay, folder, {"cam": ""}, "accept = 2", RELAY_GATHER="400")
+    player = Client(server.port).open("play", "cam")
+    publisher = Client(server.port).open("publish", "cam")
+    publisher.push(VIDEO, 0, CONFIGURATION)
+    seen = b""
+    for number, body in enumerate((picture(b"one;"), picture(b"two;"))):
+        sent = time.monotonic()
+        publisher.push(VIDEO, 40 * number, body)
+        while body[5:] not in seen:
+            seen += player.receive()
+        took = time.monotonic() - sent
+        # The first frame follows bytes that wait already.
+        expect(number == 0 or took > 0.2, f"gathered: a frame came after {took:.3f} s")
+    publisher.leave()
+    player.leave()
+    expect(server.end()[0] == 0, "gathered: the server failed")
 
 
 def patiently(begin):
@@ -318,14 +341,19 @@ def stats(relay, folder):
     does = sorted(link["does"] for link in told["links"])
     expect(does == ["plays"] * 6 + ["publishes"], f"stats: the links do {does}")
     streams = {stream["name"]: stream for stream in told["streams"]}
-    want = {"app": "live", "name": "cam", "publisher": address(publisher), "players": 5, "broadcasts": 2}
+    nothing = {"jumps": 0, "skipped": 0, "left_out": 0}
+    want = {"app": "live", "name": "cam", "publisher": address(publisher), "players": 5, "broadcasts": 2, **nothing}
     expect(streams.get("cam") == want, f"stats: the stream is {streams.get('cam')}")
-    want = {"app": "live", "name": "other", "publisher": None, "players": 1, "broadcasts": 0}
+    want = {"app": "live", "name": "other", "publisher": None, "players": 1, "broadcasts": 0, **nothing}
     expect(streams.get("other") == want, f"stats: the other stream is {streams.get('other')}")
     expect({link["over"] for link in told["links"]} == {"rtmp"}, f"stats: the links are {told['links']}")
     table = ask(relay, "stats", path)
     expect(table.returncode == 0 and len(table.stdout.splitlines()) == 3 + 7 + 2 + 2, f"stats: the table is {table.stdout!r}")
     expect(all(address(client) in table.stdout for client in players + [waiting]), "stats: the table lacks a player")
+    head = "PUBLISHER PLAYERS BROADCASTS JUMPS SKIPPED LEFT OUT STREAM".split()
+    row = [address(publisher), "5", "2", "0", "0", "0", "live/cam"]
+    rows = [line.split() for line in table.stdout.splitlines()]
+    expect(head in rows and row in rows, f"stats: the table is {table.stdout!r}")
     # Nobody else may have the path, and what is no question is no answer.
     config = os.path.join(folder, "relay.toml")
     second = subprocess.run([relay, "serve", config], env={**os.environ, "RELAY_CONTROL": path}, capture_output=True, text=True, timeout=60)
@@ -484,6 +512,102 @@ def held_back(relay, folder):
     server.kill()
 
 
+def frame(marker, disposable, length):
+    """An inter frame of one NAL unit, to which other frames refer if it isn't disposable."""
+    nal = (b"\x01" if disposable else b"\x41") + marker.ljust(length, b"\xa5")
+    return b"\x27\x01\x00\x00\x00" + struct.pack(">I", len(nal)) + nal
+
+
+def frames_until(player, last):
+    """The number of frames that a player is sent from now on up to the last one."""
+    count = 0
+    while True:
+        found = player.reader.one()
+        if found is None:
+            player.reader.bytes += player.receive()
+        elif found[0] == VIDEO and found[1][1] == 1:
+            count += 1
+            if found[1] == last:
+                return count
+
+
+def missed(relay, folder):
+    """The messages that players miss are counted for each stream: those that a slow player jumps over, and disposable frames that a player
+    that lags isn't sent. The counts stay when the players are gone. A player that keeps up misses nothing."""
+    path = os.path.join(folder, "control")
+    names, lines = ("cam", "lags", "jumps", "web"), 'workers = 2\nring_items = 128\nhttp = "127.0.0.2:0"'
+    server = Server(relay, folder, {name: "" for name in names}, lines, RELAY_CONTROL=path, RELAY_SEND_BUFFER="16384", RELAY_LOG="info")
+    said = lines_of(server)
+    begins = "relay: listens on 127.0.0.2:"
+    expect(wait_for(lambda: has(server.said + said, begins)), f"missed: the server says {server.said + said}")
+    web_port = next(int(line[len(begins):]) for line in server.said + said if line.startswith(begins))
+    fast = Acknowledging(server.port)
+    lags, jumps = (Client(server.port, 16384).open("play", name) for name in ("lags", "jumps"))
+    web = socket.socket()
+    web.settimeout(20)
+    web.setsockopt(socket.SOL_SOCKET, socket.SO_RCVBUF, 16384)
+    web.connect(("127.0.0.2", web_port))
+    web.sendall(b"GET /live/web.flv HTTP/1.0\r\n\r\n")
+    expect(wait_for(lambda: has(said, f'{address(web)} plays "live/web"')), f"missed: the log has {said}")
+    publishers = {name: Client(server.port).open("publish", name) for name in names}
+    sent = {name: [] for name in names}
+
+    def push(name, body):
+        publishers[name].push(VIDEO, 40 * len(sent[name]), body)
+        if body[1] == 1:
+            sent[name].append(body)
+
+    for name in names:
+        push(name, CONFIGURATION)
+    # The system and the server keep some 30 frames for a player that doesn't read. So that of "lags" is more than half of the window behind at
+    # the end, and never out of it. The other two fall out of it.
+    for place in range(180):
+        for name in names:
+            if name != "lags" or place < 120:
+                marker, length = b"%d;" % place, 200 if name == "cam" else 4000
+                key = place % 20 == 0 if name != "lags" else place == 0
+                push(name, picture(marker, length) if key else frame(marker, name in ("cam", "lags") and place % 2 == 1, length))
+        # The player that keeps up is never far behind.
+        if not wait_for(lambda: len(fast.seen) > len(sent["cam"]) - 30):
+            raise RuntimeError(f"a player that reads has {len(fast.seen)} of {len(sent['cam'])} frames")
+    came = {"lags": frames_until(lags, sent["lags"][-1]), "jumps": frames_until(jumps, sent["jumps"][-1])}
+    read, last = bytearray(), sent["web"][-1]
+    while last not in read[-len(last) - 4:]:
+        piece = web.recv(65536)
+        if not piece:
+            raise EOFError("the answer over HTTP ends")
+        read += piece
+    came["web"] = sum(kind == VIDEO and body[1] == 1 for kind, _, body in tags(bytes(read).split(b"\r\n\r\n", 1)[1]))
+    expect(wait_for(lambda: len(fast.seen) == 181), f"missed: a player that reads has {len(fast.seen)} of 181 units")
+
+    def told():
+        return {stream["name"]: stream for stream in json.loads(ask(relay, "stats", path, "--json").stdout)["streams"]}
+
+    def counts(name):
+        return {key: streams[name][key] for key in NOTHING}
+
+    streams = told()
+    expect(counts("cam") == NOTHING, f"missed: a player that keeps up misses {counts('cam')}")
+    expect(counts("lags")["jumps"] == counts("lags")["skipped"] == 0 < counts("lags")["left_out"], f"missed: a player that lags misses {counts('lags')}")
+    for name in ("jumps", "web"):
+        expect(counts(name)["jumps"] > 0 and counts(name)["skipped"] > 0, f"missed: a player that falls out of the window misses {counts(name)}")
+    for name, count in came.items():
+        whole = count + counts(name)["skipped"] + counts(name)["left_out"]
+        expect(whole == len(sent[name]), f"missed: of {len(sent[name])} frames of {name} {count} came and {counts(name)} are told")
+    row = [address(publishers["jumps"]), "1", "1", *(str(counts("jumps")[key]) for key in NOTHING), "live/jumps"]
+    table = ask(relay, "stats", path).stdout
+    expect(row in [line.split() for line in table.splitlines()], f"missed: the table is {table!r}")
+    before = streams
+    lags.close()
+    jumps.close()
+    web.close()
+    gone = lambda: all((streams := told())[name]["players"] == 0 for name in came)
+    expect(wait_for(gone), "missed: the players don't go")
+    streams = told()
+    expect(all(counts(name) == {key: before[name][key] for key in NOTHING} for name in names), f"missed: once players are gone {streams} are told")
+    server.kill()
+
+
 def full(relay, folder):
     """Nobody reads the log: connections are served all the same, and the lines that were lost are counted."""
     server = Server(relay, folder, {"cam": ""}, RELAY_LOG="debug")
@@ -581,7 +705,7 @@ def recorded(relay, folder):
     expect(dated == lines and len(lines) > 4, f"recorded: lines without the time: {[line for line in lines if line not in dated]}")
 
 
-TESTS = [recorded, logged, no_room, quiet, silent, stuck, stats, stopped, held_back, full, crowded]
+TESTS = [recorded, logged, no_room, quiet, gathered, silent, stuck, stats, stopped, held_back, missed, full, crowded]
 
 
 def main():

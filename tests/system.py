@@ -373,6 +373,8 @@ TESTS = [unread, stood, unanswered, without_descriptors, enough, failing, withou
 
 def main():
     signal.signal(signal.SIGPIPE, signal.SIG_IGN)
+    # A shell can't trap a signal that is ignored when it starts, as SIGINT is in a shell's background.
+    signal.signal(signal.SIGINT, signal.SIG_DFL)
     # What hangs ends all.
     signal.alarm(600)
     relay, wanted = os.path.abspath(sys.argv[1]), sys.argv[2:]

@@ -5,9 +5,9 @@ use crate::AacFail;
 use relay_base::be16;
 use std::marker::Model;
 
-/// What an AudioSpecificConfig tells a decoder (ISO/IEC 14496-3, 1.6.2.1): the audio object type, 1 to 4, the sampling
-/// frequency index, 0 to 12 (1.6.3.4), and the channel configuration, 1 to 7 (1.6.3.5).
-#[derive(Clone, Copy, Debug, PartialEq, Eq)]
+/// The content of an AudioSpecificConfig (ISO/IEC 14496-3, 1.6.2.1). It has the audio object type, 1 to 4,
+/// the sampling frequency index, 0 to 12 (1.6.3.4), and the channel configuration, 1 to 7 (1.6.3.5).
+#[derive(Clone, Copy)]
 pub struct Asc {
     pub object: u8,
     pub index: u8,
@@ -27,8 +27,8 @@ impl Model for Asc {
 }
 
 impl Asc {
-    /// Reads an AudioSpecificConfig, of which the first 13 bits count. Refusals come in the order `Short`, `Object`,
-    /// `Index`, `Channels`.
+    /// Reads an AudioSpecificConfig, of which the first 13 bits count. Refusals come in the order `Short`,
+    /// `Object`, `Index`, `Channels`.
     #[tactic(auto, using(std::proofs::lemmas::Bool::Decides::nat_tests), unfolding(crate::specs::Config::config_of))]
     pub fn read(body: &[u8]) -> Result<Asc, AacFail>
         ensures exact { result ≡ config_of body.now }
@@ -46,7 +46,7 @@ impl Asc {
         )
     }
 
-    /// The configuration of these numbers, or the first that is out of its range.
+    /// Makes the configuration of these numbers, or refuses the first that is out of its range.
     #[tactic(auto, using(std::proofs::lemmas::Bool::Decides::nat_tests), unfolding(crate::specs::Config::checked))]
     fn of(object: u8, index: u8, channels: u8) -> Result<Asc, AacFail>
         ensures { result ≡ checked object index channels }

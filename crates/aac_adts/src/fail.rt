@@ -4,8 +4,8 @@ ghost use Rattle.aac_adts.specs.declared.fail.AacFail.TheVariants.{OutOfMemory a
 use av_unit::OutOfMemory;
 use thiserror::Error;
 
-/// Why a configuration or a frame was refused.
-#[derive(Clone, Copy, Debug, Drop, PartialEq, Eq, Error)]
+/// The reason for which a configuration or a frame was refused.
+#[derive(Clone, Copy, Debug, Drop, Error)]
 pub enum AacFail {
     /// A configuration has fewer than two bytes.
     #[error("a configuration of fewer than two bytes")]
@@ -19,10 +19,11 @@ pub enum AacFail {
     /// The channel configuration isn't 1 to 7.
     #[error("channel configuration {n}")]
     Channels { n: u8 },
-    /// The raw bytes of a frame are more than 8,184.
+    /// A frame has more than 8,184 raw bytes.
     #[error("a frame of {n} raw bytes")]
     TooLong { n: usize },
-    /// No frame: the place is that of the first byte that isn't a header's, or 3 where the length isn't that of the bytes.
+    /// The bytes are no frame. The place is that of the first byte that isn't a header's, or 3 if the length
+    /// isn't that of the bytes.
     #[error("no header of a frame at {at}")]
     BadAdts { at: usize },
     #[error("out of memory")]

@@ -6,13 +6,13 @@ ghost use Rattle.aac_adts.specs.Reading.{adts_of, bad_byte, channels_of, length_
 use crate::{AacFail, Asc};
 use av_unit::{Bytes, OutOfMemory};
 
-// The bytes of a header, and how many raw bytes a frame has at most: its length has 13 bits.
+// The number of bytes of a header, and the largest number of raw bytes of a frame: its length has 13 bits.
 const HEADER: usize = 7;
 
 const MOST_RAW: usize = 8_184;
 
-/// Appends a frame of raw bytes: an ADTS header of 7 bytes, without a checksum, and the raw bytes. A frame has at most
-/// 8,184 raw bytes. A refusal leaves what `out` held as the beginning of what it holds.
+/// Appends a frame of raw bytes: an ADTS header of 7 bytes, without a checksum, and the raw bytes. A frame
+/// has at most 8,184 raw bytes. After a refusal, `out` begins with the bytes that it held before.
 pub fn adts(asc: Asc, raw: &[u8], out: &mut Bytes) -> Result<(), AacFail>
     requires { 0 < length raw.now }
     ensures ok { OnOk result (out.new ≡ out.old ++ frame asc raw.now) }
@@ -47,8 +47,9 @@ fn put_head(asc: Asc, len: usize, out: &mut Bytes) -> Result<(), OutOfMemory>
     out.append(&head.to_be_bytes()[1..])
 }
 
-/// Reads a frame that fills the bytes: its configuration, and how many raw bytes it has, which stand after the 7 bytes of
-/// the header. A header is read as `adts` writes it, at any number of raw bytes from 1 to 8,184.
+/// Reads a frame that fills the bytes. Returns its configuration and the number of its raw bytes, which stand
+/// after the 7 bytes of the header. A header is read as `adts` writes it, with any number of raw bytes from 1
+/// to 8,184.
 pub fn read_adts(bytes: &[u8]) -> Result<(Asc, usize), AacFail>
     ensures exact { result ≡ adts_of bytes.now }
     ensures found { IfOk result (λ x. IsConfig x.0 × IsRaw x.1 × (x.1 ≡ length (drop 7 bytes.now)) × (bytes.now ≡ frame x.0 (drop 7 bytes.now))) }
@@ -65,21 +66,21 @@ pub fn read_adts(bytes: &[u8]) -> Result<(Asc, usize), AacFail>
     Ok((asc, bytes.len() - HEADER))
 }
 
-/// A byte, or 0 past the end.
+/// Returns a byte, or 0 past the end.
 fn byte(bytes: &[u8], at: usize) -> u8
     ensures { result ≡ slice_index bytes.now at }
 {
     bytes.get(at).copied().unwrap_or(0)
 }
 
-/// The channel configuration in a header.
+/// Returns the channel configuration in a header.
 fn channels_in(bytes: &[u8]) -> u8
     ensures { result ≡ channels_of bytes.now }
 {
     byte(bytes, 2) % 2 * 4 + byte(bytes, 3) / 64
 }
 
-/// The length of a frame in its header.
+/// Returns the length of a frame in its header.
 fn length_in(bytes: &[u8]) -> usize
     ensures { result ≡ length_of bytes.now }
 {
@@ -87,7 +88,7 @@ fn length_in(bytes: &[u8]) -> usize
     high as usize * 2_048 + byte(bytes, 4) as usize * 8 + byte(bytes, 5) as usize / 32
 }
 
-/// The place of the first byte that isn't a header's.
+/// Finds the place of the first byte that isn't a header's.
 #[tactic(auto, using(std::proofs::lemmas::Bool::Decides::nat_tests), unfolding(crate::specs::Reading::bad_byte))]
 fn bad_place(bytes: &[u8]) -> Option<usize>
     ensures { result ≡ bad_byte bytes.now }

@@ -1,7 +1,8 @@
-//! AAC sound in ADTS frames: the configuration of a decoder (ISO/IEC 14496-3, 1.6.2.1), and the frames that have it in
-//! their headers (1.A.2.2).
+//! AAC audio in ADTS frames: the configuration of a decoder (ISO/IEC 14496-3, 1.6.2.1), and the frames that
+//! have it in their headers (1.A.2.2).
 //!
-//! Read [`adts`] first. The configuration's bits are `specs/Config.antt`, a frame's `specs/Frame.antt`. It decodes no sound.
+//! Read [`adts`] first. The bits of the configuration are in `specs/Config.antt`, those of a frame in
+//! `specs/Frame.antt`. This crate decodes no audio.
 #![tactic(auto)]
 
 mod asc;

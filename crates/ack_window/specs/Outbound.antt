@@ -1,4 +1,5 @@
--- How far a peer has acknowledged what it was sent (RTMP 1.0, 5.4.3 to 5.4.5). What is named own is this project's choice.
+-- How far a peer has acknowledged what it was sent (RTMP 1.0, 5.4.3 to 5.4.5). What is named own is this
+-- project's choice.
 use Rattle.std.specs.Prelude.{ℕ, ◌+◌, ◌-◌, ◌%◌, ◌^◌, ◌<◌, ◌≤◌, ◌==◌, Bool, true, false, nat_lt, if◌then◌else◌, min, max, IsTrue}
 use Rattle.ack_window.specs.Window.{window_of}
 
@@ -20,8 +21,8 @@ pub record IsOutWindow (window sent acknowledged : ℕ) : Type 0 where
 abbrev pub new_out : ℕ → OutWindow
 new_out size = record { window = window_of size; sent = 0; acknowledged = 0; heard = false }
 
--- Set Peer Bandwidth (5.4.5): limit 0 sets the window, and limit 1 takes the lesser of both. Others change nothing (own:
--- limit 2 is treated as 0 by the standard where the one before was 0)
+-- Set Peer Bandwidth (5.4.5): limit 0 sets the window, and limit 1 takes the lesser of both. Others change
+-- nothing (own: limit 2 is treated as 0 by the standard where the one before was 0)
 abbrev pub limited : ℕ → ℕ → ℕ → ℕ
 limited window size limit =
     if limit == 0 then window_of size else (if limit == 1 then min window (window_of size) else window)

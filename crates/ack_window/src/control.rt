@@ -22,25 +22,25 @@ pub(crate) const PING_REQUEST: u16 = 6;
 
 const PING_RESPONSE: u16 = 7;
 
-/// What a control message says.
-#[derive(Clone, Copy, Debug, PartialEq, Eq)]
+/// The content of a control message.
+#[derive(Clone, Copy)]
 pub enum Control {
     /// Set Chunk Size (5.4.1): the number of all 32 bits, whether or not it is a size.
     ChunkSize(u32),
     /// Abort Message (5.4.2): a chunk stream id.
     Abort(u32),
-    /// Acknowledgement (5.4.3): how many bytes were received, modulo 2^32.
+    /// Acknowledgement (5.4.3): the number of bytes received, modulo 2^32.
     Acknowledgement(u32),
     /// User Control Message (6.2, 7.1.7): an event, and the four bytes after it, or 0.
     User { event: u16, value: u32 },
     /// Window Acknowledgement Size (5.4.4), in bytes.
     Window(u32),
-    /// Set Peer Bandwidth (5.4.5): a window in bytes, and how it limits.
+    /// Set Peer Bandwidth (5.4.5): a window in bytes, and the type of its limit.
     Bandwidth { size: u32, limit: u8 },
 }
 
 /// A control message whose body is too short: its type, and the length of its body in bytes.
-#[derive(Clone, Copy, Debug, PartialEq, Eq)]
+#[derive(Clone, Copy, Debug)]
 pub struct BadControl {
     pub kind: u8,
     pub length: usize,
@@ -58,8 +58,8 @@ impl fmt::Display for BadControl {
 
 impl Error for BadControl {}
 
-/// The answer to a ping request, event 6: a ping response, event 7, with the same value (7.1.7). `None` for any other
-/// control.
+/// Gives the answer to a ping request, event 6: a ping response, event 7, with the same value (7.1.7). `None`
+/// for any other control.
 pub fn ping_answer(control: &Control) -> Option<Control>
     ensures { result ≡ ping_answer_of control.now }
 {

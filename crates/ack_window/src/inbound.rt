@@ -4,11 +4,11 @@ ghost use Rattle.ack_window.specs.Inbound.{new_in, in_set, in_took, room_of, ack
 use crate::window::window;
 use std::marker::Model;
 
-/// The acknowledgements that a peer is sent (5.4.3): where they are due among the bytes that it sends.
+/// The acknowledgements that a peer is sent (5.4.3), by the bytes that it sends.
 ///
 /// An acknowledgement is due after each number of bytes that is a multiple of the window. A window below 1,000 bytes
 /// counts as 1,000. Contracts see the window in effect and the number of bytes taken.
-#[derive(Debug, Drop)]
+#[derive(Drop)]
 pub struct Inbound {
     window: u32,
     taken: u64,
@@ -25,7 +25,7 @@ impl Model for Inbound {
 }
 
 impl Inbound {
-    /// Nothing is taken yet.
+    /// Makes a window of which no byte is taken yet.
     pub fn new(size: u32) -> Inbound
         ensures { result ≡ new_in size }
     {
@@ -42,7 +42,7 @@ impl Inbound {
         self.window = window(size);
     }
 
-    /// How many bytes from here the next acknowledgement is due; at least 1, and at most the window.
+    /// Gives the number of bytes until the next acknowledgement is due: at least 1, and at most the window.
     pub fn room_to_next(&self) -> u64
         ensures value { result ≡ room_of self.now }
         ensures next { IsNextPlace self.now result }
@@ -53,8 +53,8 @@ impl Inbound {
         window - self.taken % window
     }
 
-    /// Takes so many bytes, which are at most the room to the next acknowledgement. The answer is the number to
-    /// acknowledge, that of all bytes taken modulo 2^32, exactly where they fill that room.
+    /// Takes bytes, at most the room to the next acknowledgement. If they fill that room, and only then, the
+    /// answer is the number to acknowledge: that of all bytes taken, modulo 2^32.
     pub fn took(&mut self, n: u64) -> Option<u32>
         requires within { n ≤ room_of self.old }
         requires far { self.old.taken + n < 2 ^ 63 }

@@ -7,7 +7,7 @@ ghost use Rattle.ack_window.specs.InboundRuns.{InCall, Steps, acks_of, due, take
 ghost use Rattle.ack_window.specs.Outbound.{out_acked, behind, meant, IsHeldBack};
 ghost use Rattle.ack_window.specs.OutboundRuns.{OutCall, outbound, sent_by, meant_after, AckedIn, IsMeant, KeepsWindow};
 
-/// The control that `control_message` writes is read by `control_of`, also where more bytes follow it.
+/// The control that `control_message` writes is read by `control_of`, also if more bytes follow it.
 #[tactic(auto, using(crate::proofs::Controls::read_back, crate::proofs::Controls::read_back_longer))]
 pub fn controls_are_read_back()
     ensures back { (control : Control) → InRange control → control_in (message_of control) ≡ Ok (Some control) }
@@ -15,7 +15,7 @@ pub fn controls_are_read_back()
         → control_in (with_body control (body_of control ++ rest)) ≡ Ok (Some control) }
 {}
 
-/// Of a peer's bytes, those after which it is sent an acknowledgement, for any calls of an `Inbound`.
+/// The bytes of a peer after which it is sent an acknowledgement, for any calls of an `Inbound`.
 #[tactic(auto, using(crate::proofs::Acks::acks_are_due, crate::proofs::Acks::window_in_effect, crate::proofs::Acks::acks_of_cuts))]
 pub fn acknowledgements_law()
     // After each byte whose count is a multiple of the window in effect at it, and after no other.
@@ -25,16 +25,16 @@ pub fn acknowledgements_law()
     ensures window { (first n byte : ℕ) (before after : List InCall) → taken_by before < byte → byte ≤ taken_by before + n
         → window_at first (before ++ (InCall.Took n ∷ after)) byte ≡ last_window first before }
 
-    // Where the window is never set again, nothing depends on how the bytes are cut.
+    // If the window is never set again, nothing depends on how the bytes are cut.
     ensures cut { (size : ℕ) (cuts : List ℕ) → Steps (new_in size) (map InCall.Took cuts)
         → acks_of (new_in size) (map InCall.Took cuts) ≡ multiples (window_of size) (sum cuts) }
 {}
 
-/// What a peer has acknowledged of the bytes that it was sent, for any calls of an `Outbound`.
+/// The bytes that a peer has acknowledged of those that it was sent, for any calls of an `Outbound`.
 pub fn acknowledged_law()
     ensures sent { (size : ℕ) (calls : List OutCall) → (outbound size calls).sent ≡ min (sent_by calls) (2 ^ 64 - 1) }
 
-    // No more is acknowledged than was sent, and what is acknowledged stays so.
+    // At most the bytes sent are acknowledged, and an acknowledged byte stays acknowledged.
     ensures within { (size : ℕ) (calls : List OutCall) → (outbound size calls).acknowledged ≤ (outbound size calls).sent }
     ensures never_falls { (size : ℕ) (calls more : List OutCall)
         → (outbound size calls).acknowledged ≤ (outbound size (calls ++ more)).acknowledged }
@@ -45,12 +45,12 @@ pub fn acknowledged_law()
     ensures attained { (size : ℕ) (calls : List OutCall)
         → ((outbound size calls).acknowledged ≡ 0) ⊎ IsMeant size calls (outbound size calls).acknowledged }
 
-    // The number of a count is less than 2^31 behind what was sent, and means that count.
+    // If a count is less than 2^31 below the number sent, its number modulo 2^32 means that count.
     ensures understood { (count sent : ℕ) → count ≤ sent → sent - count < 2 ^ 31 → meant sent (number_of count) ≡ count }
     ensures behind { (sent value : ℕ) → value < 2 ^ 32 → (value + behind sent value) % 2 ^ 32 ≡ number_of sent }
 {}
 
-/// Which window is in effect, for any calls of an `Outbound`.
+/// The window that is in effect, for any calls of an `Outbound`.
 pub fn outbound_window_law()
     // A Set of limit 0 sets it, whatever it was.
     ensures set { (first size : ℕ) (before after : List OutCall) → KeepsWindow after

@@ -2,8 +2,8 @@
 //!
 //! The section numbers are those of Adobe's RTMP 1.0.
 //!
-//! Read [`control_of`] first. Control messages are `specs/Controls.antt`, the windows `specs/Inbound.antt` and `specs/Outbound.antt`. It
-//! sends nothing.
+//! Read [`control_of`] first. Control messages are `specs/Controls.antt`, the windows `specs/Inbound.antt`
+//! and `specs/Outbound.antt`. It sends nothing.
 #![tactic(auto)]
 
 mod control;

@@ -4,11 +4,11 @@ ghost use Rattle.ack_window.specs.Outbound.{new_out, out_set, out_sent, out_acke
 use crate::window::window;
 use std::marker::Model;
 
-/// How far a peer has acknowledged what it was sent (5.4.3).
+/// The number of bytes that a peer has acknowledged of those that it was sent (5.4.3).
 ///
-/// A window below 1,000 bytes counts as 1,000. Contracts see the window in effect, the number of bytes sent, how many
-/// of these are acknowledged, and whether an acknowledgement ever came.
-#[derive(Debug, Drop)]
+/// A window below 1,000 bytes counts as 1,000. Contracts see the window in effect, the number of bytes sent,
+/// the number of these that are acknowledged, and whether an acknowledgement ever came.
+#[derive(Drop)]
 pub struct Outbound {
     window: u32,
     sent: u64,
@@ -27,7 +27,7 @@ impl Model for Outbound {
 }
 
 impl Outbound {
-    /// Nothing is sent yet, and no acknowledgement came.
+    /// Makes a window of which no byte is sent yet, without an acknowledgement.
     pub fn new(size: u32) -> Outbound
         ensures { result ≡ new_out size }
     {
@@ -39,8 +39,8 @@ impl Outbound {
         }
     }
 
-    /// Sets the window, as a Set Peer Bandwidth asks (5.4.5): limit 0 sets it, limit 1 takes the lesser of the present
-    /// window and this, and any other changes nothing.
+    /// Sets the window, as a Set Peer Bandwidth asks (5.4.5). Limit 0 sets it, limit 1 takes the lesser of
+    /// the present window and this, and any other changes nothing.
     pub fn set(&mut self, size: u32, limit: u8)
         ensures { self.new ≡ out_set self.old size limit }
     {
@@ -51,17 +51,18 @@ impl Outbound {
         }
     }
 
-    /// So many bytes more were sent. The count stands still at 2^64 - 1.
+    /// Counts further bytes that were sent. The count stays at 2^64 - 1 once it is there.
     pub fn sent(&mut self, n: u64)
         ensures { self.new ≡ out_sent self.old n }
     {
         self.sent = self.sent.saturating_add(n);
     }
 
-    /// An acknowledgement came, whose value is a number of bytes modulo 2^32.
+    /// Takes an acknowledgement, whose value is a number of bytes modulo 2^32.
     ///
-    /// Let it be so many bytes behind the number sent, modulo 2^32. Where that is less than 2^31, it acknowledges all
-    /// but these last bytes; else all that was sent. What is acknowledged stays so, whatever comes later.
+    /// Let its distance be the number sent minus the value, modulo 2^32. If the distance is less than 2^31,
+    /// all but the last `distance` bytes sent are acknowledged; else all of them. Acknowledged bytes stay
+    /// acknowledged, whatever comes later.
     pub fn acked(&mut self, value: u32)
         ensures value { self.new ≡ out_acked self.old value }
         ensures never_falls { self.old.acknowledged ≤ self.new.acknowledged }
@@ -78,7 +79,8 @@ impl Outbound {
         self.heard = true;
     }
 
-    /// Whether the sender is to wait: an acknowledgement ever came, and a window of bytes or more isn't acknowledged.
+    /// Tells whether the sender must wait: an acknowledgement ever came, and at least a window of bytes isn't
+    /// acknowledged.
     pub fn held_back(&self) -> bool
         ensures held { IsTrue result ↔ IsHeldBack self.now }
         ensures kept { IsOutWindow self.now.window self.now.sent self.now.acknowledged }

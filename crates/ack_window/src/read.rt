@@ -9,11 +9,12 @@ use crate::{BadControl, Control};
 use chunk_wire::Message;
 use relay_base::{be16, be32};
 
-/// What a control message says. `None` exactly for a message of another type than 1 to 6.
+/// Reads the control that a message carries. `None` exactly for a message of another type than 1 to 6.
 ///
-/// It is refused exactly where its body is shorter than its type asks: 4 bytes for types 1, 2, 3 and 5, 5 bytes for
-/// type 6, and for type 4 the 2 bytes of the event, but 6 bytes for event 6. What follows in a longer body isn't read.
-/// The number of a Set Chunk Size is given as it stands, also where it is no size.
+/// It is refused exactly if its body is shorter than its type requires: 4 bytes for types 1, 2, 3 and 5, and
+/// 5 bytes for type 6. Type 4 requires the 2 bytes of the event, but 6 bytes for event 6. Further bytes of a
+/// longer body aren't read. The number of a Set Chunk Size is given as it stands, even if it isn't a valid
+/// size.
 #[tactic(auto, using(std::proofs::lemmas::Bool::Decides::nat_tests), unfolding(crate::specs::Controls::control_in, crate::specs::Controls::least_of))]
 pub fn control_of(message: &Message) -> Result<Option<Control>, BadControl>
     ensures value { result ≡ control_in message.now }
@@ -32,7 +33,7 @@ pub fn control_of(message: &Message) -> Result<Option<Control>, BadControl>
     }
 }
 
-// The refusal of a message.
+// Gives the refusal of a message.
 fn refusal(message: &Message) -> BadControl
     ensures { result ≡ refusal_of message.now }
 {
@@ -42,7 +43,7 @@ fn refusal(message: &Message) -> BadControl
     }
 }
 
-// The number in the first four bytes.
+// Reads the number in the first four bytes.
 fn number(message: &Message) -> Result<u32, BadControl>
     ensures { result ≡ unless_short message.now 4 (be32_of message.now.body) }
 {
@@ -53,7 +54,7 @@ fn number(message: &Message) -> Result<u32, BadControl>
     Ok(be32(body))
 }
 
-// An event with its value.
+// Reads an event with its value.
 fn user(message: &Message) -> Result<Control, BadControl>
     ensures { result ≡ unless_short message.now (least_user message.now.body) (Control.User (event_in message.now.body) (value_in message.now.body)) }
 {
@@ -72,7 +73,7 @@ fn user(message: &Message) -> Result<Control, BadControl>
     Ok(Control::User { event, value: 0 })
 }
 
-// A window and its limit.
+// Reads a window and its limit.
 fn bandwidth(message: &Message) -> Result<Control, BadControl>
     ensures { result ≡ unless_short message.now 5 (Control.Bandwidth (be32_of message.now.body) (slice_index message.now.body 4)) }
 {

@@ -9,7 +9,8 @@ use av_unit::{Bytes, OutOfMemory};
 use chunk_wire::Message;
 use std::alloc::Global;
 
-/// The message that says a control: on message stream 0, at time 0, with all bytes of its fields and no more.
+/// Gives the message that carries a control: on message stream 0, at time 0, with exactly the bytes of its
+/// fields.
 pub fn control_message(alloc: Global, control: Control) -> Result<Message, OutOfMemory>
     ensures message { IfOk result (λ m. m ≡ message_of control) }
     ensures range { InRange control }
@@ -31,7 +32,7 @@ pub fn control_message(alloc: Global, control: Control) -> Result<Message, OutOf
     }
 }
 
-// A message on stream 0 at time 0.
+// Gives a message on stream 0 at time 0.
 fn message(alloc: Global, kind: u8, body: &[u8]) -> Result<Message, OutOfMemory>
     ensures { IfOk result (λ m. m ≡ record { kind = kind; stream = 0; time = 0; body = body.now }) }
 {

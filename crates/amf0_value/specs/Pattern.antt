@@ -1,4 +1,5 @@
--- Whole numbers as the 64 bits of IEEE 754's binary64: a number of AMF0 has these bits (Adobe's AMF0 specification, section 2.2).
+-- Whole numbers as the 64 bits of IEEE 754's binary64: a number of AMF0 has these bits (Adobe's AMF0
+-- specification, section 2.2).
 use Rattle.std.specs.Prelude.{◌≡◌, ℕ, ◌+◌, ◌-◌, ◌*◌, ◌^◌, ◌<◌, ◌≤◌, ◌⊎◌, ◌==◌, if◌then◌else◌}
 use Rattle.std.specs.Int.Count.{count_leading_zeros}
 

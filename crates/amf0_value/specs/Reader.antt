@@ -1,5 +1,5 @@
--- What bytes are read as, as a function of them: the spelling that stands in them, or the first refusal. The laws say that it is
--- those (`one_answer`).
+-- What bytes are read as, as a function of them: the spelling that stands in them, or the first refusal. The
+-- laws say that it is those (`one_answer`).
 use Rattle.std.specs.Prelude.{ℕ, zero, suc, ◌+◌, ◌-◌, Bool, true, false, ◌==◌, if◌then◌else◌, List, [], ◌∷◌, length, get_or, take, drop, Option, Some, None}
 use Rattle.std.specs.Prelude.{Result, Ok, Err}
 use Rattle.std.specs.Int.{Width, w16, w32, w64, byte_len}

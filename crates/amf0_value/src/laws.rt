@@ -11,7 +11,7 @@ ghost use Rattle.amf0_value.specs.Pattern.{IsPattern, pattern};
 ghost use Rattle.amf0_value.specs.declared.fail.AmfFail.{AmfFail};
 ghost use Rattle.amf0_value.specs.declared.fail.AmfFail.TheVariants.{Truncated, BadMarker, TooDeep, BadEnd};
 
-/// What `encode` appends is a spelling of the value, and so is read as it, whatever follows.
+/// The bytes that `encode` appends are a spelling of the value, and so are read as it, whatever follows.
 pub fn encoded_is_read()
     ensures front { (v : Tree) (rest : List ℕ) → Fits v → HasNumbers v → Spells v (take (length (spelling v)) (spelling v ++ rest)) }
     ensures rest { (v : Tree) (rest : List ℕ) → Fits v → HasNumbers v → Spelled v (spelling v ++ rest) rest }
@@ -34,8 +34,8 @@ pub fn refusals_stay()
     ensures all { (bytes more : List ℕ) (f : AmfFail) → IsLasting f → RefusesAll bytes f → RefusesAll (bytes ++ more) f }
 {}
 
-/// Bytes have one reading: the values that fill them, or the refusal that stands in them, is what
-/// `values_in` says of them.
+/// Bytes have one reading, and `values_in` gives it: the values that fill them, or the refusal that stands in
+/// them.
 pub fn one_answer()
     ensures values { (vs : Items) (bytes : List ℕ) → ItemsSpelled vs bytes [] → AllFit vs → values_in bytes ≡ Ok vs }
     ensures refusal { (bytes : List ℕ) (f : AmfFail) → RefusesAll bytes f → values_in bytes ≡ Err f }

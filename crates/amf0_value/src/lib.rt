@@ -1,7 +1,7 @@
 //! AMF0 values: reading them from bytes and writing them.
 //!
-//! Read [`decode`] first. The grammar both ways is `specs/Encoding.antt`, refusals with their places `specs/Refusal.antt`. It keeps
-//! references, and resolves none.
+//! Read [`decode`] first. The grammar for both directions is in `specs/Encoding.antt`, refusals with their
+//! places are in `specs/Refusal.antt`. This crate keeps references, and resolves none.
 #![tactic(auto)]
 
 mod amf;

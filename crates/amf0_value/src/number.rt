@@ -1,8 +1,7 @@
 ghost use Rattle.std.specs.Prelude.{◌≡◌, ◌<◌, ◌^◌, ℕ, MatchOption};
 ghost use Rattle.amf0_value.specs.Pattern.{IsPattern, pattern};
 
-/// The 64 bits that a number of AMF0 has where it is the whole number `n`: the pattern of IEEE 754's
-/// binary64.
+/// Returns the 64 bits of the AMF0 number that is the whole number `n`: the pattern of IEEE 754's binary64.
 #[tactic(auto, unfolding(crate::specs::Pattern::pattern))]
 pub fn bits_of(n: u64) -> u64
     requires { n < 2 ^ 53 }
@@ -17,7 +16,7 @@ pub fn bits_of(n: u64) -> u64
     ((1023 + exponent as u64) << 52) + (above << (52 - exponent))
 }
 
-/// The whole number below 2^53 whose 64 bits these are. None where there is none.
+/// Returns the whole number below 2^53 whose 64 bits these are. `None` if there is none.
 pub fn whole_of(bits: u64) -> Option<u64>
     ensures { MatchOption result ((n : ℕ) → n < 2 ^ 53 → IsPattern n bits → ⊥) (λ n. (n < 2 ^ 53) × IsPattern n bits) }
 {

@@ -1,4 +1,4 @@
-//! Readers over the bytes that are left, which keep little or nothing of what they pass over.
+//! Readers over the bytes that are left. They skip values, and keep little or nothing of them.
 
 ghost use Rattle.std.specs.Prelude.{◌≡◌, ◌+◌, ◌<◌, ◌≤◌, ◌∷◌, [], ℕ, Some, drop, length};
 ghost use Rattle.std.specs.Option.{IfSome};
@@ -16,7 +16,7 @@ use av_unit::Bytes;
 use std::alloc::Global;
 
 /// A value of which only a number, a boolean or a text is kept.
-#[derive(Debug, PartialEq, Eq, Drop)]
+#[derive(Drop)]
 pub enum Brief {
     Number(u64),
     Boolean(bool),
@@ -24,7 +24,7 @@ pub enum Brief {
     Other,
 }
 
-/// Passes over what stands behind the marker of a value with no values inside it.
+/// Skips the content behind the marker of a value with no values inside it.
 fn skip_scalar(marker: Scalar, body: &[u8]) -> Result<&[u8], Stop>
     ensures { Gives (λ rest. HasScalar (scalar_byte marker ∷ body.now) rest.now) (IsShort body.now (scalar_needs marker body.now)) result }
 {
@@ -60,7 +60,7 @@ fn skip_scalar(marker: Scalar, body: &[u8]) -> Result<&[u8], Stop>
     }
 }
 
-/// Passes over the time and the zone of a date.
+/// Skips the time and the zone of a date.
 fn skip_date(body: &[u8]) -> Result<&[u8], Stop>
     ensures { Gives (λ rest. HasScalar (11 ∷ body.now) rest.now) (IsShort body.now 10) result }
 {
@@ -69,7 +69,7 @@ fn skip_date(body: &[u8]) -> Result<&[u8], Stop>
     Ok(rest)
 }
 
-/// Passes over the value at the front of the bytes, where that is a whole one with no values inside it.
+/// Skips the value at the front of the bytes, if it is a whole one with no values inside it.
 fn skip_whole(bytes: &[u8]) -> Option<&[u8]>
     ensures { IfSome result (λ rest. HasScalar bytes.now rest.now) }
 {
@@ -87,7 +87,7 @@ fn skip_whole(bytes: &[u8]) -> Option<&[u8]>
     }
 }
 
-/// Passes over the values of one byte at the front of the bytes, `most` at most, and tells how many there are.
+/// Skips the values of one byte at the front of the bytes, at most `most`, and returns the number of them.
 fn skip_bare(bytes: &[u8], most: usize) -> (usize, &[u8])
     ensures most { result.0 ≤ most }
     ensures values { HasBare result.0 bytes.now result.1.now }
@@ -109,14 +109,14 @@ fn skip_bare(bytes: &[u8], most: usize) -> (usize, &[u8])
     (count, rest)
 }
 
-/// Whether a byte is a whole value: null, undefined or unsupported.
+/// Tells whether a byte is a whole value: null, undefined or unsupported.
 fn is_bare(byte: u8) -> bool
     ensures { result ≡ is_bare_byte byte }
 {
     byte == 0x05 || byte == 0x06 || byte == 0x0D
 }
 
-/// Passes over the value at the front of the bytes, the quick way where it has no values inside it.
+/// Skips the value at the front of the bytes, the quick way if it has no values inside it.
 #[cycle(skip)]
 fn skip_one(bytes: &[u8], outer: u32) -> Result<&[u8], Stop>
     requires { outer ≤ 32 }
@@ -128,8 +128,8 @@ fn skip_one(bytes: &[u8], outer: u32) -> Result<&[u8], Stop>
     }
 }
 
-/// Passes over some of the values at the front of the bytes, of which there are to be `most`, and tells how many: all of one byte
-/// up to one that is longer, or that one.
+/// Skips some of the values at the front of the bytes, of which there are to be `most`, and returns their
+/// number. It skips all values of one byte up to a longer one, or else the longer one.
 #[cycle(skip)]
 fn skip_some(bytes: &[u8], most: usize, outer: u32) -> Result<(usize, &[u8]), Stop>
     requires outer { outer ≤ 32 }
@@ -144,7 +144,7 @@ fn skip_some(bytes: &[u8], most: usize, outer: u32) -> Result<(usize, &[u8]), St
     Ok((1, rest))
 }
 
-/// Passes over the value at the front of the bytes, inside `outer` open containers.
+/// Skips the value at the front of the bytes, inside `outer` open containers.
 #[cycle(skip)]
 pub fn skip(bytes: &[u8], outer: u32) -> Result<&[u8], Stop>
     requires { outer ≤ 32 }
@@ -172,7 +172,7 @@ pub fn skip(bytes: &[u8], outer: u32) -> Result<&[u8], Stop>
     }
 }
 
-/// Passes over what stands behind the marker of a container.
+/// Skips the content behind the marker of a container.
 #[cycle(skip)]
 fn skip_container(marker: Container, body: &[u8], outer: u32) -> Result<&[u8], Stop>
     requires { outer < 32 }
@@ -204,8 +204,7 @@ fn skip_container(marker: Container, body: &[u8], outer: u32) -> Result<&[u8], S
     }
 }
 
-/// What stands where a key may stand: the end of the pairs, or a key where it stands, and the bytes
-/// behind it.
+/// The content at a place for a key: the end of the pairs, or a key without a copy, and the bytes behind it.
 enum At<'a> {
     End(&'a [u8]),
     Key(&'a [u8], &'a [u8]),
@@ -232,7 +231,7 @@ fn key_at(bytes: &[u8]) -> Result<At, Stop>
     Ok(At::End(after))
 }
 
-/// Passes over keys and their values up to the end of the pairs.
+/// Skips keys and their values up to the end of the pairs.
 #[cycle(skip)]
 fn skip_pairs(bytes: &[u8], outer: u32) -> Result<&[u8], Stop>
     requires { outer ≤ 32 }
@@ -250,7 +249,7 @@ fn skip_pairs(bytes: &[u8], outer: u32) -> Result<&[u8], Stop>
     }
 }
 
-/// Passes over that many values.
+/// Skips `total` values.
 #[cycle(skip)]
 fn skip_values(total: u32, bytes: &[u8], outer: u32) -> Result<&[u8], Stop>
     requires { outer ≤ 32 }
@@ -266,7 +265,7 @@ fn skip_values(total: u32, bytes: &[u8], outer: u32) -> Result<&[u8], Stop>
     Ok(rest)
 }
 
-/// Passes over values up to the end of the bytes.
+/// Skips values up to the end of the bytes.
 pub fn skip_all(bytes: &[u8]) -> Result<(), Stop>
     ensures { Gives (λ _. HasAll bytes.now) (Left (StopsAll bytes.now)) result }
 {
@@ -278,7 +277,7 @@ pub fn skip_all(bytes: &[u8]) -> Result<(), Stop>
     Ok(())
 }
 
-/// Reads the value at the front of the bytes, of which only a number, a boolean or a text is kept.
+/// Reads the value at the front of the bytes. It keeps only a number, a boolean or a text.
 pub fn glance(alloc: Global, bytes: &[u8], outer: u32) -> Result<(Brief, &[u8]), Stop>
     requires { outer ≤ 32 }
     ensures { Gives (λ x. HasBrief outer bytes.now x.0 x.1.now) (Left (Stops outer bytes.now)) result }
@@ -295,7 +294,7 @@ pub fn glance(alloc: Global, bytes: &[u8], outer: u32) -> Result<(Brief, &[u8]),
     Ok((in_brief(found), rest))
 }
 
-/// What is kept of a value.
+/// Returns the part of a value that is kept.
 fn in_brief(value: Amf) -> Brief
     ensures { result ≡ brief_of (tree value) }
 {
@@ -309,8 +308,8 @@ fn in_brief(value: Amf) -> Brief
     }
 }
 
-/// Reads the value at the front of the bytes. Where it is an object, the first pair of that key is
-/// kept, in brief; all else is passed over.
+/// Reads the value at the front of the bytes. If it is an object, the first pair of that key is kept, in
+/// brief; all else is skipped.
 pub fn pair<'a>(
     alloc: Global,
     bytes: &'a [u8],
@@ -330,7 +329,7 @@ pub fn pair<'a>(
     Ok((Some(found), rest))
 }
 
-/// Passes over the pairs of an outermost object, and keeps the first of that key, in brief.
+/// Skips the pairs of an outermost object, and keeps the first pair of that key, in brief.
 fn first_pair<'a>(
     alloc: Global,
     bytes: &'a [u8],
@@ -352,8 +351,8 @@ fn first_pair<'a>(
     }
 }
 
-/// Reads the value of a key, and keeps it, in brief, where nothing is kept yet and the key is the one
-/// that is looked for.
+/// Reads the value of a key. It keeps the value, in brief, if nothing is kept yet and the key is the
+/// requested one.
 fn pair_value(
     alloc: Global,
     kept: Option<Brief>,

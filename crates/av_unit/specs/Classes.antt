@@ -1,6 +1,6 @@
--- What a message is as a unit. The message types are those of RTMP 1.0: 8 for audio (7.1.4), 9 for video (7.1.5), 18
--- for data in AMF0 (7.1.2). Sections by E are those of Adobe's FLV 10.1, whose tags have these bodies. Which messages are
--- published is this project's own choice.
+-- What a message is as a unit. The message types are those of RTMP 1.0: 8 for audio (7.1.4), 9 for video
+-- (7.1.5), 18 for data in AMF0 (7.1.2). Sections by E are those of Adobe's FLV 10.1, whose tags have these
+-- bodies. Which messages are published is this project's own choice.
 use Rattle.std.specs.Prelude.{◌≡◌, ℕ, Bool, true, false, ◌==◌, ◌&&◌, ◌||◌, nat_le, nat_lt, nat_eq, if◌then◌else◌, List, [], ◌∷◌, length, drop, codes, Option, Some, None, option_map, ◌/◌, ◌%◌}
 use Rattle.std.specs.Io.{StartsWith}
 use Rattle.std.specs.List.{starts_with}
@@ -37,8 +37,8 @@ amf_text text = 2 ∷ 0 ∷ length text ∷ text
 abbrev pub begins_with_text : List ℕ → List ℕ → Bool
 begins_with_text text body = starts_with nat_eq body (amf_text text)
 
--- the kind of a picture of frame type 1 to 4: a key frame, an inter frame, a disposable inter frame, a generated key frame.
--- What a publisher calls disposable isn't believed.
+-- the kind of a picture of frame type 1 to 4: a key frame, an inter frame, a disposable inter frame, a
+-- generated key frame. What a publisher calls disposable isn't believed.
 abbrev pub picture : ℕ → Kind
 picture frame = if (frame == 1) || (frame == 4) then Key else Inter
 

@@ -1,5 +1,5 @@
--- Pictures that no other picture needs, by the NAL units of an AVC body. Sections are those of H.264 (ISO/IEC 14496-10),
--- those with 15 before them of ISO/IEC 14496-15.
+-- Pictures that no other picture needs, by the NAL units of an AVC body. Sections are those of H.264 (ISO/IEC
+-- 14496-10), those with 15 before them of ISO/IEC 14496-15.
 use Rattle.std.specs.Prelude.{ℕ, zero, suc, ◌+◌, ◌*◌, ◌/◌, ◌%◌, Bool, true, false, not, ◌==◌, ◌&&◌, ◌||◌, nat_le, if◌then◌else◌, List, [], ◌∷◌, length, drop, Option, Some, None, option_map}
 use Rattle.std.specs.List.{list_any}
 
@@ -7,8 +7,8 @@ use Rattle.std.specs.List.{list_any}
 abbrev pub size_or_none : ℕ → ℕ
 size_or_none size = if size == 3 then 0 else size
 
--- How many bytes the lengths of units have by a configuration record of version 1, which begins at byte 5 of its body: the low
--- two bits of its fifth byte, plus 1 (15, 5.2.4.1). It is 0 where the body isn't so.
+-- How many bytes the lengths of units have by a configuration record of version 1, which begins at byte 5 of
+-- its body: the low two bits of its fifth byte, plus 1 (15, 5.2.4.1). It is 0 where the body isn't so.
 abbrev pub length_size : List ℕ → ℕ
 length_size (_ ∷ _ ∷ _ ∷ _ ∷ _ ∷ version ∷ _ ∷ _ ∷ _ ∷ flags ∷ _) = if version == 1 then size_or_none (flags % 4 + 1) else 0
 length_size _ = 0
@@ -59,7 +59,8 @@ firsts_in (suc most) size (x ∷ xs) = before_firsts (unit_front size (x ∷ xs)
 unfoldable pub firsts_of : ℕ → List ℕ → Option (List ℕ)
 firsts_of size b = firsts_in (length b) size b
 
--- whether a unit with that first byte is a slice of a picture: its type, the low five bits, is 1 to 5 (7.3.1, table 7-1)
+-- whether a unit with that first byte is a slice of a picture: its type, the low five bits, is 1 to 5 (7.3.1,
+-- table 7-1)
 abbrev pub is_slice : ℕ → Bool
 is_slice first = nat_le 1 (first % 32) && nat_le (first % 32) 5
 

@@ -29,8 +29,8 @@ meta = amf_text (codes "onMetaData")
 abbrev pub set_meta : List ℕ
 set_meta = amf_text (codes "@setDataFrame") ++ meta
 
--- units of H.264 behind their lengths of four bytes: supplemental information, a slice that no picture refers to, and one that
--- pictures refer to (7.3.1: nal_ref_idc 1)
+-- units of H.264 behind their lengths of four bytes: supplemental information, a slice that no picture refers
+-- to, and one that pictures refer to (7.3.1: nal_ref_idc 1)
 abbrev pub other : List ℕ
 other = 0 ∷ 0 ∷ 0 ∷ 2 ∷ 6 ∷ 5 ∷ []
 

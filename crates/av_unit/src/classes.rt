@@ -24,16 +24,18 @@ const SET_DATA_FRAME: &[u8; 16] = b"\x02\x00\x0d@setDataFrame";
 
 const ON_META_DATA: &[u8; 13] = b"\x02\x00\x0aonMetaData";
 
-/// The class of a message: what kind of unit its body is, and where in the body the unit begins.
+/// Classifies a message: the kind of unit that its body is, and the place in the body at which the unit
+/// begins.
 ///
-/// `message_kind` is the RTMP message type. The body is that of an FLV tag (Adobe FLV 10.1, E.4.2.1
-/// for type 8, E.4.3.1 for type 9, E.4.4 for type 18). `None` means that the message isn't
-/// published. That is so for every other type, for an empty body, for a video body of frame type
-/// 0 or 5 and above, for an AVC body that is neither a sequence header nor NAL units, and for a
-/// configuration of more than 65,536 bytes.
+/// `message_kind` is the RTMP message type. The body is that of an FLV tag (Adobe FLV 10.1, E.4.2.1 for type
+/// 8, E.4.3.1 for type 9, E.4.4 for type 18). `None` means that the message isn't published. It is the answer
+/// for every other type, for an empty body and for a video body of frame type 0 or 5 and above. It is also
+/// the answer for an AVC body that is neither a sequence header nor NAL units, and for a configuration of
+/// more than 65,536 bytes.
 ///
-/// `size` is how many bytes the lengths of an AVC body's NAL units have (`length_size`): by these an inter
-/// frame that no other picture needs is told apart, a `Spare`. There is none where `size` isn't 1, 2 or 4.
+/// `size` is the number of bytes of each length before an AVC body's NAL units (`length_size`). By these
+/// units an inter frame that no other frame needs is known: it is a `Spare`. No frame is a `Spare` if `size`
+/// isn't 1, 2 or 4.
 #[tactic(auto, unfolding(crate::specs::Classes::class_of))]
 pub fn class(message_kind: u8, body: &[u8], size: u8) -> Option<Class>
     ensures value { result ≡ class_of message_kind body.now size }
@@ -41,11 +43,11 @@ pub fn class(message_kind: u8, body: &[u8], size: u8) -> Option<Class>
     ensures others { message_kind ≢ 8 → message_kind ≢ 9 → message_kind ≢ 18 → IsNone result }
     ensures no_size { size ≡ 0 → IfSome result (λ c. c.kind ≢ Kind.Spare) }
 
-    // Sixteen bytes stand before the unit exactly where they are the text `@setDataFrame` of data.
+    // Sixteen bytes stand before the unit exactly if they are the text `@setDataFrame` of data.
     ensures place { IfSome result (λ c. (c.from ≡ 0) ⊎ (c.from ≡ 16)) }
     ensures text { IfSome result (λ c. (c.from ≡ 16) ↔ SetsData message_kind body.now) }
 
-    // The unit has a byte at least, and no more than one of its kind may have.
+    // The unit has at least one byte, and at most the number that its kind allows.
     ensures inside { IfSome result (λ c. c.from < length body.now) }
     ensures config { IfSome result (λ c. IsTrue (is_config c.kind) → length body.now ≤ c.from + 65536) }
     ensures fits { length body.now ≤ 4194304 → IfSome result (λ c. Fits c.kind (drop c.from body.now)) }
@@ -60,8 +62,9 @@ pub fn class(message_kind: u8, body: &[u8], size: u8) -> Option<Class>
     })
 }
 
-/// The unit that a message is, at a time in milliseconds, with lengths of NAL units of `size` bytes; `None`
-/// exactly where the message has no class. It takes no memory: the unit keeps the body that was handed in.
+/// Makes the unit of a message, at a time in milliseconds, with lengths of NAL units of `size` bytes. It is
+/// `None` exactly if the message has no class. It takes no memory: the unit keeps the body that was handed
+/// in.
 #[tactic(auto, unfolding(crate::specs::Classes::unit_from))]
 pub fn unit_of(message_kind: u8, time: u32, body: Bytes, size: u8) -> Option<Unit>
     requires { length body ≤ 4194304 }
@@ -82,7 +85,7 @@ pub fn unit_of(message_kind: u8, time: u32, body: Bytes, size: u8) -> Option<Uni
     })
 }
 
-/// The RTMP message type in which units of a kind are sent: 8 for audio, 9 for video, 18 for data.
+/// Returns the RTMP message type in which units of a kind are sent: 8 for audio, 9 for video, 18 for data.
 pub fn message_kind(kind: Kind) -> u8
     ensures { result ≡ message_type kind }
 {
@@ -111,7 +114,7 @@ pub fn class_examples()
     ensures command { class_of 20 meta 4 ≡ nothing }
 {}
 
-// The class by the table, in which no picture is disposable.
+// Classifies by the table alone, in which no frame is disposable.
 #[tactic(auto, unfolding(crate::specs::Classes::table_class))]
 fn table_class(message_kind: u8, body: &[u8]) -> Option<Class>
     ensures value { result ≡ table_class message_kind body.now }
@@ -134,7 +137,7 @@ fn table_class(message_kind: u8, body: &[u8]) -> Option<Class>
     Some(Class { kind, from })
 }
 
-// What stands behind the first bytes.
+// Returns the bytes after the first `count`.
 fn after(bytes: &[u8], count: usize) -> &[u8]
     requires { count ≤ length bytes.now }
     ensures { result.now ≡ drop count bytes.now }
@@ -142,7 +145,7 @@ fn after(bytes: &[u8], count: usize) -> &[u8]
     &bytes[count..]
 }
 
-// Whether it is a configuration of more bytes than one may have.
+// Tells whether the body is a configuration of more bytes than allowed.
 #[tactic(auto, using(std::proofs::lemmas::Bool::Decides::nat_tests))]
 fn is_too_long(kind: Kind, body: &[u8]) -> bool
     ensures { result ≡ (is_config kind && nat_lt 65536 (length body.now)) }
@@ -150,7 +153,7 @@ fn is_too_long(kind: Kind, body: &[u8]) -> bool
     kind.is_config() && body.len() > 65_536
 }
 
-// How many bytes stand before the unit.
+// Returns the number of bytes before the unit.
 fn front(message_kind: u8, body: &[u8]) -> usize
     ensures value { result ≡ from_of message_kind body.now }
     ensures place { (result ≡ 0) ⊎ (result ≡ 16) }
@@ -164,7 +167,8 @@ fn front(message_kind: u8, body: &[u8]) -> usize
     }
 }
 
-// The kind by what no other picture needs: of an AVC body, by its units with lengths of `size` bytes.
+// Makes an inter frame that no other frame needs a `Spare`. An AVC body tells it by its units with lengths of
+// `size` bytes; every other kind stays as it is.
 fn finer(kind: Kind, body: &[u8], size: u8) -> Kind
     ensures value { result ≡ finer size body.now kind }
     ensures type_of_kind { message_type result ≡ message_type kind }
@@ -178,7 +182,7 @@ fn finer(kind: Kind, body: &[u8], size: u8) -> Kind
     }
 }
 
-// Whether a video body's CodecID is AVC.
+// Tells whether a video body's CodecID is AVC.
 fn is_avc(body: &[u8]) -> bool
     ensures { result ≡ (low body.now == 7) }
 {

@@ -1,13 +1,14 @@
-// Pictures that no other picture needs. Sections are those of H.264 (ISO/IEC 14496-10), those with 15 before them of
-// ISO/IEC 14496-15.
+// Frames that no other frame needs. Sections are those of H.264 (ISO/IEC 14496-10), those with 15 before them
+// of ISO/IEC 14496-15.
 ghost use Rattle.std.specs.Prelude.{◌≡◌, ◌⊎◌, ◌<◌, length, option_map, false, IfSome, [], ◌∷◌, ◌++◌};
 ghost use Rattle.av_unit.specs.declared.unit.Kind.{Kind};
 ghost use Rattle.av_unit.specs.Classes.{class_of};
 ghost use Rattle.av_unit.specs.Examples.{unit_at, avc, other, slice, needed_slice};
 ghost use Rattle.av_unit.specs.Disposable.{length_size, size_or_none, one_byte, two_bytes, four_bytes, length_at, unit_front, is_slice, is_needed, firsts_of, spares, is_end, is_disposable};
 
-/// How many bytes the lengths of NAL units have in AVC bodies by this one, which is a sequence header (15, 5.2.4.1,
-/// `lengthSizeMinusOne`): 1, 2 or 4. It is 0 where the body isn't one of version 1 with such a length.
+/// Reads an AVC sequence header's body: the size of the lengths before NAL units in the AVC bodies that it
+/// sets up (15, 5.2.4.1, `lengthSizeMinusOne`). The size is 1, 2 or 4 bytes, or 0 if the body isn't one of
+/// version 1 with such a length.
 pub fn length_size(body: &[u8]) -> u8
     ensures value { result ≡ length_size body.now }
     ensures sizes { (result ≡ 0) ⊎ (result ≡ 1) ⊎ (result ≡ 2) ⊎ (result ≡ 4) }
@@ -18,8 +19,8 @@ pub fn length_size(body: &[u8]) -> u8
     }
 }
 
-/// Worked examples of disposable frames, on the definitions themselves: bodies of AVC with slices that other pictures refer
-/// to, slices that none refers to, and other units.
+/// Worked examples of disposable frames, on the definitions themselves. The bodies are AVC: slices that other
+/// frames refer to, slices that no frame refers to, and other units.
 #[tactic(auto, unfolding(crate::specs::Classes::class_of, crate::specs::Classes::table_class, crate::specs::Disposable::is_disposable, crate::specs::Disposable::firsts_of, crate::specs::Disposable::firsts_in, crate::specs::Disposable::unit_front))]
 pub fn disposable_examples()
     ensures spare { class_of 9 (avc 2 1 ++ slice) 4 ≡ unit_at Kind.Spare 0 }
@@ -35,7 +36,8 @@ pub fn disposable_examples()
     ensures unknown_lengths { class_of 9 (avc 2 1 ++ slice) 0 ≡ unit_at Kind.Inter 0 }
 {}
 
-// Whether no other picture needs that of an AVC body, whose units begin at byte 5 and have lengths of `size` bytes.
+// Tells whether no other frame needs that of an AVC body. Its units begin at byte 5 and have lengths of
+// `size` bytes.
 #[tactic(auto, using(crate::proofs::Spared::no_size), unfolding(crate::specs::Disposable::is_disposable))]
 pub(crate) fn is_disposable(body: &[u8], size: u8) -> bool
     ensures value { result ≡ is_disposable size body.now }
@@ -47,7 +49,7 @@ pub(crate) fn is_disposable(body: &[u8], size: u8) -> bool
     }
 }
 
-// There is a slice, no slice is needed, and the bytes are units up to the end.
+// Tells whether there is a slice, no slice is needed, and the bytes are units up to the end.
 fn are_spared(units: &[u8], size: u8) -> bool
     ensures { result ≡ spares (firsts_of size units.now) }
 {
@@ -80,7 +82,7 @@ fn size_or_none(size: u8) -> u8
     if size == 3 { 0 } else { size }
 }
 
-// The first byte of the unit that stands at the front behind its length, and what is behind that unit.
+// Splits off the unit at the front: its first byte, and the bytes behind it.
 #[tactic(auto, using(std::proofs::lemmas::Bool::Decides::nat_tests), unfolding(crate::specs::Disposable::unit_front))]
 fn unit_front(bytes: &[u8], size: u8) -> Option<(u8, &[u8])>
     ensures value { option_map (λ p. (p.0, p.1.now)) result ≡ unit_front size bytes.now }
@@ -93,7 +95,7 @@ fn unit_front(bytes: &[u8], size: u8) -> Option<(u8, &[u8])>
     }
 }
 
-// The length at the front, and what is behind it (15, 5.3.4.2).
+// Reads the length at the front, and returns the bytes behind it too (15, 5.3.4.2).
 #[tactic(auto, using(std::proofs::lemmas::Bool::Decides::nat_tests))]
 fn length_in(bytes: &[u8], size: u8) -> Option<(usize, &[u8])>
     ensures value { option_map (λ p. (p.0, p.1.now)) result ≡ length_at size bytes.now }
@@ -140,7 +142,7 @@ fn four_bytes(bytes: &[u8]) -> Option<(usize, &[u8])>
     }
 }
 
-// Whether a unit with that first byte is a slice of a picture.
+// Tells whether a unit with that first byte is a slice of a picture.
 #[tactic(auto, using(std::proofs::lemmas::Bool::Decides::nat_tests))]
 fn is_slice(first: u8) -> bool
     ensures { result ≡ is_slice first }
@@ -149,7 +151,7 @@ fn is_slice(first: u8) -> bool
     1 <= kind && kind <= 5
 }
 
-// Whether it is one to which other pictures may refer (`nal_ref_idc`).
+// Tells whether it is a slice to which other pictures may refer (`nal_ref_idc`).
 #[tactic(auto, using(std::proofs::lemmas::Bool::Decides::nat_tests))]
 fn is_needed(first: u8) -> bool
     ensures { result ≡ is_needed first }

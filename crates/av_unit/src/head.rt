@@ -1,23 +1,23 @@
 use crate::Kind;
 
-/// The configurations of a stream, of which one each is in effect at a time: its metadata, the
-/// video decoder's and the audio decoder's.
-#[derive(Clone, Copy, Debug, PartialEq, Eq)]
+/// The configurations of a stream, of which one each is in effect at a time: its metadata, the video
+/// decoder's and the audio decoder's.
+#[derive(Clone, Copy)]
 pub enum Slot {
     Meta,
     Video,
     Audio,
 }
 
-/// A player's switches: whether it wants sound and whether it wants pictures.
-#[derive(Clone, Copy, Debug, PartialEq, Eq)]
+/// A player's switches: whether it wants audio and whether it wants video.
+#[derive(Clone, Copy, Debug)]
 pub struct Want {
     pub audio: bool,
     pub video: bool,
 }
 
-/// What an item is, without its unit: a marker, or a unit of a kind.
-#[derive(Clone, Copy, Debug, PartialEq, Eq)]
+/// An item without its unit: a marker, or the kind of a unit.
+#[derive(Clone, Copy, PartialEq, Eq)]
 pub enum Head {
     Begin,
     End,

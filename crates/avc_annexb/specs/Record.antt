@@ -69,8 +69,9 @@ then_sets_of b (Err e) = Err e
 unfoldable pub record_of : List ℕ → Result Config AvcFail
 record_of b = then_sets_of b (size_read b)
 
--- THE BYTES of a record that has this configuration: configurationVersion, profile, compatibility, level, lengthSizeMinusOne, how
--- many sequence parameter sets, and they, and the same of picture parameter sets. What follows isn't read
+-- THE BYTES of a record that has this configuration: configurationVersion, profile, compatibility, level,
+-- lengthSizeMinusOne, how many sequence parameter sets, and they, and the same of picture parameter sets.
+-- What follows isn't read
 pub record IsRecord (c : Config) (b : List ℕ) : Type 0 where
   pub profile : ℕ
   pub compatibility : ℕ

@@ -16,7 +16,7 @@ fn put_started(unit: &[u8], out: &mut Bytes) -> Result<(), OutOfMemory>
     out.append(unit)
 }
 
-/// Appends a unit so, but nothing for an access unit delimiter.
+/// Appends a unit behind a zero byte and a start code, but nothing for an access unit delimiter.
 pub(crate) fn put_unless_delimiter(unit: &[u8], out: &mut Bytes) -> Result<(), OutOfMemory>
     ensures ok { OnOk result (out.new ≡ out.old ++ annexb (but_delimiters (unit.now ∷ []))) }
     ensures left { OnErr result ((more : List ℕ) × (out.new ≡ out.old ++ more)) }
@@ -27,8 +27,8 @@ pub(crate) fn put_unless_delimiter(unit: &[u8], out: &mut Bytes) -> Result<(), O
     }
 }
 
-/// Appends units as a byte stream: each behind `00 00 00 01` (ISO/IEC 14496-10, B.1.1). A refusal leaves what `out` held
-/// as the beginning of what it holds.
+/// Appends units as a byte stream: each behind `00 00 00 01` (ISO/IEC 14496-10, B.1.1). After a refusal,
+/// `out` begins with the bytes that it held before.
 pub fn to_annexb(list: &NalList, out: &mut Bytes) -> Result<(), OutOfMemory>
     ensures ok { OnOk result (out.new ≡ out.old ++ annexb list.now) }
     ensures left { OnErr result ((more : List ℕ) × (out.new ≡ out.old ++ more)) }

@@ -10,9 +10,9 @@ use av_unit::Bytes;
 use std::alloc::Global;
 use std::marker::Model;
 
-/// What a configuration record tells of a stream of pictures: how many bytes the length before a unit has, 1, 2 or 4, and
-/// the sequence and picture parameter sets.
-#[derive(Debug, Drop)]
+/// The content of a decoder's configuration record: the sequence and picture parameter sets, and `size`.
+/// `size` is the number of bytes of the length before a unit, 1, 2 or 4.
+#[derive(Drop)]
 pub struct Avcc {
     pub size: u8,
     pub sps: NalList,
@@ -29,8 +29,8 @@ impl Model for Avcc {
     ghost invariant = { λ a. IsConfig (record { size = a.size; sps = a.sps; pps = a.pps }) };
 }
 
-/// The length size in a record whose sets follow: the version, the length size and the count of sequence parameter sets
-/// are there.
+/// Reads the length size in a record. The version, the length size and the number of sequence parameter sets
+/// must be there.
 #[tactic(auto, using(std::proofs::lemmas::Bool::Decides::nat_tests), unfolding(crate::specs::Record::size_read))]
 fn length_size(body: &[u8]) -> Result<u8, AvcFail>
     ensures value { result ≡ size_read body.now }
@@ -53,7 +53,8 @@ fn length_size(body: &[u8]) -> Result<u8, AvcFail>
     Ok(size)
 }
 
-/// So many parameter sets, and what is behind them, in a record of `total` bytes in which `nal` sets stand before.
+/// Reads `count` parameter sets, and returns the bytes behind them too. The record has `total` bytes, and
+/// `nal` sets stand before these.
 fn sets(
     alloc: Global,
     count: u8,
@@ -89,11 +90,11 @@ fn read_record(alloc: Global, body: &[u8]) -> Result<Avcc, AvcFail>
 }
 
 impl Avcc {
-    /// Reads a configuration record. What stands behind the picture parameter sets isn't read, nor are profile,
-    /// compatibility and level.
+    /// Reads a configuration record. It reads neither the bytes behind the picture parameter sets, nor
+    /// profile, compatibility and level.
     ///
-    /// Refusals are `Short`, `LengthSize`, `EmptyNal` and `Dirty`, and want of memory; picture parameter sets are numbered
-    /// on after the sequence parameter sets.
+    /// Refusals are `Short`, `LengthSize`, `EmptyNal`, `Dirty` and `OutOfMemory`. The numbers of picture
+    /// parameter sets go on from those of the sequence parameter sets.
     pub fn read(alloc: Global, body: &[u8]) -> Result<Avcc, AvcFail>
         ensures exact { Gives result (record_of body.now) }
         ensures found { IfOk result (λ c. IsRecord c body.now) }

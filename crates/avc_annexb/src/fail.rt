@@ -5,9 +5,9 @@ use av_unit::OutOfMemory;
 use std::alloc::{AllocError, AllocFailed};
 use thiserror::Error;
 
-/// Why bytes were refused: the first cause that stands in them. Places count bytes from the start of what was given, and
+/// The first cause in bytes for which they were refused. Places count bytes from the start of the input, and
 /// units are numbered from 0; a place in a unit counts from its first byte.
-#[derive(Clone, Copy, Debug, Drop, PartialEq, Eq, Error)]
+#[derive(Clone, Copy, Debug, Drop, Error)]
 pub enum AvcFail {
     /// A configuration record has a version other than 1, at 0, or ends early, at its length.
     #[error("no configuration record: stopped at {at}")]

@@ -1,9 +1,9 @@
-//! AVC pictures as NAL units: with their lengths before them, as FLV carries them (ISO/IEC 14496-15, 5.3.4.2), with start
-//! codes before them, as a transport stream does (ISO/IEC 14496-10, annex B), and a decoder's configuration record
-//! (14496-15, 5.3.3.1).
+//! AVC video as NAL units, and a decoder's configuration record (ISO/IEC 14496-15, 5.3.3.1). In FLV each unit
+//! stands behind its length (14496-15, 5.3.4.2), in a transport stream behind a start code (ISO/IEC 14496-10,
+//! annex B).
 //!
-//! Read [`to_annexb`] first. Units behind lengths are `specs/Prefixed.antt`, with start codes `specs/AnnexB.antt`, the record is
-//! `specs/Record.antt`. It decodes no pictures.
+//! Read [`to_annexb`] first. Units behind lengths are defined in `specs/Prefixed.antt`, units behind start
+//! codes in `specs/AnnexB.antt`, and the record in `specs/Record.antt`. This crate decodes no video.
 #![tactic(auto)]
 
 mod annexb;

@@ -4,9 +4,9 @@ ghost use Rattle.avc_annexb.specs.Nal.{AreNals};
 use av_unit::Bytes;
 use std::marker::Model;
 
-/// NAL units, in order. Each has a byte at least, and none has a start code in it or ends in a zero byte
+/// NAL units, in order. Each has at least one byte, and none has a start code in it or ends in a zero byte
 /// (ISO/IEC 14496-10, 7.4.1). Contracts see them as the list of their bytes.
-#[derive(Debug, Drop)]
+#[derive(Drop)]
 pub struct NalList {
     list: Vec<Bytes>,
 }
@@ -23,7 +23,7 @@ impl Model for NalList {
 }
 
 impl NalList {
-    /// The list of a `Vec`'s units.
+    /// Makes the list of a `Vec`'s units.
     pub fn from_vec(list: Vec<Bytes>) -> NalList
         requires { AreNals list.items }
         ensures { result ≡ list.items }
@@ -31,7 +31,7 @@ impl NalList {
         NalList { list }
     }
 
-    /// Its units.
+    /// Returns its units as a slice.
     pub fn as_slice(&self) -> &[Bytes]
         ensures value { result.now ≡ self.now }
         ensures units { AreNals self.now }
@@ -39,21 +39,21 @@ impl NalList {
         &self.list
     }
 
-    /// How many units it has.
+    /// Returns the number of its units.
     pub fn len(&self) -> usize
         ensures { result ≡ length self.now }
     {
         self.list.len()
     }
 
-    /// Whether it has no unit.
+    /// Tells whether it has no unit.
     pub fn is_empty(&self) -> bool
         ensures { IsTrue result ↔ (self.now ≡ []) }
     {
         self.list.is_empty()
     }
 
-    /// Its units as a `Vec`.
+    /// Returns its units as a `Vec`.
     pub fn into_vec(self) -> Vec<Bytes>
         ensures value { result.items ≡ self }
         ensures units { AreNals self }

@@ -1,11 +1,11 @@
-//! One NAL unit: whether its bytes may be one.
+//! One NAL unit: the test whether its bytes may be one.
 ghost use Rattle.std.specs.Prelude.{◌≡◌, ◌<◌, ◌≤◌, ◌-◌, length, drop, IfSome};
 ghost use Rattle.avc_annexb.specs.Nal.{is_triple, triple_in, further, dirty_in, verdict, refusal_of};
 
 use crate::AvcFail;
 use memchr::memchr;
 
-/// What stands behind the first bytes.
+/// Returns the bytes after the first `count`.
 pub(crate) fn after(bytes: &[u8], count: usize) -> &[u8]
     requires { count ≤ length bytes.now }
     ensures { result.now ≡ drop count bytes.now }
@@ -13,7 +13,7 @@ pub(crate) fn after(bytes: &[u8], count: usize) -> &[u8]
     &bytes[count..]
 }
 
-/// What stands from the first zero byte on, if there is one.
+/// Returns the bytes from the first zero byte on, or none if there is no zero byte.
 fn from_zero(bytes: &[u8]) -> &[u8]
     ensures within { length result.now ≤ length bytes.now }
     ensures place { further (length bytes.now - length result.now) (triple_in result.now) ≡ triple_in bytes.now }
@@ -24,7 +24,7 @@ fn from_zero(bytes: &[u8]) -> &[u8]
     }
 }
 
-/// Whether three bytes that no unit has stand at the front: 00 00, and one of at most 2.
+/// Tells whether three bytes that no unit has stand at the front: 00 00, and a byte of at most 2.
 #[tactic(auto, using(std::proofs::lemmas::Bool::Decides::nat_tests))]
 fn begins_triple(bytes: &[u8]) -> bool
     ensures { result ≡ is_triple bytes.now }
@@ -35,7 +35,7 @@ fn begins_triple(bytes: &[u8]) -> bool
     }
 }
 
-/// The place of the first three bytes that no unit has: 00 00, and one of at most 2.
+/// Finds the place of the first three bytes that no unit has: 00 00, and a byte of at most 2.
 pub fn first_triple(bytes: &[u8]) -> Option<usize>
     ensures value { result ≡ triple_in bytes.now }
     ensures within { IfSome result (λ at. at < length bytes.now) }
@@ -50,7 +50,7 @@ pub fn first_triple(bytes: &[u8]) -> Option<usize>
     None
 }
 
-/// The place at which bytes can't be a unit's.
+/// Finds the place at which bytes can't be a unit's.
 #[tactic(auto, using(std::proofs::lemmas::Bool::Decides::nat_tests), unfolding(crate::specs::Nal::dirty_in))]
 fn first_dirty(bytes: &[u8]) -> Option<usize>
     ensures { result ≡ dirty_in bytes.now }
@@ -64,7 +64,7 @@ fn first_dirty(bytes: &[u8]) -> Option<usize>
     }
 }
 
-/// Refuses bytes that can't be the unit of this number.
+/// Refuses bytes that can't be a unit, with `nal` as the number of the unit.
 #[tactic(auto, unfolding(crate::specs::Nal::verdict))]
 pub(crate) fn checked(nal: usize, bytes: &[u8]) -> Result<(), AvcFail>
     ensures { refusal_of result ≡ verdict nal bytes.now }

@@ -10,7 +10,7 @@ use av_unit::Bytes;
 use relay_base::{be16, be32};
 use std::alloc::Global;
 
-/// The length at the front, where its bytes are there.
+/// Reads the length at the front. Its bytes must be there.
 #[tactic(auto, using(std::proofs::lemmas::Bool::Decides::nat_tests), unfolding(crate::specs::Prefixed::length_at))]
 fn length_in(bytes: &[u8], size: u8) -> usize
     requires size { IsSize size }
@@ -24,7 +24,7 @@ fn length_in(bytes: &[u8], size: u8) -> usize
     }
 }
 
-/// The unit at the front, behind its length, and what is behind both, where all of it is there.
+/// Returns the unit at the front, behind its length, and the bytes behind both, if the whole unit is there.
 #[tactic(auto, using(std::proofs::lemmas::Bool::Decides::nat_tests), unfolding(crate::specs::Prefixed::unit_at))]
 fn unit_in(bytes: &[u8], size: u8) -> Option<(&[u8], &[u8])>
     requires { IsSize size }
@@ -41,8 +41,8 @@ fn unit_in(bytes: &[u8], size: u8) -> Option<(&[u8], &[u8])>
     Some(bytes[from..].split_at(len))
 }
 
-/// The unit at the front and what is behind it, or why it is refused as the unit of this number: `missing` where it isn't
-/// all there.
+/// Returns the unit at the front and the bytes behind it, or refuses it as the unit of number `nal`. The
+/// refusal is `missing` if the unit isn't whole.
 #[tactic(auto, unfolding(crate::specs::Prefixed::front_of))]
 pub(crate) fn front(
     bytes: &[u8],
@@ -60,9 +60,9 @@ pub(crate) fn front(
     Ok((unit, rest))
 }
 
-/// The NAL units that fill the bytes, each behind its length of `size` bytes, which is 1, 2 or 4.
+/// Reads the NAL units that fill the bytes, each behind its length of `size` bytes, which is 1, 2 or 4.
 ///
-/// Refusals are `PastEnd`, `EmptyNal` and `Dirty`, and want of memory.
+/// Refusals are `PastEnd`, `EmptyNal`, `Dirty` and `OutOfMemory`.
 pub fn nals(alloc: Global, bytes: &[u8], size: u8) -> Result<NalList, AvcFail>
     requires { IsSize size }
     ensures exact { Gives result (nals_of size bytes.now) }
@@ -80,10 +80,10 @@ pub fn nals(alloc: Global, bytes: &[u8], size: u8) -> Result<NalList, AvcFail>
     Ok(NalList::from_vec(list))
 }
 
-/// Appends the units that fill the bytes, each behind its length of `size` bytes, which is 1, 2 or 4: as a byte stream, but
-/// for access unit delimiters. A unit is copied once.
+/// Appends the units that fill the bytes as a byte stream, without access unit delimiters. Each stands behind
+/// its length of `size` bytes, which is 1, 2 or 4. A unit is copied once.
 ///
-/// Refusals are those of `nals`; one leaves what `out` held as the beginning of what it holds.
+/// Refusals are those of `nals`. After a refusal, `out` begins with the bytes that it held before.
 pub fn put_nals(bytes: &[u8], size: u8, out: &mut Bytes) -> Result<(), AvcFail>
     requires { IsSize size }
     ensures ok { OnOk result (behind out.old (kept_of size bytes.now) ≡ Ok out.new) }

@@ -9,7 +9,7 @@ use av_unit::Bytes;
 use relay_base::be32;
 use std::alloc::Global;
 
-/// Whether 00 00 00 01 stands at the front.
+/// Tells whether 00 00 00 01 stands at the front.
 fn begins(bytes: &[u8]) -> bool
     ensures { result ≡ is_start bytes.now }
 {
@@ -19,7 +19,7 @@ fn begins(bytes: &[u8]) -> bool
     be32(bytes) == 1
 }
 
-/// The place of the first 00 00 00 01.
+/// Finds the place of the first 00 00 00 01.
 fn first_start(bytes: &[u8]) -> Option<usize>
     ensures { result ≡ start_in bytes.now }
 {
@@ -36,7 +36,7 @@ fn first_start(bytes: &[u8]) -> Option<usize>
     None
 }
 
-/// Where the unit ends that begins with the bytes.
+/// Finds the end of the unit that begins with the bytes.
 #[tactic(auto, using(crate::proofs::Splits::end_within), unfolding(crate::specs::Split::end_in))]
 fn unit_end(bytes: &[u8]) -> usize
     ensures value { result ≡ end_in bytes.now }
@@ -48,7 +48,7 @@ fn unit_end(bytes: &[u8]) -> usize
     }
 }
 
-/// The unit behind 00 00 00 01 at the front, and what is behind it.
+/// Returns the unit behind 00 00 00 01 at the front, and the bytes behind it.
 #[tactic(auto, unfolding(crate::specs::Split::started_at))]
 fn started_unit(bytes: &[u8]) -> Option<(&[u8], &[u8])>
     ensures { option_map (λ p. (p.0.now, p.1.now)) result ≡ started_at bytes.now }
@@ -60,14 +60,15 @@ fn started_unit(bytes: &[u8]) -> Option<(&[u8], &[u8])>
     Some(rest.split_at(unit_end(rest)))
 }
 
-/// What stands behind the first four bytes.
+/// Returns the bytes after the first four.
 fn behind_start(bytes: &[u8]) -> &[u8]
     ensures { result.now ≡ drop 4 bytes.now }
 {
     &bytes[bytes.len().min(4)..]
 }
 
-/// The unit at the front and what is behind it, or why it is refused as the unit of this number at this place.
+/// Returns the unit at the front and the bytes behind it, or refuses it as the unit of number `nal` at place
+/// `at`.
 #[tactic(auto, unfolding(crate::specs::Split::started_front))]
 fn front_unit(bytes: &[u8], at: usize, nal: usize) -> Result<(&[u8], &[u8]), AvcFail>
     ensures { IsFront result (started_front at nal bytes.now) }
@@ -79,10 +80,10 @@ fn front_unit(bytes: &[u8], at: usize, nal: usize) -> Result<(&[u8], &[u8]), Avc
     Ok((unit, rest))
 }
 
-/// The NAL units of a byte stream in which each stands behind `00 00 00 01` (ISO/IEC 14496-10, B.1.1), as `to_annexb`
-/// writes it. A unit goes to the next `00 00 00 01` or to the end.
+/// Reads the NAL units of a byte stream as `to_annexb` writes it: each stands behind `00 00 00 01` (ISO/IEC
+/// 14496-10, B.1.1). A unit goes to the next `00 00 00 01` or to the end.
 ///
-/// Refusals are `NoStart`, `EmptyNal` and `Dirty`, and want of memory.
+/// Refusals are `NoStart`, `EmptyNal`, `Dirty` and `OutOfMemory`.
 pub fn split_annexb(alloc: Global, bytes: &[u8]) -> Result<NalList, AvcFail>
     ensures exact { Gives result (split_of bytes.now) }
     ensures found { IfOk result (λ units. bytes.now ≡ annexb units) }

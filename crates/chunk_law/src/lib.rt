@@ -1,4 +1,4 @@
-//! What is written as chunks is read back.
+//! Proves that messages written as chunks are read back.
 //!
 //! The law is [`what_is_written_is_read`]; its words are `specs/ReadBack.antt`. It has no code that runs.
 #![tactic(auto)]

@@ -12,7 +12,8 @@ use Rattle.chunk_reader.specs.Control.{next, bad_size}
 abbrev pub part_limit : ℕ → ℕ
 part_limit max = max + 65536
 
--- the bytes held of messages in progress after the bytes r of a chunk from s: a header that is whole drops what it drops
+-- the bytes held of messages in progress after the bytes r of a chunk from s: a header that is whole drops
+-- what it drops
 unfoldable pub held_bytes : State → List ℕ → ℕ
 held_bytes s r =
     if nat_le (header_size s r) (length r) then part_bytes (put (opened s r) s.kept) + (length r - header_size s r)

@@ -1,7 +1,8 @@
 use chunk_wire::ChunkStream;
 
-// The longest message, the chunk size, what is kept of each chunk stream, the bytes of the header that is being read,
-// the slot of the chunk whose payload is being read with the bytes that it still needs, and the bytes of all parts.
+// The fields of a reader. `max` is the longest message and `size` the chunk size; `slots` are the chunk
+// streams. `head` has the bytes of the header in progress. `place` is the slot of the chunk whose payload is
+// being read, `need` the bytes that it still needs, and `held` the bytes of all parts.
 #[derive(Drop)]
 pub struct Core {
     pub max: u32,

@@ -14,7 +14,7 @@ use relay_base::be32;
 use std::alloc::Global;
 use std::mem;
 
-// The message that a slot's part is, if it is whole.
+// Takes the message out of a slot's part, if it is whole.
 #[tactic(auto, using(std::proofs::lemmas::Bool::Decides::nat_tests))]
 fn take_whole(slot: &mut ChunkStream, alloc: Global) -> Option<Message>
     ensures message { result ≡ slot_message slot.old }
@@ -38,7 +38,7 @@ fn take_whole(slot: &mut ChunkStream, alloc: Global) -> Option<Message>
     })
 }
 
-// The message of the chunk in progress, which has ended.
+// Takes the message of the chunk in progress, which has ended.
 fn take_message(core: &mut Core, alloc: Global) -> Option<Message>
     requires place { core.old.place < vec_len core.old.slots }
     requires counted { core.old.held ≡ part_bytes core.old.slots.items }
@@ -70,7 +70,7 @@ fn drop_part(slots: &mut Vec<ChunkStream>, held: &mut u64, alloc: Global, id: u3
     }
 }
 
-// Does what a message says to the reader.
+// Applies a Set Chunk Size or an Abort to the reader.
 #[tactic(auto, using(std::proofs::lemmas::Bool::Decides::nat_tests), unfolding(crate::specs::Control::by_message, crate::specs::Control::refused_size))]
 fn control(core: &mut Core, alloc: Global, message: &Message) -> Result<(), ReadCause>
     requires counted { core.old.held ≡ part_bytes core.old.slots.items }
@@ -98,7 +98,7 @@ fn control(core: &mut Core, alloc: Global, message: &Message) -> Result<(), Read
     Ok(())
 }
 
-// Ends the chunk in progress: gives its message if that is whole, and does what the message says.
+// Ends the chunk in progress: returns its message if that is whole, and applies it to the reader.
 fn finish(core: &mut Core, alloc: Global) -> Result<Option<Message>, ReadCause>
     requires place { core.old.place < vec_len core.old.slots }
     requires counted { core.old.held ≡ part_bytes core.old.slots.items }

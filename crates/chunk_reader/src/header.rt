@@ -12,8 +12,8 @@ use crate::fields::Core;
 use chunk_wire::{Basic, ChunkStream, Head, Terms, read_basic, read_head};
 use relay_base::be32;
 
-// What a header says once it is whole: the id and its slot if it has one, what the slot keeps from now on, and whether
-// the part of a message in progress is dropped.
+// The result of a whole header: the id, its slot if it has one, and the terms that the slot keeps from now
+// on. `drops` tells whether the part of a message in progress is dropped.
 #[derive(Clone, Copy)]
 pub struct Opening {
     pub id: u32,
@@ -22,7 +22,7 @@ pub struct Opening {
     pub drops: bool,
 }
 
-// What is kept of an id: its slot, its last header and the length of its part.
+// The state of an id: its slot, the terms of its last header and the length of its part.
 #[derive(Clone, Copy)]
 struct Found {
     place: Option<usize>,
@@ -30,7 +30,7 @@ struct Found {
     part: usize,
 }
 
-// The slot of an id.
+// Finds the slot of an id.
 #[tactic(auto, unfolding(chunk_wire::specs::State::index_of))]
 pub fn slot_of(slots: &[ChunkStream], id: u32) -> Option<usize>
     ensures place { result ≡ index_of id slots.now }
@@ -69,7 +69,7 @@ fn find(slots: &[ChunkStream], id: u32) -> Found
     }
 }
 
-// Whether a chunk with this basic header is taken.
+// Tests whether a chunk with this basic header is taken.
 #[tactic(auto, using(std::proofs::lemmas::Bool::Decides::nat_tests))]
 fn admit(basic: Basic, place: Option<usize>, ids: usize) -> Result<(), ReadCause>
     ensures { MatchResult result (λ _. (is_some place || (nat_lt basic.format 2 && nat_lt ids 64)) ≡ true) (λ e. AdmitFails basic place ids e) }
@@ -87,7 +87,7 @@ fn admit(basic: Basic, place: Option<usize>, ids: usize) -> Result<(), ReadCause
     Ok(())
 }
 
-// What a slot keeps after a header.
+// Returns the terms that a slot keeps after a header.
 #[tactic(auto, using(std::proofs::lemmas::Bool::Decides::nat_tests), unfolding(chunk_wire::specs::Chunk::terms_by))]
 fn terms_after(terms: Terms, part: usize, head: Head, value: u32, extended: bool) -> Terms
     ensures { result ≡ terms_by terms part head value extended }
@@ -135,7 +135,7 @@ fn terms_after(terms: Terms, part: usize, head: Head, value: u32, extended: bool
     terms
 }
 
-// Whether four bytes of extended time follow.
+// Tells whether four bytes of extended time follow.
 #[tactic(auto, using(std::proofs::lemmas::Bool::Decides::nat_tests), unfolding(chunk_wire::specs::Chunk::is_extended))]
 fn extends(core: &Core, format: u8, head: Head, terms: Terms) -> bool
     requires format { format ≡ format_in core.now.head.items }
@@ -149,7 +149,7 @@ fn extends(core: &Core, format: u8, head: Head, terms: Terms) -> bool
     terms.extended
 }
 
-// The time or delta that a whole header has.
+// Returns the time or delta of a whole header.
 #[tactic(auto, unfolding(chunk_wire::specs::Chunk::value_in))]
 fn value(core: &Core, at: usize, head: Head, extended: bool) -> u32
     requires head { head ≡ head_fields core.now.head.items }
@@ -164,7 +164,7 @@ fn value(core: &Core, at: usize, head: Head, extended: bool) -> u32
     head.field
 }
 
-// The bytes of a header, with extended time or without.
+// Returns the number of bytes of a header, with extended time or without.
 fn whole_size(at: usize, extended: bool) -> usize
     requires { at < 2 ^ 32 }
     ensures { result ≡ at + (if extended then 4 else 0) }
@@ -172,7 +172,7 @@ fn whole_size(at: usize, extended: bool) -> usize
     if extended { at + 4 } else { at }
 }
 
-// The rest of a header whose message header ends at `at`.
+// Reads the rest of a header whose message header ends at `at`.
 fn after_head(
     core: &Core,
     basic: Basic,
@@ -210,7 +210,7 @@ fn after_head(
     }))
 }
 
-// The rest of a header whose basic header is whole.
+// Reads the rest of a header whose basic header is whole.
 fn after_basic(core: &Core, basic: Basic, size: usize) -> Result<Option<Opening>, ReadCause>
     requires { IsBasicAt core.now.head.items basic size }
     ensures { HeaderGives core.now.max (the_state core.now) core.now.head.items result }
@@ -223,7 +223,7 @@ fn after_basic(core: &Core, basic: Basic, size: usize) -> Result<Option<Opening>
     }
 }
 
-// The header that is being read, once it is whole.
+// Reads the header in progress, once it is whole.
 pub fn header(core: &Core) -> Result<Option<Opening>, ReadCause>
     ensures { HeaderGives core.now.max (the_state core.now) core.now.head.items result }
 {

@@ -13,19 +13,19 @@ pub fn one_reading()
         → Reads max b ms s q → Reads max b ns t r → SameReading ms ns s t q r }
 {}
 
-/// The first bytes of what is read are read too, as the first of its messages.
+/// A beginning of bytes that are read is read too, as the first of their messages.
 pub fn beginnings_are_read()
     ensures { (max : ℕ) (b : List ℕ) (n : ℕ) (ms : List (ℕ × Message)) (s : State) (r : List ℕ) → Reads max b ms s r → ReadsPart max b n ms }
 {}
 
-/// Where bytes more end a message, all but the last of them read as the messages before it.
+/// If further bytes end a message, all bytes but the last read as the messages before it.
 pub fn a_message_ends_with_its_last_byte()
     ensures { (max : ℕ) (a c : List ℕ) (ms : List (ℕ × Message)) (m : Message) (s t : State) (q r : List ℕ) → 0 < length c
         → Reads max a ms s q → Reads max (a ++ c) (ms ++ (length (a ++ c), m) ∷ []) t r
         → IsRead max (take (length (a ++ c) - 1) (a ++ c)) ms }
 {}
 
-/// Where a byte is refused, no list that begins with the bytes up to it and with it is read.
+/// If a byte is refused, no list that begins with the bytes up to it and with it is read.
 pub fn refused_bytes_are_not_read()
     ensures { (max : ℕ) (b more : List ℕ) (cause : ReadCause) (place : ℕ) (ms : List (ℕ × Message)) (s : State) (r : List ℕ)
         → Stops max b cause place → Reads max (take (place + 1) b ++ more) ms s r → ⊥ }
@@ -41,13 +41,13 @@ pub fn each_is_read_or_refused()
     ensures { (max : ℕ) (b : List ℕ) → IsReadOrRefused max b }
 {}
 
-/// What is refused stays refused, for the same cause and at the same place, whatever follows it.
+/// A refused list stays refused, for the same cause and at the same place, whatever follows it.
 pub fn refused_bytes_stay_refused()
     ensures stays { (max : ℕ) (b more : List ℕ) (cause : ReadCause) (place : ℕ) → Stops max b cause place → Stops max (b ++ more) cause place }
     ensures inside { (max : ℕ) (b : List ℕ) (cause : ReadCause) (place : ℕ) → Stops max b cause place → place < length b }
 {}
 
-/// No message that is read is longer than the longest.
+/// No message that is read is longer than the longest that the reader takes.
 pub fn messages_are_short()
     ensures { (max : ℕ) (b : List ℕ) (ms : List (ℕ × Message)) (s : State) (r : List ℕ) → Reads max b ms s r → AreShort max ms }
 {}

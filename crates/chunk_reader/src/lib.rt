@@ -2,8 +2,8 @@
 //!
 //! The section numbers are those of Adobe's RTMP 1.0.
 //!
-//! Read `Reader::feed` first. The messages of bytes are `reads` (`specs/Reads.antt`), the places of refusals `specs/Stops.antt`. It
-//! answers no control message, and it doesn't acknowledge.
+//! Read `Reader::feed` first. The messages of bytes are `reads` (`specs/Reads.antt`), the places of refusals
+//! are in `specs/Stops.antt`. This crate answers no control message, and it doesn't acknowledge.
 #![tactic(auto)]
 
 mod fail;

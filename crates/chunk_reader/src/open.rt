@@ -9,7 +9,7 @@ use av_unit::{Bytes, OutOfMemory};
 use chunk_wire::ChunkStream;
 use std::alloc::Global;
 
-// Puts what a header says into a slot.
+// Puts the result of a header into a slot.
 fn reopen(slot: &mut ChunkStream, held: &mut u64, alloc: Global, o: Opening)
     requires { length slot.old.part ≤ held.old }
     ensures slot { slot.new ≡ record { id = o.id; terms = o.terms; part = if o.drops then [] else slot.old.part } }
@@ -24,7 +24,7 @@ fn reopen(slot: &mut ChunkStream, held: &mut u64, alloc: Global, o: Opening)
     }
 }
 
-// Puts what a header says into the slot of its id, or into a new one, and answers its place.
+// Puts the result of a header into the slot of its id, or into a new one, and returns the slot's place.
 fn put_slot(
     slots: &mut Vec<ChunkStream>,
     held: &mut u64,
@@ -55,7 +55,7 @@ fn put_slot(
     }
 }
 
-// The payload bytes of the chunk whose slot this is.
+// Returns the number of payload bytes of the chunk with this slot.
 fn payload(size: u32, slot: &ChunkStream) -> u32
     ensures { result ≡ min size (slot.now.terms.length - length slot.now.part) }
 {
@@ -67,7 +67,7 @@ fn payload(size: u32, slot: &ChunkStream) -> u32
     size.min(length - part as u32)
 }
 
-// Begins what a whole header says.
+// Begins the chunk of a whole header.
 pub fn open(core: &mut Core, alloc: Global, o: Opening) -> Result<(), OutOfMemory>
     requires opening { IsOpening core.old.max (the_state core.old) core.old.head.items o }
     requires counted { core.old.held ≡ part_bytes core.old.slots.items }

@@ -11,8 +11,8 @@ use std::alloc::Global;
 use std::marker::Model;
 use std::snapshot::Snapshot;
 
-/// What a feed used of its piece, and the message that ends there.
-#[derive(Debug, PartialEq, Eq, Drop)]
+/// The result of a feed: the number of bytes that it used of its piece, and the message that ends there.
+#[derive(Drop)]
 pub struct Fed {
     pub used: usize,
     pub message: Option<Message>,
@@ -39,7 +39,7 @@ impl Model for Reader {
     ghost invariant = { λ r. IsSound r.core r.count r.failed r.fed r.given };
 }
 
-// The fields of a fresh reader.
+// Makes the fields of a fresh reader.
 fn fresh(alloc: Global, max_message: u32) -> Core
     ensures max { result.max ≡ max_message }
     ensures size { result.size ≡ 128 }
@@ -59,7 +59,7 @@ fn fresh(alloc: Global, max_message: u32) -> Core
     }
 }
 
-// Notes the message that so many bytes end.
+// Notes a message that ends after `end` bytes.
 fn note(given: &mut Flow<Pair<u64, Message>>, end: u64, message: &Option<Message>)
     ensures { given.new ≡ given.old ++ ended end message.now }
 {
@@ -70,8 +70,8 @@ fn note(given: &mut Flow<Pair<u64, Message>>, end: u64, message: &Option<Message
 }
 
 impl Reader {
-    /// A reader that takes messages of at most `max_message` bytes, and holds at most 65,536 bytes more of messages in
-    /// progress.
+    /// Makes a reader that takes messages of at most `max_message` bytes, and holds at most 65,536 bytes more
+    /// of messages in progress.
     pub fn new(alloc: Global, max_message: u32) -> Reader
         ensures { result ≡ record { max = max_message; fed = []; given = []; failed = None } }
     {
@@ -115,8 +115,8 @@ impl Reader {
         }
     }
 
-    /// Takes a piece up to its end, or to the end of the message that it completes, where Set Chunk Size and Abort
-    /// apply. A reader that refused a byte answers the same again.
+    /// Takes a piece up to its end, or to the end of the message that it completes. There Set Chunk Size and
+    /// Abort apply. A reader that refused a byte answers the same again.
     pub fn feed(&mut self, alloc: Global, piece: &[u8]) -> Result<Fed, ReadFail>
         ensures again { IfSome self.old.failed (λ e. (result ≡ Err e) × (self.new ≡ self.old)) }
         ensures ok { self.old.failed ≡ None → IfOk result (λ f. IsFedTo self.old piece.now f.used f.message self.new) }
@@ -148,8 +148,8 @@ impl Reader {
         })
     }
 
-    /// The bytes held of messages in progress, at most 65,536 more than the longest message has; none once the reader
-    /// has failed.
+    /// Returns the number of bytes held of messages in progress: at most 65,536 more than the longest message
+    /// has, and none once the reader has failed.
     pub fn held(&self) -> u64
         ensures lives { is_some self.now.failed ≡ false → IsHeld self.now result }
         ensures most { result ≤ part_limit self.now.max }

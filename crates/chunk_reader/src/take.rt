@@ -13,10 +13,10 @@ use av_unit::OutOfMemory;
 use chunk_wire::Message;
 use std::alloc::Global;
 
-// What parts may have above the longest message.
+// The number of bytes that parts may have above the longest message.
 const SPARE: u64 = 65_536;
 
-// Why a piece is refused, and how many of its bytes stand before the byte that decides it.
+// The cause for which a piece is refused, and the number of its bytes before the byte that decides it.
 #[derive(Clone, Copy)]
 pub struct Refusal {
     pub cause: ReadCause,
@@ -97,17 +97,17 @@ pub fn payload(core: &mut Core, alloc: Global, piece: &[u8]) -> Result<Option<Me
     }
 }
 
-// The byte that so many bytes stand before is refused.
+// A byte after this number of bytes is refused.
 const FAR: u64 = 1 << 62;
 
-// The bytes of a piece that were taken, and the message that they complete.
+// The number of bytes of a piece that were taken, and the message that they complete.
 #[derive(Drop)]
 pub struct Taken {
     pub used: usize,
     pub message: Option<Message>,
 }
 
-// Takes a byte of a header, or payload, of at most so many bytes.
+// Takes a byte of a header, or at most `most` bytes of payload.
 fn step(core: &mut Core, alloc: Global, piece: &[u8], most: usize) -> Result<Taken, Refusal>
     requires some { 0 < most }
     requires most { most ≤ length piece.now }
@@ -132,7 +132,7 @@ fn step(core: &mut Core, alloc: Global, piece: &[u8], most: usize) -> Result<Tak
     }
 }
 
-// Takes bytes of a piece, where so many stand before it.
+// Takes bytes of a piece that comes after `count` bytes.
 pub fn take_some(core: &mut Core, alloc: Global, piece: &[u8], count: u64) -> Result<Taken, Refusal>
     requires some { 0 < length piece.now }
     requires counted { core.old.held ≡ part_bytes core.old.slots.items }

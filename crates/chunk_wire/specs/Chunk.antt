@@ -34,8 +34,9 @@ header_size s b = basic_size b + head_size (format_in b) + (if is_extended s b t
 unfoldable pub value_in : State → List ℕ → ℕ
 value_in s b = if is_extended s b then be32_of (drop (basic_size b + head_size (format_in b)) b) else (head_fields b).field
 
--- what the id keeps after a header with a value v, where so many bytes of a message in progress are there: the table of formats (5.3.1.2.1 to 5.3.1.2.4). A
--- message in progress goes on by format 3 alone. Times add modulo 2^32.
+-- what the id keeps after a header with a value v, where so many bytes of a message in progress are there:
+-- the table of formats (5.3.1.2.1 to 5.3.1.2.4). A message in progress goes on by format 3 alone. Times add
+-- modulo 2^32.
 unfoldable pub terms_by : Terms → ℕ → Head → ℕ → Bool → Terms
 terms_by k part h v extended =
     if nat_eq h.format 0 then record { time = v; delta = v; length = h.length; kind = h.kind; stream = h.stream; extended = extended }

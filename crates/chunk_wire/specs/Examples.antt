@@ -13,8 +13,8 @@ head format id field len kind stream = record { format = format; id = id; field 
 abbrev pub message : ℕ → ℕ → ℕ → List ℕ → Message
 message kind stream time body = record { kind = kind; stream = stream; time = time; body = body }
 
--- an audio message of 200 bytes on chunk stream 4 at time 16,777,216: the header of its first chunk, with extended time,
--- and that of its second
+-- an audio message of 200 bytes on chunk stream 4 at time 16,777,216: the header of its first chunk, with
+-- extended time, and that of its second
 abbrev pub far_first : List ℕ
 far_first = 0x04 ∷ 0xFF ∷ 0xFF ∷ 0xFF ∷ 0 ∷ 0 ∷ 0xC8 ∷ 8 ∷ 1 ∷ 0 ∷ 0 ∷ 0 ∷ 1 ∷ 0 ∷ 0 ∷ 0 ∷ []
 

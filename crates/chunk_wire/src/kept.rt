@@ -1,8 +1,8 @@
 use av_unit::Bytes;
 
-/// What a chunk stream's last header said: time and delta in milliseconds, the message's length in bytes, its type
-/// and its message stream id, and whether extended time followed.
-#[derive(Clone, Copy, Debug, PartialEq, Eq)]
+/// The terms of a chunk stream's last header: time and delta in milliseconds, the message's length in bytes,
+/// its type and its message stream id. `extended` tells whether extended time followed.
+#[derive(Clone, Copy)]
 pub struct Terms {
     pub time: u32,
     pub delta: u32,
@@ -12,9 +12,9 @@ pub struct Terms {
     pub extended: bool,
 }
 
-/// What a reader keeps of a chunk stream: its id, what its last header said, and the bytes that came of the message
-/// in progress, none where no message is in progress.
-#[derive(Debug, Drop)]
+/// The state of a chunk stream in a reader: its id, the terms of its last header, and the bytes that came of
+/// the message in progress. There are none if no message is in progress.
+#[derive(Drop)]
 pub struct ChunkStream {
     pub id: u32,
     pub terms: Terms,

@@ -6,7 +6,7 @@ ghost use Rattle.chunk_wire.specs.Layout.{basic_of, head_of};
 ghost use Rattle.chunk_wire.specs.ReadBack.{IsHead, IsShortest, ReadsBack};
 ghost use Rattle.chunk_wire.specs.State.{fresh_state};
 
-/// What `write_head` writes is read back by `read_basic` and `read_head`, whatever follows it.
+/// The bytes that `write_head` writes are read back by `read_basic` and `read_head`, whatever follows them.
 pub fn heads_are_read_back()
     ensures { (h : Head) (rest : List ℕ) → IsHead h → ReadsBack h rest }
 {}

@@ -1,9 +1,10 @@
-//! The headers of RTMP chunks, what a chunk means, and the messages that chunks carry.
+//! The headers of RTMP chunks, the meaning of a chunk, and the messages that chunks carry.
 //!
 //! The section numbers are those of Adobe's RTMP 1.0.
 //!
-//! Read [`read_head`] first. What a chunk means between two states is `specs/Chunk.antt`, the layout of its bytes
-//! `specs/Layout.antt`. It keeps no message and no connection: the reader and the writer do.
+//! Read [`read_head`] first. The meaning of a chunk between two states is in `specs/Chunk.antt`, the layout
+//! of its bytes in `specs/Layout.antt`. This crate keeps no message and no connection: the reader and the
+//! writer do.
 #![tactic(auto)]
 
 mod headers;

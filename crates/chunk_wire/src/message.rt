@@ -1,7 +1,7 @@
 use av_unit::Bytes;
 
 /// An RTMP message: its type, its message stream id, its time in milliseconds and its body.
-#[derive(Debug, PartialEq, Eq, Drop)]
+#[derive(Drop)]
 pub struct Message {
     pub kind: u8,
     pub stream: u32,

@@ -4,7 +4,7 @@ ghost use Rattle.chunk_wire.specs.Layout.{basic_of, basic_size, id_in, head_of, 
 use crate::{Basic, Head};
 use relay_base::{be24, le32};
 
-// The number of bytes of the basic header that `b` begins with.
+// Returns the number of bytes of the basic header that `b` begins with.
 #[tactic(auto, using(std::proofs::lemmas::Bool::Decides::nat_tests), unfolding(crate::specs::Layout::basic_size))]
 fn size_of_basic(b: &[u8]) -> usize
     requires { 0 < length b.now }
@@ -20,7 +20,7 @@ fn size_of_basic(b: &[u8]) -> usize
     1
 }
 
-// The id in a basic header that is whole.
+// Returns the id in a whole basic header.
 #[tactic(auto, using(std::proofs::lemmas::Bool::Decides::nat_tests), unfolding(crate::specs::Layout::basic_size, crate::specs::Layout::id_in))]
 fn id_of_basic(b: &[u8]) -> u32
     requires some { 0 < length b.now }
@@ -37,8 +37,8 @@ fn id_of_basic(b: &[u8]) -> u32
     number as u32
 }
 
-/// The basic header that `b` begins with and the number of its bytes, 1 to 3 (5.3.1.1). None exactly where `b` ends
-/// before it.
+/// Reads the basic header that `b` begins with, and returns the number of its bytes too, 1 to 3 (5.3.1.1).
+/// `None` exactly if `b` ends before the header does.
 #[tactic(auto, using(crate::proofs::Sizes::basic_size_some))]
 pub fn read_basic(b: &[u8]) -> Option<(Basic, usize)>
     ensures exact { result ≡ basic_of b.now }
@@ -56,7 +56,7 @@ pub fn read_basic(b: &[u8]) -> Option<(Basic, usize)>
     Some((Basic { format, id }, size))
 }
 
-// The number of bytes of a message header.
+// Returns the number of bytes of a message header.
 #[tactic(auto, using(std::proofs::lemmas::Bool::Decides::nat_tests), unfolding(crate::specs::Layout::head_size))]
 fn size_of_head(format: u8) -> usize
     ensures { result ≡ head_size format }
@@ -73,7 +73,7 @@ fn size_of_head(format: u8) -> usize
     0
 }
 
-// The fields of a message header that is whole.
+// Reads the fields of a whole message header.
 #[tactic(auto, using(std::proofs::lemmas::Bool::Decides::nat_tests), unfolding(crate::specs::Layout::head_size, crate::specs::Layout::head_in))]
 fn fields(basic: Basic, b: &[u8]) -> Head
     requires { head_size basic.format ≤ length b.now }
@@ -101,8 +101,9 @@ fn fields(basic: Basic, b: &[u8]) -> Head
     head
 }
 
-/// The message header that `b` begins with, after a basic header, and the number of its bytes: 11, 7, 3 or 0 by its
-/// format (5.3.1.2). None exactly where `b` ends before it.
+/// Reads the message header that `b` begins with, after a basic header, and returns the number of its bytes
+/// too. It has 11, 7, 3 or 0 bytes by its format (5.3.1.2). `None` exactly if `b` ends before the header
+/// does.
 pub fn read_head(basic: Basic, b: &[u8]) -> Option<(Head, usize)>
     ensures exact { result ≡ head_of basic b.now }
     ensures parts { MatchOption result (length b.now < head_size basic.format) (λ p. IsHeadAt basic b.now p.0 p.1) }

@@ -49,8 +49,8 @@ fn write_fields(head: &Head, out: &mut Bytes) -> Result<(), OutOfMemory>
     Ok(())
 }
 
-/// Appends the chunk header: the basic header in the shortest form that holds the id, and the message header of its
-/// format. A refusal leaves what `out` held as the beginning of what it holds.
+/// Appends the chunk header: the basic header in the shortest form that holds the id, and the message header
+/// of its format. After a refusal, `out` begins with the bytes that it held before.
 pub fn write_head(head: &Head, out: &mut Bytes) -> Result<(), OutOfMemory>
     requires format { head.now.format < 4 }
     requires id_low { 2 ≤ head.now.id }

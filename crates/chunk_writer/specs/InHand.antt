@@ -3,7 +3,8 @@ use Rattle.std.specs.Prelude.{ℕ, ◌+◌, nat_lt, Bool, true, false, ◌||◌,
 use Rattle.chunk_writer.specs.declared.begun.Begun.{Begun}
 use Rattle.chunk_writer.specs.Written.{header_with, message_bytes, spread}
 
--- how it was begun, the chunk size then, how many bytes of its body stand in chunks, and whether no chunk is written yet
+-- how it was begun, the chunk size then, how many bytes of its body stand in chunks, and whether no chunk is
+-- written yet
 pub record InHand : Type 0 where
   pub begun : Begun
   pub size : ℕ

@@ -51,7 +51,7 @@ fn write_parts(format: u8, begun: &Begun, piece: &[u8], out: &mut Bytes) -> Resu
     out.append(piece)
 }
 
-/// Appends a chunk. Want of memory leaves `out` as it was.
+/// Appends a chunk. If memory is refused, `out` stays as it was.
 pub(crate) fn write_chunk(
     format: u8,
     begun: &Begun,
@@ -102,7 +102,7 @@ fn write_payload(
     out.append(left)
 }
 
-/// Appends the message. A refusal leaves what `out` held as the beginning of what it holds.
+/// Appends the message. After a refusal, `out` begins with the bytes that it held before.
 pub(crate) fn write_message(
     size: usize,
     begun: &Begun,

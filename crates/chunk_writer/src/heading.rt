@@ -1,6 +1,6 @@
-/// What the headers of a message say: its chunk stream, its type, its message stream id, its time in milliseconds and
-/// the length of its body in bytes (5.3.1.2).
-#[derive(Clone, Copy, Debug, PartialEq, Eq)]
+/// The content of a message's headers: its chunk stream, its type, its message stream id, its time in
+/// milliseconds and the length of its body in bytes (5.3.1.2).
+#[derive(Clone, Copy)]
 pub struct Heading {
     pub id: u32,
     pub kind: u8,

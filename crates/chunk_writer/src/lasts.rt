@@ -12,7 +12,7 @@ pub(crate) struct Found {
     pub last: Option<Begun>,
 }
 
-/// Looks for the last message on a chunk stream.
+/// Finds the last message on a chunk stream.
 pub(crate) fn find(lasts: &[Begun], id: u32) -> Found
     ensures last { result.last ≡ last_on id lasts.now }
     ensures place { IsPlaced result.place id lasts.now }

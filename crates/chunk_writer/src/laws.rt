@@ -15,13 +15,13 @@ pub fn writing_goes_on()
 
 /// The chunks of a message that is begun on the chunk stream of its type are the bytes that `put` writes.
 pub fn chunks_are_those_of_put()
-    // Before the first chunk all of them are left.
+    // Before the first chunk all chunks are left.
     ensures all { (w : WriterKnown) (m : Message) → left_of (in_hand w.size (begun_in w.said m)) m.body ≡ bytes_of w m }
 
-    // A chunk stands before what is left after it.
+    // A chunk stands before the chunks that are left after it.
     ensures more { (h : InHand) (body : List ℕ) → 1 ≤ h.size → (h.fresh ≡ true → h.sent ≡ 0) → has_more h body ≡ true
         → chunk_of h body ++ left_of (after_chunk h body) body ≡ left_of h body }
 
-    // And in the end nothing is left.
+    // In the end nothing is left.
     ensures none { (h : InHand) (body : List ℕ) → has_more h body ≡ false → left_of h body ≡ [] }
 {}

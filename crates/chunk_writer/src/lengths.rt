@@ -1,4 +1,4 @@
-//! How many bytes chunks have.
+//! The numbers of bytes of chunks.
 ghost use Rattle.std.specs.Prelude.{◌≡◌, ◌≤◌, ◌<◌, ◌^◌, ℕ, List, length};
 ghost use Rattle.chunk_wire.specs.declared.headers.Head.{Head};
 ghost use Rattle.chunk_wire.specs.Written.{basic_bytes, field_bytes};
@@ -6,7 +6,7 @@ ghost use Rattle.chunk_writer.specs.Written.{extended_bytes, header_with, messag
 
 use crate::Begun;
 
-// How many bytes a basic header has (5.3.1.1).
+// Returns the number of bytes of a basic header (5.3.1.1).
 #[tactic(auto, using(std::proofs::lemmas::Bool::Decides::nat_tests), unfolding(chunk_wire::specs::Written::basic_bytes))]
 fn basic_len(id: u32) -> usize
     ensures value { (format : ℕ) → length (basic_bytes format id) ≡ result }
@@ -19,7 +19,7 @@ fn basic_len(id: u32) -> usize
     }
 }
 
-// How many bytes a message header of this format has (5.3.1.2).
+// Returns the number of bytes of a message header of this format (5.3.1.2).
 #[tactic(auto, using(std::proofs::lemmas::Bool::Decides::nat_tests), unfolding(chunk_wire::specs::Written::field_bytes))]
 fn fields_len(format: u8) -> usize
     ensures value { (h : Head) → h.format ≡ format → length (field_bytes h) ≡ result }
@@ -34,7 +34,7 @@ fn fields_len(format: u8) -> usize
     }
 }
 
-// How many bytes the header of a chunk of the message has.
+// Returns the number of bytes of the header of a chunk of the message.
 #[tactic(auto, unfolding(crate::specs::Written::header_with, crate::specs::Written::extended_bytes))]
 pub(crate) fn header_len(format: u8, begun: &Begun) -> usize
     ensures value { length (header_with format begun.now) ≡ result }
@@ -45,7 +45,8 @@ pub(crate) fn header_len(format: u8, begun: &Begun) -> usize
     basic_len(begun.id) + fields_len(format) + extended
 }
 
-// How many bytes a payload has with the headers in it, where the chunk before has room for so many bytes.
+// Returns the number of bytes of a payload with the headers in it, if the chunk before has room for `room`
+// bytes.
 #[tactic(auto, using(crate::proofs::Counted::spread_by, std::proofs::lemmas::Grind::div_ceil_times))]
 pub(crate) fn spread_len(header: usize, size: usize, room: usize, len: usize) -> usize
     requires header { header ≤ 7 }
@@ -60,7 +61,7 @@ pub(crate) fn spread_len(header: usize, size: usize, room: usize, len: usize) ->
     len + (len - room).div_ceil(size) * header
 }
 
-/// How many bytes a message that is begun so has as chunks, with a body of so many bytes.
+/// Returns the number of bytes of a message as chunks, if it is begun so and its body has `len` bytes.
 pub(crate) fn message_len(begun: &Begun, size: usize, len: usize) -> usize
     requires size { 1 ≤ size }
     requires len { len < 2 ^ 24 }

@@ -2,8 +2,8 @@
 //!
 //! The section numbers are those of Adobe's RTMP 1.0.
 //!
-//! Read `Writer::begin` first. Which chunks a message becomes is `specs/Rule.antt`. It sends nothing, and it doesn't interleave two
-//! messages.
+//! Read `Writer::begin` first. The chunks of a message are defined in `specs/Rule.antt`. It sends nothing,
+//! and it doesn't interleave two messages.
 #![tactic(auto)]
 
 mod begun;

@@ -1,4 +1,4 @@
-//! How a message is begun.
+//! The beginning of a message.
 ghost use Rattle.std.specs.Prelude.{◌≡◌, ◌<◌, ◌≤◌, false};
 ghost use Rattle.chunk_writer.specs.Rule.{begun_after, begun_with, delta_after, format_after, id_for, is_alike, repeats, starts_anew};
 ghost use Rattle.chunk_writer.specs.Written.{IsBegun, IsHeading};
@@ -7,7 +7,8 @@ use crate::begun::EXTENDED;
 use crate::{Begun, Heading};
 use chunk_wire::Terms;
 
-// Types of message: the last of the control messages, and the others whose chunk streams aren't that of video.
+// Types of message: the last type of the control messages, and the others with a chunk stream apart from that
+// of video.
 const LAST_CONTROL: u8 = 6;
 
 const AUDIO: u8 = 8;
@@ -16,8 +17,8 @@ const DATA: u8 = 18;
 
 const COMMAND: u8 = 20;
 
-/// The chunk stream on which the messages of a type are written: 2 for control messages (types 1 to 6), 3 for commands
-/// (20), 5 for data (18), 6 for audio (8), and 7 for video (9) and any other.
+/// Returns the chunk stream on which the messages of a type are written. It is 2 for control messages (types
+/// 1 to 6), 3 for commands (20) and 5 for data (18). It is 6 for audio (8), and 7 for video (9) and any other.
 #[tactic(auto, using(std::proofs::lemmas::Bool::Decides::nat_tests), unfolding(crate::specs::Rule::id_for))]
 pub fn chunk_stream(kind: u8) -> u32
     ensures value { result ≡ id_for kind }
@@ -35,7 +36,7 @@ pub fn chunk_stream(kind: u8) -> u32
     }
 }
 
-// Whether a message has another message stream than the one before, or goes back in time.
+// Tells whether a message has another message stream than the one before, or goes back in time.
 #[tactic(auto, using(std::proofs::lemmas::Bool::Decides::nat_tests), unfolding(crate::specs::Rule::starts_anew))]
 fn begins_anew(last: &Terms, heading: &Heading) -> bool
     ensures value { result ≡ starts_anew last.now heading.now }
@@ -44,7 +45,7 @@ fn begins_anew(last: &Terms, heading: &Heading) -> bool
     heading.stream != last.stream || heading.time < last.time
 }
 
-// Whether a message has the length and type of the one before.
+// Tells whether a message has the length and type of the one before.
 #[tactic(auto, using(std::proofs::lemmas::Bool::Decides::nat_tests), unfolding(crate::specs::Rule::is_alike))]
 fn has_same_header(last: &Terms, heading: &Heading) -> bool
     ensures { result ≡ is_alike last.now heading.now }
@@ -52,7 +53,7 @@ fn has_same_header(last: &Terms, heading: &Heading) -> bool
     heading.length == last.length && heading.kind == last.kind
 }
 
-// Whether a message that comes after this delta may begin as the one before did.
+// Tells whether a message that comes after this delta may begin as the one before did.
 #[tactic(auto, using(std::proofs::lemmas::Bool::Decides::nat_tests), unfolding(crate::specs::Rule::repeats))]
 fn repeats_delta(last: &Begun, delta: u32) -> bool
     ensures { result ≡ repeats last.now delta }
@@ -60,7 +61,7 @@ fn repeats_delta(last: &Begun, delta: u32) -> bool
     last.format > 0 && delta == last.terms.delta && delta < EXTENDED
 }
 
-// How a message is begun in this format.
+// Makes the beginning of a message in this format.
 fn begun_in_format(format: u8, delta: u32, heading: &Heading) -> Begun
     requires format { format < 4 }
     requires heading { IsHeading heading.now }
@@ -81,7 +82,7 @@ fn begun_in_format(format: u8, delta: u32, heading: &Heading) -> Begun
     }
 }
 
-/// How a message is begun on its chunk stream after the last one there.
+/// Makes the beginning of a message on its chunk stream, after the last one there.
 #[tactic(auto, unfolding(crate::specs::Rule::format_after, crate::specs::Rule::delta_after))]
 pub(crate) fn begin(last: Option<Begun>, heading: &Heading) -> Begun
     requires heading { IsHeading heading.now }

@@ -9,7 +9,7 @@ use av_unit::{Bytes, OutOfMemory};
 use std::marker::Model;
 
 /// A message that is begun, and whose chunks are written one by one. It doesn't hold the message's body.
-#[derive(Debug, Drop)]
+#[derive(Drop)]
 pub struct Sending {
     begun: Begun,
     size: u32,
@@ -29,7 +29,7 @@ impl Model for Sending {
 }
 
 impl Sending {
-    /// Nothing of the message is written yet.
+    /// Makes a message of which nothing is written yet.
     pub(crate) fn new(size: u32, begun: Begun) -> Sending
         requires some { 1 ≤ size }
         requires begun { IsBegun begun }
@@ -43,7 +43,7 @@ impl Sending {
         }
     }
 
-    // Whether a chunk more is to be written.
+    // Tells whether a further chunk is to be written.
     #[tactic(auto, using(std::proofs::lemmas::Bool::Decides::nat_tests))]
     fn has_chunk(&self, body: &[u8]) -> bool
         ensures { result ≡ has_more self.now body.now }
@@ -51,7 +51,7 @@ impl Sending {
         self.fresh || (self.sent as usize) < body.len()
     }
 
-    // The format of the next chunk.
+    // Returns the format of the next chunk.
     fn format(&self) -> u8
         ensures value { result ≡ format_of self.now }
         ensures low { result < 4 }
@@ -59,7 +59,7 @@ impl Sending {
         if self.fresh { self.begun.format } else { 3 }
     }
 
-    // The bytes of the body that the next chunk has.
+    // Returns the bytes of the body that the next chunk has.
     fn payload<'a>(&self, body: &'a [u8]) -> &'a [u8]
         requires { length body.now ≡ self.now.begun.terms.length }
         ensures value { result.now ≡ payload_of self.now body.now }
@@ -69,7 +69,8 @@ impl Sending {
         &left[..left.len().min(self.size as usize)]
     }
 
-    /// How many bytes are left of the message with this body: those of the chunks that are to be written.
+    /// Returns the number of bytes that are left of the message with this body: those of the chunks still to
+    /// be written.
     pub fn left_len(&self, body: &[u8]) -> usize
         requires { length body.now ≡ self.now.begun.terms.length }
         ensures value { result ≡ length (left_of self.now body.now) }
@@ -83,8 +84,9 @@ impl Sending {
         spread_len(header_len(3, &self.begun), size, 0, left)
     }
 
-    /// Appends the next chunk of the message with this body, and answers whether there was one. All together the
-    /// chunks are the bytes that `put` writes. Want of memory changes neither the message nor `out`.
+    /// Appends the next chunk of the message with this body, and returns whether there was one. All together
+    /// the chunks are the bytes that `put` writes. If memory is refused, neither the message nor `out`
+    /// changes.
     #[tactic(auto, using(crate::proofs::Chunked::written_more, crate::proofs::Chunked::none_left))]
     pub fn next_chunk(&mut self, body: &[u8], out: &mut Bytes) -> Result<bool, OutOfMemory>
         requires { length body.now ≡ self.old.begun.terms.length }
@@ -92,7 +94,7 @@ impl Sending {
         ensures chunk { IfOk result (λ more. out.new ≡ out.old ++ (if more then chunk_of self.old body.now else [])) }
         ensures sending { IfOk result (λ more. self.new ≡ (if more then after_chunk self.old body.now else self.old)) }
 
-        // With what is left, what is written is the same before and after.
+        // The bytes written, followed by those left, are the same before and after.
         ensures left { IfOk result (λ _. out.new ++ left_of self.new body.now ≡ out.old ++ left_of self.old body.now) }
         ensures none { IfOk result (λ more. more ≡ false → left_of self.new body.now ≡ []) }
         ensures err { OnErr result ((self.new ≡ self.old) × (out.new ≡ out.old)) }

@@ -18,8 +18,8 @@ use std::marker::Model;
 // The type of a Set Chunk Size message (5.4.1).
 const SET_CHUNK_SIZE: u8 = 1;
 
-/// A writer of chunks. It keeps its chunk size and how the last message on each chunk stream was begun. By `put` these
-/// are five at most.
+/// A writer of chunks. It keeps its chunk size and the beginning of the last message on each chunk stream. By
+/// `put` there are at most five of these.
 #[derive(Drop)]
 pub struct Writer {
     size: u32,
@@ -39,7 +39,7 @@ impl Model for Writer {
 }
 
 impl Writer {
-    /// A writer whose chunks have 128 bytes of payload at most, and that has written nothing (5.4.1).
+    /// Makes a writer that has written nothing. Its chunks have at most 128 bytes of payload (5.4.1).
     pub fn new(alloc: Global) -> Writer
         ensures { result ≡ fresh }
     {
@@ -60,7 +60,7 @@ impl Writer {
         self.size = size;
     }
 
-    // Appends a message and keeps how it was begun.
+    // Appends a message and keeps its beginning.
     fn write(&mut self, heading: &Heading, body: &[u8], out: &mut Bytes) -> Result<(), OutOfMemory>
         requires heading { IsHeading heading.now }
         requires length { length body.now ≡ heading.now.length }
@@ -78,11 +78,12 @@ impl Writer {
 
     /// Appends a message of this type, message stream, time in milliseconds and body as chunks (5.3.1).
     ///
-    /// Its chunk stream is that of `chunk_stream`. It begins with format 0 where it is the first on its chunk stream,
-    /// where its message stream is another than that of the message before there, or where its time is less; else with
-    /// format 1 where its length or type is another; else with format 3 where the one before didn't begin with format
-    /// 0 and came after the same delta, below 0xFFFFFF; else with format 2. Further chunks have format 3. Want of
-    /// memory changes neither the writer nor `out`.
+    /// Its chunk stream is that of `chunk_stream`. It begins with format 0 if it is the first there, if its
+    /// message stream isn't that of the message before there, or if its time is less. Else it begins with
+    /// format 1 if its length or type is another. Else it begins with format 3 if the one before didn't begin
+    /// with format 0 and came after the same delta, below 0xFFFFFF. Else it begins with format 2.
+    ///
+    /// Further chunks have format 3. If memory is refused, neither the writer nor `out` changes.
     #[tactic(auto, unfolding(crate::specs::Written::bytes_of))]
     pub fn put(
         &mut self,
@@ -115,8 +116,8 @@ impl Writer {
         }
     }
 
-    /// Appends a message, and writes what comes after a Set Chunk Size message in chunks of the size that it says
-    /// (5.4.1). Want of memory changes neither the writer nor `out`.
+    /// Appends a message. If it is a Set Chunk Size message, the messages after it are written in chunks of
+    /// its size (5.4.1). If memory is refused, neither the writer nor `out` changes.
     #[tactic(auto, using(std::proofs::lemmas::Bool::Decides::nat_tests), unfolding(crate::specs::Written::resized_by))]
     pub fn put_message(&mut self, message: &Message, out: &mut Bytes) -> Result<(), OutOfMemory>
         requires { IsWritable message.now }
@@ -139,9 +140,9 @@ impl Writer {
         Ok(())
     }
 
-    /// Begins a message whose chunks are written one by one, on a chunk stream from 2 to 65,599: its type, its message
-    /// stream, its time in milliseconds, and the length of its body in bytes. It begins as by `put`, and its chunks
-    /// have the size of now. Want of memory changes nothing.
+    /// Begins a message whose chunks are written one by one, on a chunk stream from 2 to 65,599. Its header
+    /// has its type, its message stream, its time in milliseconds, and the length of its body in bytes. It
+    /// begins as by `put`, and its chunks have the present chunk size. If memory is refused, nothing changes.
     pub fn begin(
         &mut self,
         id: u32,

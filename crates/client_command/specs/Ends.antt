@@ -4,8 +4,8 @@ use Rattle.relay_base.specs.declared.limits.Status.{Status}
 use Rattle.rtmp_client.specs.declared.end.ClientEnd.{ClientEnd}
 use Rattle.rtmp_client.specs.declared.end.ClientEnd.TheVariants as end
 
--- how the stream ends: it was pushed or pulled whole, the client ends before, the film is refused there, its source or the sink
--- fails, or memory is refused
+-- how the stream ends: it was pushed or pulled whole, the client ends before, the film is refused there, its
+-- source or the sink fails, or memory is refused
 pub data How : Type 0 where
   Whole : How
   ByClient : ClientEnd → How

@@ -27,8 +27,8 @@ abbrev pub AreFriendly : List (ℕ × Message) → Type 0
 AreFriendly [] = Unit {0}
 AreFriendly (m ∷ ms) = (refused 0 m.1 ≡ None) × AreFriendly ms
 
--- A CLIENT WAS FED the bytes y, which read as the messages ms and end no client, of those that the link gave; it was given T and
--- told these gifts, and what the link took is what it owes for them, but for these bytes more
+-- A CLIENT WAS FED the bytes y, which read as the messages ms and end no client, of those that the link gave;
+-- it was given T and told these gifts, and what the link took is what it owes for them, but for these bytes more
 pub record HasRun (k : Asked) (y rest : List ℕ) (ms : List (ℕ × Message)) (T : List Gave) (gifts : List Gift) (more : List ℕ) (old new : Option LinkTold) : Type 0 where
   pub took : List ℕ
   pub passed : Passed (y ++ rest) took old new

@@ -33,7 +33,7 @@ impl Ahead {
         }
     }
 
-    /// Bytes came, where none were left.
+    /// Receives bytes, if none were left.
     pub fn receive(&mut self, alloc: Global, bytes: &[u8]) -> Result<(), OutOfMemory>
         ensures ok { OnOk result (self.new ≡ bytes.now) }
         ensures err { OnErr result (self.new ≡ self.old) }
@@ -62,7 +62,7 @@ impl Ahead {
         &self.bytes.as_slice()[self.offset..]
     }
 
-    /// The first of them were read. Where none are left nothing is kept.
+    /// Drops the first `count` bytes, which were read. If none are left nothing is kept.
     pub fn used(&mut self, alloc: Global, count: usize)
         requires { count ≤ length self.old }
         ensures { self.new ≡ drop count self.old }

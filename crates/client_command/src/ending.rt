@@ -8,9 +8,9 @@ use relay_base::Status;
 use rtmp_client::ClientEnd;
 use std::alloc::Global;
 
-/// How a command ended: its status, and the code by which the server refused the client. There are no bytes where it didn't, or
-/// told none.
-#[derive(Debug, PartialEq, Eq, Drop)]
+/// The ending of a command: its status, and the code by which the server refused the client. There are no
+/// bytes if it didn't refuse, or told no code.
+#[derive(Drop)]
 pub struct Ended {
     pub status: Status,
     pub refusal: Bytes,
@@ -68,7 +68,7 @@ fn by_end(alloc: Global, end: &Option<ClientEnd>) -> Result<Ended, OutOfMemory>
     }
 }
 
-/// How a command ended, by what it came to and how its client ended.
+/// Returns the ending of a command, by its outcome and its client's ending.
 pub(crate) fn tell_end(alloc: Global, end: &Option<ClientEnd>, run: Result<(), Stop>) -> Ended
     ensures { Tells (how_of run end.now) result ⊎ (IsRefusal (how_of run end.now) × Tells ByMemory result) }
 {

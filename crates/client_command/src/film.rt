@@ -76,7 +76,7 @@ fn ask_past<S: Source>(film: &Film, piece: &mut [u8], input: &mut S) -> Result<b
     }
 }
 
-// Asks for bytes, where none are left. Whether some came.
+// Asks for bytes, if none are left. Returns whether some came.
 fn more<S: Source>(alloc: Global, film: &mut Film, input: &mut S) -> Result<bool, Stop>
     requires reading { IsReading film.old }
     requires none { film.old.ahead ≡ [] }
@@ -139,7 +139,7 @@ pub fn bytes_read(film: &Film) -> u64
     film.came - film.ahead.left().len() as u64
 }
 
-/// The next tag of a film, of which at most 2^36 bytes are read. None where it was read to its end.
+/// Returns the next tag of a film, of which at most 2^36 bytes are read. None if it was read to its end.
 pub fn next<S: Source>(alloc: Global, film: &mut Film, input: &mut S) -> Result<Option<Tag>, Stop>
     requires reading { IsReading film.old }
     ensures fine { IfOk result (MayGo film.new) }

@@ -1,4 +1,4 @@
-//! What a client that plays is told, as FLV.
+//! The gifts of a client that plays, as FLV.
 ghost use Rattle.std.specs.Prelude.{◌≡◌, ◌++◌, ◌∷◌, [], ℕ, List, IfOk, MatchResult};
 ghost use Rattle.std.specs.declared.option.Option.{Option};
 ghost use Rattle.std.specs.Io.KnownBytes.{append_known};
@@ -27,7 +27,7 @@ pub fn is_last(gift: &Gift) -> bool
     }
 }
 
-// The header, where none was written.
+// Returns the header, if none was written.
 fn begin(alloc: Global, begun: bool) -> Result<Bytes, OutOfMemory>
     ensures { IfOk result (λ text. text ≡ gift_head begun) }
 {
@@ -39,7 +39,7 @@ fn begin(alloc: Global, begun: bool) -> Result<Bytes, OutOfMemory>
     Ok(text)
 }
 
-// The bytes of a gift, behind the header where none was written.
+// Returns the bytes of a gift, behind the header if none was written.
 fn text_of(alloc: Global, begun: bool, gift: &Gift) -> Result<Bytes, OutOfMemory>
     requires { IsFine gift.now }
     ensures { IfOk result (λ text. text ≡ gift_text begun gift.now) }
@@ -55,7 +55,7 @@ fn text_of(alloc: Global, begun: bool, gift: &Gift) -> Result<Bytes, OutOfMemory
     }
 }
 
-/// Writes a gift behind those before, of which there are some where it is begun.
+/// Writes a gift behind those before, of which there are some if it is begun.
 pub fn write_gift<K: Sink>(alloc: Global, begun: bool, gift: &Gift, out: &mut K) -> Result<(), Stop>
     requires { IsFine gift.now }
     ensures text { (gifts : List Gift) (held : Option (List ℕ)) → begun ≡ has_some gifts → K.holds out.old ≡ append_known held (pull_text gifts)

@@ -1,22 +1,25 @@
-//! The commands at the other end of a connection: [`push`] publishes a film of FLV at an RTMP server, and [`pull`] plays a stream
-//! of one and writes it as FLV.
+//! The commands at the other end of a connection: [`push`] publishes a film of FLV at an RTMP server, and
+//! [`pull`] plays a stream of one and writes it as FLV.
 //!
-//! Each takes turns of a client over a link until it ends, and may wait. How it ended is told by the exit code of its status:
+//! Each takes turns of a client over a link until it ends, and may wait. How it ended is told by the exit
+//! code of its status:
 //!
 //! | Code | Comes |
 //! |---|---|
 //! | 0 | the film was read to its end and all of it was sent; or the stream was played up to its end |
-//! | 2 | exactly where the words are others; nothing is read or sent |
-//! | 3 | `push`: only where the source's faults rose |
+//! | 2 | exactly if the words are others; nothing is read or sent |
+//! | 3 | `push`: only if the source's faults rose |
 //! | 4 | `push`: the film is refused at the byte `place` |
-//! | 5 | `pull`: only where the sink's faults rose |
+//! | 5 | `pull`: only if the sink's faults rose |
 //! | 6 | for want of memory |
-//! | 10 | only where the link's ends rose: the server closed the connection |
-//! | 11 | only where the link's faults rose |
+//! | 10 | only if the link's ends rose: the server closed the connection |
+//! | 11 | only if the link's faults rose |
 //! | 12 | the server's bytes are no RTMP at the byte `place` |
-//! | 13 | the server refused what was asked for |
+//! | 13 | the server refused the request |
 //!
 //! `place` is 0 but for codes 4 and 12.
+//!
+//! Read [`push`] first. The crate opens no connection: each command is handed a link.
 #![tactic(auto)]
 
 mod ahead;

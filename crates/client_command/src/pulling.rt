@@ -17,7 +17,7 @@ use crate::stop::{Step, Stop};
 use crate::turning::{taken, turn_once};
 use crate::words::target_of;
 use client_owed::Wish;
-use relay_outside::{Link, Rest, Sink};
+use relay_outside::{Link, News, Rest, Sink};
 use rtmp_client::{Client, ClientTurn};
 use std::alloc::Global;
 use std::sync::Wait;
@@ -80,6 +80,14 @@ fn step<L: Link, K: Sink>(
     }
 }
 
+// Tells the link that its server plays the stream, if nothing of the stream has come: the server may be silent
+// until a broadcast begins.
+fn tell_waiting<L: Link>(client: &Client, begun: bool, link: &L) {
+    if client.started() && !begun {
+        link.tell(News::Plays, b"", b"");
+    }
+}
+
 // Turns of the client until its stream is over.
 fn pull_all<W: Wait, L: Link, R: Rest, K: Sink>(
     rt: &W,
@@ -99,7 +107,10 @@ fn pull_all<W: Wait, L: Link, R: Rest, K: Sink>(
     for _ in rt.forever() {
         match step(alloc, client, &mut begun, link, out) {
             Ok(Step::Moved) => rest.moved(),
-            Ok(Step::Idle) => rest.pause(),
+            Ok(Step::Idle) => {
+                tell_waiting(client, begun, link);
+                rest.pause();
+            }
             Ok(Step::Over) => return Ok(()),
             Err(stop) => return Err(stop),
         }
@@ -131,21 +142,22 @@ fn pull_stream<W: Wait, L: Link, R: Rest, K: Sink>(
     }
 }
 
-/// Plays a stream of an RTMP server, and writes it as FLV (annex E of Adobe's FLV 10.1) up to its end, each tag as it comes.
+/// Plays a stream of an RTMP server, and writes it as FLV (annex E of Adobe's FLV 10.1) up to its end, each
+/// tag as it comes.
 ///
-/// The words are `pull ADDRESS APP NAME`, where APP and NAME have 1 to 255 bytes and a key may stand in NAME behind `?`; whom the
-/// address names, is the caller's affair. It may wait, and rests after each turn in which nothing moved. The answer's code tells
-/// how it ended:
+/// The words are `pull ADDRESS APP NAME`. APP and NAME have 1 to 255 bytes, and a key may stand in NAME
+/// behind `?`. The server that the address names is the caller's affair. It may wait, and rests after each
+/// turn in which nothing moved. The answer's code tells how it ended:
 ///
 /// | Code | Comes | Written |
 /// |---|---|---|
 /// | 0 | the stream is over | the header and all tags of the stream since the server said that it plays |
-/// | 2 | exactly where the words are others; nothing is sent | nothing |
-/// | 5 | only where the sink's faults rose | a first part of the header and the tags that came |
+/// | 2 | exactly if the words are others; nothing is sent | nothing |
+/// | 5 | only if the sink's faults rose | a first part of the header and the tags that came |
 /// | 6 | for want of memory | the same |
-/// | 10 | only where the link's ends rose | the header and the tags that came; nothing where none of a stream was told |
-/// | 11 | only where the link's faults rose | the same |
-/// | 12 | what came is no RTMP at the byte `place` | the same |
+/// | 10 | only if the link's ends rose | the header and the tags that came; nothing if none of a stream was told |
+/// | 11 | only if the link's faults rose | the same |
+/// | 12 | the bytes that came are no RTMP at the byte `place` | the same |
 /// | 13 | the server refused, with the code that the answer tells | the same |
 ///
 /// `place` is 0 but for code 12.

@@ -77,7 +77,7 @@ fn give_next<S: Source>(
     }
 }
 
-// A turn of the client, which is given the next tag where nothing else is to be done.
+// Takes a turn of the client, which is given the next tag if nothing else is to be done.
 fn step<S: Source, L: Link>(
     alloc: Global,
     client: &mut Client,
@@ -205,23 +205,24 @@ fn push_stream<W: Wait, S: Source, L: Link, R: Rest>(
     }
 }
 
-/// Publishes a film of FLV (annex E of Adobe's FLV 10.1) at an RTMP server, each tag as it is read, so the film's source gives
-/// the pace.
+/// Publishes a film of FLV (annex E of Adobe's FLV 10.1) at an RTMP server. Each tag is sent as it is read,
+/// so the film's source gives the pace.
 ///
-/// The words are `push ADDRESS APP NAME`, where APP and NAME have 1 to 255 bytes and a key may stand in NAME behind `?`; whom the
-/// address names, is the caller's affair. It may wait, and rests after each turn in which nothing moved. The film is asked for
-/// more only where nothing is to be sent and the server has nothing more to say. The answer's code tells how it ended:
+/// The words are `push ADDRESS APP NAME`. APP and NAME have 1 to 255 bytes, and a key may stand in NAME
+/// behind `?`. The server that the address names is the caller's affair. It may wait, and rests after each
+/// turn in which nothing moved. The film is asked for more only if nothing is to be sent and the server has
+/// nothing more to say. The answer's code tells how it ended:
 ///
 /// | Code | Comes | The link took |
 /// |---|---|---|
 /// | 0 | the film was read to its end | all that the client owes: its tags, and that no more will come |
-/// | 2 | exactly where the words are others; nothing is read | nothing |
-/// | 3 | only where the source's faults rose | all that the client owes of the tags that were read |
-/// | 4 | the film is refused at `place`: at that of [`flv_tags::FlvFail`], or at 2^36 where it has more bytes | the same |
+/// | 2 | exactly if the words are others; nothing is read | nothing |
+/// | 3 | only if the source's faults rose | all that the client owes of the tags that were read |
+/// | 4 | the film is refused at `place`: at that of [`flv_tags::FlvFail`], or at 2^36 if it has more bytes | the same |
 /// | 6 | for want of memory | a first part of that |
-/// | 10 | only where the link's ends rose | the same |
-/// | 11 | only where the link's faults rose | the same |
-/// | 12 | what came is no RTMP at the byte `place` | the same |
+/// | 10 | only if the link's ends rose | the same |
+/// | 11 | only if the link's faults rose | the same |
+/// | 12 | the bytes that came are no RTMP at the byte `place` | the same |
 /// | 13 | the server refused, with the code that the answer tells | the same |
 ///
 /// `place` is 0 but for codes 4 and 12.

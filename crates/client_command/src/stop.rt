@@ -6,8 +6,8 @@ use av_unit::OutOfMemory;
 use flv_tags::FlvFail;
 use thiserror::Error;
 
-/// What a step of a command did.
-#[derive(Clone, Copy, Debug, Drop, PartialEq, Eq)]
+/// The outcome of a step of a command.
+#[derive(Clone, Copy, Drop)]
 pub(crate) enum Step {
     /// Something moved.
     Moved,
@@ -18,7 +18,7 @@ pub(crate) enum Step {
 }
 
 /// Why a command ends before.
-#[derive(Clone, Copy, Debug, Drop, PartialEq, Eq, Error)]
+#[derive(Clone, Copy, Debug, Drop, Error)]
 pub enum Stop {
     /// The client has ended.
     #[error("the client has ended")]

@@ -5,7 +5,7 @@ ghost use Rattle.client_command.specs.Words.{AreShort, IsShort, asked_by, asked_
 
 use client_owed::Wish;
 
-/// What the words ask for: the stream NAME of the app APP at the server that ADDRESS names.
+/// The request in the words: the stream NAME of the app APP at the server that ADDRESS names.
 #[derive(Clone, Copy)]
 pub struct Target<'a> {
     pub address: &'a [u8],
@@ -30,7 +30,7 @@ fn is_short(word: &[u8]) -> bool
     0 < word.len() && word.len() <= 255
 }
 
-// What these four words ask for.
+// The request in these four words.
 fn asked_by<'a>(
     wish: Wish,
     word: &[u8],
@@ -48,7 +48,8 @@ fn asked_by<'a>(
     }
 }
 
-/// What the words ask for, where they are `push ADDRESS APP NAME`, or `pull` and the same; APP and NAME have 1 to 255 bytes.
+/// Returns the request in the words, if they are `push ADDRESS APP NAME`, or `pull` and the same. APP and
+/// NAME have 1 to 255 bytes.
 pub fn target_of(wish: Wish, words: &[Vec<u8>]) -> Option<Target<'_>>
     ensures asked { option_map (λ t. record { wish = wish; app = t.app.now; name = t.name.now }) result ≡ asked_of wish (map (λ w. w.items) words.now) }
     ensures short { IfSome result (λ t. AreShort t.app.now t.name.now) }

@@ -19,8 +19,9 @@ pub record IsNamed (k : Asked) : Type 0 where
   pub app : length k.app ≤ 255
   pub name : length k.name ≤ 255
 
--- THEY HAVE READ EACH OTHER: the client the messages ns, with which the session's begin, in n bytes of chunks, and the session
--- all that the client owes for them, which are the messages ms, in o bytes of chunks; and none of its calls waits
+-- THEY HAVE READ EACH OTHER: the client the messages ns, with which the session's begin, in n bytes of
+-- chunks, and the session all that the client owes for them, which are the messages ms, in o bytes of chunks;
+-- and none of its calls waits
 pub record HaveRead (k : Asked) (d : Dialogue State) (max n o : ℕ) (ns ms : List (ℕ × Message)) (T : List Gave) (C : List Own) : Type 0 where
   pub named : IsNamed k
   pub rise : Rise 0 n ns
@@ -30,9 +31,9 @@ pub record HaveRead (k : Asked) (d : Dialogue State) (max n o : ℕ) (ns ms : Li
   pub told : bare ns ++ later ≡ session.owed d o ms C
   pub made : (talk d C ms).stuck ≡ false
 
--- THE BYTES OF EACH HAVE COME TO THE OTHER: all that the client owes to the session, and the first of what the session owes to the
--- client, at least its handshake. Both take messages of up to max bytes, what the session owes can be read, and none of its calls
--- waits. The client was given T
+-- THE BYTES OF EACH HAVE COME TO THE OTHER: all that the client owes to the session, and the first of what
+-- the session owes to the client, at least its handshake. Both take messages of up to max bytes, what the
+-- session owes can be read, and none of its calls waits. The client was given T
 pub record HaveSent (k : Asked) (d : Dialogue State) (max : ℕ) (x y : List ℕ) (ms ns : List (ℕ × Message)) (T : List Gave) (C : List Own) : Type 0 where
   pub named : IsNamed k
   pub least : 4096 ≤ max

@@ -60,9 +60,9 @@ gifts_in id (m ∷ ms) = gift_in (Started id) m ++ gifts_in id ms
 abbrev pub Plays : State → Type 0
 Plays s = is_some (playing_in s.phase) ≡ true
 
--- THEY HAVE READ EACH OTHER so far: the client the messages ns, with which the session's begin, in n bytes of chunks, and the session
--- the messages ms, with which the client's begin, in o bytes of chunks. The places of the session's calls rise, and its Takes were made
--- while a play was granted
+-- THEY HAVE READ EACH OTHER so far: the client the messages ns, with which the session's begin, in n bytes of
+-- chunks, and the session the messages ms, with which the client's begin, in o bytes of chunks. The places of
+-- the session's calls rise, and its Takes were made while a play was granted
 pub record HaveHeard (k : Asked) (d : Dialogue State) (max n o : ℕ) (ns ms : List (ℕ × Message)) (T : List Gave) (C : List Own) : Type 0 where
   pub named : IsNamed k
   pub rise : Rise 0 n ns
@@ -74,8 +74,9 @@ pub record HaveHeard (k : Asked) (d : Dialogue State) (max n o : ℕ) (ns ms : L
   pub told : bare ns ++ later ≡ session.owed d o ms C
   pub plays : talks.Rise d (talk d C ms).states hand_bytes (hand_bytes + o) C
 
--- THE FIRST BYTES OF EACH HAVE COME TO THE OTHER, which take messages of up to max bytes, and what the session owes can be read. It
--- made no call in the handshake, the places of its calls rise, and its Takes were made while a play was granted
+-- THE FIRST BYTES OF EACH HAVE COME TO THE OTHER, which take messages of up to max bytes, and what the
+-- session owes can be read. It made no call in the handshake, the places of its calls rise, and its Takes
+-- were made while a play was granted
 pub record HavePlayed (k : Asked) (d : Dialogue State) (max : ℕ) (x y : List ℕ) (ms ns : List (ℕ × Message)) (T : List Gave) (C : List Own) : Type 0 where
   pub named : IsNamed k
   pub least : 4096 ≤ max

@@ -20,45 +20,50 @@ ghost use Rattle.client_law.specs.Loud.{Rise, asked_by, loud, sents, units};
 
 use command_dialog::laws::{what_is_said_can_be_written, what_is_said_is_on_a_stream};
 
-/// But for control messages, what a client owes is the commands that its phase has called for, and then what it was given.
+/// Shows the order of the messages that a client owes, apart from control messages. They are the commands
+/// that its phase has called for, and then the tags and the finish that it was given.
 pub fn order_law()
     ensures { (k : Asked) (max n : ℕ) (ms : List (ℕ × Message)) (T : List Gave) → Rise 0 n ms → AreGiven k max n ms T
         → loud (owed k n ms T) ≡ asked_by k (phase_of k ms) ++ sents (id_of (phase_of k ms)) T }
 {}
 
-/// What was given to a client that publishes is what its session publishes: the units of its tags, in order.
+/// Shows that the session of a client that publishes publishes the tags that the client was given: their
+/// units, in order.
 pub fn push_law()
     ensures { (k : Asked) (who window max n o : ℕ) (desk : Ask → Grant) (ns ms : List (ℕ × Message)) (g : Gave) (T : List Gave) (C : List Own)
         → k.wish ≡ Push → HaveRead k (session who window desk) max n o ns ms (g ∷ T) C → published (session who window desk) ms C ≡ units (g ∷ T) }
 {}
 
-/// The same over bytes: where all that a client owes has come to a session, and the client has read the first of what the session owes, the
-/// session publishes the units of the tags that the client was given.
+/// Shows the same over bytes: the session publishes the units of the tags that the client was given. The
+/// conditions are that all bytes that the client owes have come to the session, and that the client has read
+/// the first of those that the session owes.
 pub fn push_bytes_law()
     ensures { (k : Asked) (who window max : ℕ) (desk : Ask → Grant) (x y : List ℕ) (ms ns : List (ℕ × Message)) (g : Gave) (T : List Gave) (C : List Own)
         → k.wish ≡ Push → HaveSent k (session who window desk) max x y ms ns (g ∷ T) C → published (session who window desk) ms C ≡ units (g ∷ T) }
 {}
 
-/// The messages that a player is shown of an item tell a client that plays this item, and nothing else.
+/// Shows that the messages by which a player is shown an item tell a client that plays this item, and nothing
+/// else.
 pub fn item_law()
     ensures { (id : ℕ) (i : Item) → gifts_in id (shown id i) ≡ gift_of i ∷ [] }
 {}
 
-/// What a client that plays was told begins the items that its session was sent, in order: none is told twice, left out or changed.
+/// Shows that the gifts told to a client that plays begin the items that its session was sent, in order: none
+/// is told twice, left out or changed.
 pub fn pull_law()
     ensures { (k : Asked) (who window max n o : ℕ) (desk : Ask → Grant) (ns ms : List (ℕ × Message)) (T : List Gave) (C : List Own)
         → k.wish ≡ Pull → HaveHeard k (session who window desk) max n o ns ms T C → IsTold k ns C }
 {}
 
-/// The same over bytes: where each has read the first of what the other owes, the client was told the first of the items that the
-/// session was sent.
+/// Shows the same over bytes. If each has read the first of the bytes that the other owes, the client was
+/// told the first of the items that the session was sent.
 pub fn pull_bytes_law()
     ensures { (k : Asked) (who window max : ℕ) (desk : Ask → Grant) (x y : List ℕ) (ms ns : List (ℕ × Message)) (T : List Gave) (C : List Own)
         → k.wish ≡ Pull → HavePlayed k (session who window desk) max x y ms ns T C → IsTold k ns C }
 {}
 
-/// What a session owes can be written, and read by what takes messages of up to so many bytes, where each item that it was sent has
-/// room in one.
+/// Shows that the messages that a session owes can be written, and read by a reader that takes messages of up
+/// to `max` bytes. The condition is that each item that the session was sent has room in one message.
 pub fn session_readable_law()
     ensures { (who window max n : ℕ) (desk : Ask → Grant) (ms : List (ℕ × Message)) (C : List Own) → 4096 ≤ max → max ≤ 4194304 → HaveRoom max C
         → AreReadable max (session_owed.owed (session who window desk) n ms C) }

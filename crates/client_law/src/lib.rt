@@ -1,6 +1,7 @@
 //! A client and a session that read each other.
 //!
-//! Read [`push_law`] and [`pull_law`] first; their words are `specs/Laws.antt`. It has no code that runs.
+//! Read [`push_law`] and [`pull_law`] first; their words are `specs/Laws.antt`. The crate has no code that
+//! runs.
 #![tactic(auto)]
 
 mod laws;

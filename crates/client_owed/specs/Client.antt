@@ -1,4 +1,5 @@
--- The dialogue of a client: what it says to publish or play a stream, by what its server tells it (RTMP 1.0, section 7.2).
+-- The dialogue of a client: what it says to publish or play a stream, by what its server tells it (RTMP 1.0,
+-- section 7.2).
 use Rattle.std.specs.Prelude.{ℕ, ◌+◌, ◌-◌, ◌/◌, ◌%◌, ◌^◌, nat_lt, List, [], ◌∷◌, codes, Option, Some, None, ◌==◌, ◌&&◌, if◌then◌else◌, Bool, Result, Ok, Err}
 use Rattle.amf0_value.specs.Tree.{Tree, number, text, object, null, member, no_members, Items, no_items, item}
 use Rattle.amf0_value.specs.Pattern.{pattern}

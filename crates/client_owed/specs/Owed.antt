@@ -80,7 +80,8 @@ module _ (k : Asked) where
   unfoldable pub owed : ℕ → List (ℕ × Message) → List Gave → List Message
   owed n ms T = connect k ∷ upto (at_count ms T) n
 
-  -- THE BYTES OWED for the bytes y: the handshake, and once that of the server is there, these messages by the writer's rule
+  -- THE BYTES OWED for the bytes y: the handshake, and once that of the server is there, these messages by
+  -- the writer's rule
   unfoldable pub out : List ℕ → List (ℕ × Message) → List Gave → List ℕ
   out y ms T = hello ++ (if nat_le hand_bytes (length y) then c2 y ++ written writer.fresh (owed (length y - hand_bytes) ms T) else [])
 

@@ -1,4 +1,5 @@
--- WHAT A CLIENT THAT PLAYS IS TOLD of its stream: each change of it and each tag, from the status by which it has started on.
+-- WHAT A CLIENT THAT PLAYS IS TOLD of its stream: each change of it and each tag, from the status by which it
+-- has started on.
 use Rattle.std.specs.Prelude.{ℕ, List, [], ◌∷◌, ◌++◌, codes, ◌==◌, ◌&&◌, if◌then◌else◌, Result, Ok}
 use Rattle.rtmp_command.specs.declared.command.CommandFail.{CommandFail}
 use Rattle.chunk_wire.specs.declared.message.Message.{Message}

@@ -27,7 +27,8 @@ pub record Past : Type 0 where
   pub sent : List ℕ
   pub taken : List Gift
 
--- the bytes that are to be sent, the writer, the window, where the dialogue stands, whether a finish was given, and the gift that waits
+-- the bytes that are to be sent, the writer, the window, where the dialogue stands, whether a finish was
+-- given, and the gift that waits
 pub record Keeps : Type 0 where
   pub pending : List ℕ
   pub writer : WriterKnown
@@ -62,8 +63,8 @@ pub record IsEarly (p : Past) : Type 0 where
   pub messages : p.ms ≡ []
   pub gave : p.gave ≡ []
 
--- IT STANDS FOR ITS PAST: what was sent and what is pending is what it owes, what was taken and what waits is what it was told, and
--- the rest is what goes on from there
+-- IT STANDS FOR ITS PAST: what was sent and what is pending is what it owes, what was taken and what waits is
+-- what it was told, and the rest is what goes on from there
 pub record Stands (k : Asked) (max : ℕ) (p : Past) (q : Keeps) : Type 0 where
   pub early : length p.y < hand_bytes → IsEarly p
   pub reaches : Reaches (count_of p.y) p.ms p.gave

@@ -10,31 +10,32 @@ ghost use Rattle.client_owed.specs.Growth.{Reaches};
 ghost use Rattle.client_owed.specs.Owed.{first_window, id_of, owed, phase_of, sent_on};
 ghost use Rattle.client_owed.specs.Pulled.{gift_for, pulled};
 
-/// The messages owed grow by what each step says. `inbound` is the window in effect at the next byte.
+/// Shows that the messages owed grow by those that each step says. `inbound` is the window in effect at the
+/// next byte.
 pub fn growth_law()
     // Bytes that end no message owe the acknowledgement that the window answers, and nothing else.
     ensures bytes { (k : Asked) (n j : ℕ) (ms : List (ℕ × Message)) (T : List Gave)
         → Reaches n ms T → j ≤ room_of (inbound (first_window) n ms)
         → owed k (n + j) ms T ≡ owed k n ms T ++ ack_messages (ack_of (inbound (first_window) n ms) j) }
 
-    // A message that ends owes the acknowledgement of its last byte, and then what it is answered.
+    // A message that ends owes the acknowledgement of its last byte, and then its answers.
     ensures message { (k : Asked) (n j : ℕ) (ms : List (ℕ × Message)) (T : List Gave) (m : Message)
         → Reaches n ms T → 0 < j → j ≤ room_of (inbound (first_window) n ms) → (T ≡ []) ⊎ (id_of (phase_of k (ms ++ (n + j, m) ∷ [])) ≡ id_of (phase_of k ms))
         → owed k (n + j) (ms ++ (n + j, m) ∷ []) T
         ≡ owed k n ms T ++ (ack_messages (ack_of (inbound (first_window) n ms) j) ++ (does k (phase_of k ms) m).says) }
 
-    // What is given owes its message.
+    // A tag or a finish that is given owes its message.
     ensures gave { (k : Asked) (n : ℕ) (ms : List (ℕ × Message)) (T : List Gave) (g : Gave)
         → Reaches n ms T → g.at ≡ hand_bytes + n
         → owed k n ms (T ++ g ∷ []) ≡ owed k n ms T ++ sent_on (id_of (phase_of k ms)) g.given ∷ [] }
 {}
 
-/// A message more tells what it tells in the phase that those before it left.
+/// Shows that one more message tells the gifts that it tells in the phase which the messages before it left.
 pub fn gift_law()
     ensures { (k : Asked) (ms : List (ℕ × Message)) (m : ℕ × Message) → pulled k (ms ++ m ∷ []) ≡ pulled k ms ++ gift_for k.wish (phase_of k ms) m.1 }
 {}
 
-/// The first message with the app `live`.
+/// Shows the first message with the app `live`.
 #[tactic(auto, unfolding(amf0_value::specs::Pattern::pattern))]
 pub fn worked_examples()
     ensures connect { (k : Asked) → k.app ≡ codes "live" → (connect k).body ≡

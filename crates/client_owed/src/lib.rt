@@ -1,10 +1,12 @@
-//! What a client of an RTMP server owes: the bytes that it is to send for those that it was sent and for the tags that it was
-//! given, and what it was told of the stream that it plays, as definitions that know no cutting of the input; and how they
-//! grow with each step of a client.
+//! The bytes that a client of an RTMP server owes, and the news of the stream that it plays, as definitions.
+//!
+//! The bytes owed are those to be sent for the bytes that it was sent and for the tags that it was given. The
+//! definitions don't depend on how the input was cut; the laws say how both grow with each step of a client.
 //!
 //! The section numbers are those of Adobe's RTMP 1.0.
 //!
-//! Read [`growth_law`] first. What is owed is `specs/Owed.antt`, what is told `specs/Pulled.antt`. It has no code that runs but types.
+//! Read [`growth_law`] first. `specs/Owed.antt` defines the bytes owed, `specs/Pulled.antt` the gifts told.
+//! The crate has no code that runs but types.
 #![tactic(auto)]
 
 mod growth;

@@ -12,49 +12,52 @@ ghost use Rattle.client_owed.specs.Pulled.{gift_for};
 ghost use Rattle.client_owed.specs.Standing.{HasStarted, Keeps, Past, Stands, fed_more, gave_more, gift_now, greeted, listed};
 ghost use Rattle.client_owed.specs.Standing.{new_keeps, new_past, pending_now, sent_more, stepped, took, with_given, with_message, with_taken};
 
-/// A new client stands for the empty past.
+/// Shows that a new client stands for the empty past.
 pub fn new_step()
     ensures { (k : Asked) (max : ℕ) → Stands k max new_past new_keeps }
 {}
 
-/// The first pending bytes were sent.
+/// Shows that a client still stands for its past after the first pending bytes were sent.
 pub fn send_step()
     ensures { (k : Asked) (max : ℕ) (p : Past) (q : Keeps) (b rest : List ℕ) → Stands k max p q → q.pending ≡ b ++ rest
         → Stands k max (sent_more p b) (pending_now q rest) }
 {}
 
-/// Bytes of the handshake were fed that don't end it.
+/// Shows that a client still stands for its past after bytes of the handshake were fed that don't end it.
 pub fn hand_step()
     ensures { (k : Asked) (max : ℕ) (p : Past) (q : Keeps) (b : List ℕ) → length (p.y ++ b) < hand_bytes → Stands k max p q → Stands k max (fed_more p b) q }
 {}
 
-/// Bytes of the handshake were fed that end it.
+/// Shows that a client still stands for its past after bytes of the handshake were fed that end it.
 pub fn greet_step()
     ensures { (k : Asked) (max : ℕ) (p : Past) (q : Keeps) (b : List ℕ) → length p.y < hand_bytes → length (p.y ++ b) ≡ hand_bytes → Stands k max p q
         → Stands k max (fed_more p b) (greeted k (p.y ++ b) q) }
 {}
 
-/// Bytes of chunks were fed that end no message, at most up to the next place of an acknowledgement.
+/// Shows that a client still stands for its past after bytes of chunks were fed that end no message, at most
+/// up to the next place of an acknowledgement.
 pub fn bytes_step()
     ensures { (k : Asked) (max : ℕ) (p : Past) (q : Keeps) (b : List ℕ) → hand_bytes ≤ length p.y → length b ≤ room_of q.window → Stands k max p q
         → Stands k max (fed_more p b) (took q (length b)) }
 {}
 
-/// Bytes of chunks were fed that end a message. What it says stands after the acknowledgement of its last byte, and what it tells waits.
+/// Shows that a client still stands for its past after bytes of chunks were fed that end a message. The
+/// messages that it says stand after the acknowledgement of its last byte, and the gift that it tells waits.
 pub fn message_step()
     ensures { (k : Asked) (max : ℕ) (p : Past) (q : Keeps) (b : List ℕ) (m : Message) (g : Option Gift)
         → hand_bytes ≤ length p.y → 0 < length b → length b ≤ room_of q.window → q.gift ≡ None → listed g ≡ gift_for k.wish q.phase m → Stands k max p q
         → Stands k max (with_message p b m) (stepped (took q (length b)) m (does k q.phase m) g) }
 {}
 
-/// A tag or a finish is given to a client that has started and isn't finished.
+/// Shows that a client still stands for its past after a tag or a finish is given to a client that has
+/// started and isn't finished.
 pub fn give_step()
     ensures { (k : Asked) (max : ℕ) (p : Past) (q : Keeps) (g : Gave)
         → HasStarted q.phase → q.finished ≡ false → g.at ≡ length p.y → MayGive k.wish max g.given → Stands k max p q
         → Stands k max (with_given p g) (gave_more q g.given) }
 {}
 
-/// The gift that waits is taken.
+/// Shows that a client still stands for its past after the gift that waits is taken.
 pub fn take_step()
     ensures { (k : Asked) (max : ℕ) (p : Past) (q : Keeps) (g : Gift) → q.gift ≡ Some g → Stands k max p q
         → Stands k max (with_taken p g) (gift_now q None) }

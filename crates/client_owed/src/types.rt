@@ -1,23 +1,23 @@
 use av_unit::Bytes;
 use flv_tags::Tag;
 
-/// What a client wants: to publish a stream, or to play it.
-#[derive(Debug, Clone, Copy, PartialEq, Eq, Drop)]
+/// The client's goal: to publish a stream, or to play it.
+#[derive(Clone, Copy, Drop)]
 pub enum Wish {
     Push,
     Pull,
 }
 
 /// The stream that is to be published or played. A name may carry a key after `?`.
-#[derive(Debug, PartialEq, Eq, Drop)]
+#[derive(Drop)]
 pub struct Asked {
     pub wish: Wish,
     pub app: Bytes,
     pub name: Bytes,
 }
 
-/// Where the dialogue of a client stands.
-#[derive(Debug, Clone, Copy, PartialEq, Eq, Drop)]
+/// The phase of a client's dialogue.
+#[derive(Clone, Copy, Drop)]
 pub enum Phase {
     /// `connect` was sent.
     Connecting,
@@ -29,11 +29,11 @@ pub enum Phase {
     Started(u32),
 }
 
-/// What a command of a server makes known to a client.
+/// The news that a command of a server brings to a client.
 #[derive(Debug, PartialEq, Eq, Drop)]
 pub enum News {
-    /// The result of the command with this transaction, and the fourth value where it is a number; both are the patterns of
-    /// numbers.
+    /// The result of the command with this transaction, and the fourth value if it is a number; both are the
+    /// patterns of numbers.
     Done {
         transaction: u64,
         number: Option<u64>,
@@ -46,22 +46,22 @@ pub enum News {
     Other,
 }
 
-/// What a client that publishes is given: a tag to send, or that no more will come.
-#[derive(Debug, PartialEq, Eq, Drop)]
+/// The inputs of a client that publishes: a tag to send, or that no more will come.
+#[derive(Drop)]
 pub enum Given {
     Send(Tag),
     Finish,
 }
 
-/// What was given, with the count of all bytes that the client was fed by then.
-#[derive(Debug, PartialEq, Eq, Drop)]
+/// One such input, with the count of all bytes that the client was fed by then.
+#[derive(Drop)]
 pub struct Gave {
     pub at: u64,
     pub given: Given,
 }
 
-/// What a client that plays is told: that the stream is published, or is no longer, or a tag of it.
-#[derive(Debug, PartialEq, Eq, Drop)]
+/// The gifts of a client that plays: that the stream is published, or is no longer, or a tag of it.
+#[derive(Drop)]
 pub enum Gift {
     Published,
     Unpublished,

@@ -1,4 +1,5 @@
-//! A client that plays, one that publishes and one that is refused, for input that is cut into pieces of several lengths.
+//! A client that plays, one that publishes and one that is refused. The input is cut into pieces of several
+//! lengths.
 ghost use Rattle.std.specs.Prelude.{◌≡◌, ◌<◌, false, IfOk};
 ghost use Rattle.client_owed.specs.declared.types.Wish.TheVariants.{Push};
 ghost use Rattle.rtmp_client.specs.ClientState.{lasting_of};
@@ -11,8 +12,9 @@ use rtmp_client::{Client, ClientEnd, ClientTurn};
 use std::alloc::Global;
 use std::test::Fail;
 
-// What a server answers: to `connect` and `createStream`; to `play`, and what a player is sent then, with a ping request before
-// the end; to `publish`; and where it refuses.
+// The bytes of a server, in four parts. The first are its answers to `connect` and `createStream`. The second
+// are its answer to `play` and the messages that a player is sent then, with a ping request before the end.
+// The others are its answer to `publish`, and a refusal.
 const ANSWERS: &[u8] =
     b"\x03\x00\x00\x00\x00\x00\x15\x14\x00\x00\x00\x00\x02\x00\x07_result\x00?\xf0\x00\x00\x00\x00\x00\x00\x05\x05\
     \x03\x00\x00\x00\x00\x00\x1d\x14\x00\x00\x00\x00\x02\x00\x07_result\x00@\x00\x00\x00\x00\x00\x00\x00\x05\x00?\xf0\x00\x00\x00\x00\x00\x00";
@@ -34,8 +36,8 @@ const REFUSES: &[u8] =
     b"\x03\x00\x00\x00\x00\x00J\x14\x01\x00\x00\x00\x02\x00\x08onStatus\x00\x00\x00\x00\x00\x00\x00\x00\x00\x05\
         \x03\x00\x05level\x02\x00\x05error\x00\x04code\x02\x00\x19NetStream.Publish.BadName\x00\x00\x09";
 
-// What a client says: `connect`, the chunk size and `createStream`; `play` and a ping response; `publish`; a key frame; and
-// `deleteStream`.
+// The messages of a client: `connect`, the chunk size and `createStream`; `play` and a ping response;
+// `publish`; a keyframe; and `deleteStream`.
 const SAID: &[u8] =
     b"\x03\x00\x00\x00\x00\x00#\x14\x00\x00\x00\x00\x02\x00\x07connect\x00?\xf0\x00\x00\x00\x00\x00\x00\x03\x00\x03app\x02\x00\x04live\x00\x00\x09\
     \x02\x00\x00\x00\x00\x00\x04\x01\x00\x00\x00\x00\x00\x00\x10\x00\
@@ -61,7 +63,7 @@ fn bytes(alloc: Global, text: &[u8]) -> Result<Bytes, OutOfMemory>
     Ok(bytes)
 }
 
-// A link that gives a handshake and these bytes, in pieces of this length, and goes on.
+// Makes a link that gives a handshake and these bytes, in pieces of this length, and stays open.
 fn server(alloc: Global, more: &[u8], piece: usize) -> Result<MemLink, OutOfMemory>
     requires { 0 < piece }
 {
@@ -94,7 +96,7 @@ fn end_of(end: &Option<ClientEnd>) -> u8 {
     }
 }
 
-// A client of the stream.
+// Makes a client of the stream.
 fn new_client(alloc: Global, wish: Wish) -> Result<Client, OutOfMemory>
     ensures asked { IfOk result (λ c. c.parts.asked.wish ≡ wish) }
     ensures max { IfOk result (λ c. c.parts.reader.max ≡ 65536) }
@@ -105,14 +107,14 @@ fn new_client(alloc: Global, wish: Wish) -> Result<Client, OutOfMemory>
     Client::new(alloc, wish, app, name, 65_536)
 }
 
-// Its end and the bytes that it sent, behind what is told of it.
+// Appends its end and the bytes that it sent to its gifts.
 fn told_of(client: &Client, link: &MemLink, mut told: Bytes) -> Result<Bytes, OutOfMemory> {
     told.append(&[end_of(client.end())])?;
     told.append(link.sent())?;
     Ok(told)
 }
 
-// Turns a client until it ends, and tells its gifts.
+// Turns a client until it ends, and returns its gifts as letters.
 fn gifts_of(alloc: Global, client: &mut Client, link: &mut MemLink) -> Result<Bytes, OutOfMemory> {
     let mut told = Bytes::new(alloc);
     for _ in 0..20_000 {
@@ -128,7 +130,8 @@ fn gifts_of(alloc: Global, client: &mut Client, link: &mut MemLink) -> Result<By
     Ok(told)
 }
 
-// What a client does until its input ends: its gifts, its end and the bytes that it sent after the handshake.
+// Runs a client until its input ends. Returns its gifts, its end and the bytes that it sent after the
+// handshake.
 fn run(alloc: Global, client: &mut Client, link: &mut MemLink) -> Result<Bytes, OutOfMemory> {
     link.end();
     let told = gifts_of(alloc, client, link)?;
@@ -162,7 +165,7 @@ fn turned(alloc: Global, client: &mut Client, link: &mut MemLink)
     }
 }
 
-// Publishes a key frame by a client, which then finishes: its end and the bytes that it sent.
+// Publishes a keyframe by a client, which then finishes. Returns its end and the bytes that it sent.
 fn publish(alloc: Global, client: &mut Client, link: &mut MemLink) -> Result<Bytes, OutOfMemory>
     requires asked { client.old.parts.asked.wish ≡ Push }
     requires max { client.old.parts.reader.max ≡ 65536 }

@@ -18,8 +18,9 @@ use Rattle.rtmp_client.specs.declared.end.ClientTurn.{ClientTurn}
 
 -- ---- clients
 
--- all that decides what a client does from then on: what it asks, the longest message that it takes, its past, what it keeps of what it
--- owes and is told, how many of the bytes pending are of no tag, and the bytes received and not fed
+-- all that decides what a client does from then on: what it asks, the longest message that it takes, its
+-- past, what it keeps of what it owes and is told, how many of the bytes pending are of no tag, and the bytes
+-- received and not fed
 pub record Seen : Type 0 where
   pub asked : Asked
   pub max : ℕ

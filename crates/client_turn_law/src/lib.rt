@@ -1,8 +1,9 @@
-//! Two turns of a client over links in memory do the same, where the clients were alike.
+//! Two turns of a client over links in memory do the same, if the clients were alike.
 //!
-//! The law of a turn is [`a_turn_of_a_client_is_a_function`]; the others say that new clients are alike, that they stay so by what they
-//! are given and by taking their gifts, and that alike clients tell the same. The words are `specs/Twins.antt`. Of a client that a byte
-//! or want of memory has ended the law leaves free what it was still to send. It has no code that runs.
+//! Read [`a_turn_of_a_client_is_a_function`] first, the law of a turn. The others say that new clients are
+//! alike, that they stay so by the tags that they are given and by taking their gifts, and that alike clients
+//! tell the same. The words are `specs/Twins.antt`. If a byte or refused memory has ended a client, the law
+//! leaves free the bytes that it still had to send. The crate has no code that runs.
 #![tactic(auto)]
 
 mod laws;

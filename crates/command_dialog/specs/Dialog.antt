@@ -1,5 +1,5 @@
--- THE DIALOGUE: what a message of a peer does by its meaning and its grant, what the stream's reply does, and how a player is shown
--- an item (RTMP 1.0, section 7.2).
+-- THE DIALOGUE: what a message of a peer does by its meaning and its grant, what the stream's reply does, and
+-- how a player is shown an item (RTMP 1.0, section 7.2).
 use Rattle.std.specs.Prelude.{ℕ, List, [], ◌∷◌, ◌++◌, length, Option, Some, None, option_map, true, false, not, filter, ◌==◌, nat_le, if◌then◌else◌, Result, Ok, Err}
 use Rattle.av_unit.specs.Media.{Media}
 use Rattle.av_unit.specs.Classes.{unit_from, message_type}
@@ -196,7 +196,8 @@ told s r = record { state = with_phase s (phase_after s.phase r); says = told_in
 
 -- ---- the call that an act is
 
--- A name of more than 64 bytes is no name of a broadcast: only a stream, which answers both calls alike, could be granted by it
+-- A name of more than 64 bytes is no name of a broadcast: only a stream, which answers both calls alike,
+-- could be granted by it
 abbrev pub named : (List ℕ → Call) → Call → List ℕ → Call
 named with_name without_name name = if nat_le (length name) 64 then with_name name else without_name
 

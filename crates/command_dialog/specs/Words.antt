@@ -1,5 +1,5 @@
--- The texts of connect, publish and play (RTMP 1.0, sections 7.2.1.1, 7.2.2.1 and 7.2.2.6). That a ? ends the name is this
--- project's own.
+-- The texts of connect, publish and play (RTMP 1.0, sections 7.2.1.1, 7.2.2.1 and 7.2.2.6). That a ? ends the
+-- name is this project's own.
 use Rattle.std.specs.Prelude.{ℕ, ◌+◌, ◌-◌, List, [], length, take, drop, get_or, Option, Some, None, Bool, ◌==◌, nat_lt, if◌then◌else◌}
 use Rattle.std.specs.List.{position}
 use Rattle.std.specs.Cmp.Lexicographic.{pointwise}

@@ -1,5 +1,5 @@
--- What is said and shown can be written as chunks: it is of a type that is written, isn't too long, has a time of 32 bits, and is on
--- message stream 0 or one that is open, of which the ids are at most 16.
+-- What is said and shown can be written as chunks: it is of a type that is written, isn't too long, has a
+-- time of 32 bits, and is on message stream 0 or one that is open, of which the ids are at most 16.
 use Rattle.std.specs.Prelude.{◌≡◌, ◌⊎◌, ℕ, ◌<◌, ◌≤◌, ◌^◌, List, [], ◌∷◌, length}
 use Rattle.av_unit.specs.declared.item.Item.{Item}
 use Rattle.av_unit.specs.declared.item.Item.TheVariants as item

@@ -8,7 +8,7 @@ use av_unit::{Bytes, OutOfMemory, UnitArc};
 use std::alloc::Global;
 use stream_model::{Call, ShortName};
 
-// A name of a broadcast has so many bytes at most.
+// The longest name of a broadcast, in bytes.
 const MOST_NAME: usize = 64;
 
 fn begin(name: Bytes) -> Call
@@ -32,8 +32,8 @@ fn join(name: Bytes) -> Call
 }
 
 impl Act {
-    /// The call at the stream. A pushed unit is put where it can be shared; its bytes and those of a name aren't
-    /// copied.
+    /// Gives the call at the stream. A pushed unit is moved into a `UnitArc`, which can be shared; its bytes and
+    /// those of a name aren't copied.
     pub fn into_call(self, alloc: Global) -> Result<Call, OutOfMemory>
         ensures { IfOk result (λ call. call ≡ call_of self) }
     {
@@ -48,7 +48,7 @@ impl Act {
 }
 
 impl Meant {
-    /// The publish or play that is to be granted, where the message is one that reaches the guard.
+    /// Gives the publish or play that needs a grant, if the message is one that reaches the guard.
     pub fn ask(&self) -> Option<&Ask>
         ensures { MatchOption result (ask_in self.now ≡ None) (λ ask. ask_in self.now ≡ Some ask.now) }
     {

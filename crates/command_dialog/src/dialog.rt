@@ -38,7 +38,7 @@ impl Model for Dialog {
 }
 
 impl Dialog {
-    /// Nothing was said yet. The window, in bytes, is the one that the connect answer tells. It takes no
+    /// Makes a dialogue without messages. `window`, in bytes, is the one that the connect answer gives. It takes no
     /// memory.
     pub fn new(alloc: Global, window: u32) -> Dialog
         ensures { result ≡ fresh window }
@@ -51,10 +51,10 @@ impl Dialog {
         }
     }
 
-    /// What a message means where the dialogue stands (RTMP 1.0, section 7.2). Where that is `Asks`, the
-    /// caller finds the grant before it hands the meaning to `step`. It answers every refusal:
-    /// `BadCommand` for the body of a command message that is no command, `TooManyStreams` for a
-    /// createStream while 16 message streams are open.
+    /// Gives the meaning of a message in the present state (RTMP 1.0, section 7.2). If it is `Asks`, the
+    /// caller finds the grant before it hands the meaning to `step`. It gives every refusal: `BadCommand` for
+    /// the body of a command message that isn't a command, and `TooManyStreams` for a createStream while 16
+    /// message streams are open.
     #[tactic(auto, unfolding(crate::specs::Meaning::meaning))]
     pub fn asks(&self, alloc: Global, message: &Message) -> Result<Meant, DialogFail>
         ensures { MatchResult result (λ m. meaning self.now message.now ≡ Ok m)
@@ -134,9 +134,9 @@ impl Dialog {
         Ok(Meant::Passed)
     }
 
-    /// Does what a message makes, by its meaning and its grant. Where the meaning asks for no grant, none
-    /// is looked at; where it asks for one and there is none, that counts as `NoName`. Only memory can
-    /// be wanting, and then nothing has changed.
+    /// Carries out a message, by its meaning and its grant. If the meaning needs no grant, the grant is
+    /// ignored; if it needs one and there is none, that counts as `NoName`. It fails only if memory is
+    /// refused, and then nothing has changed.
     pub fn step(
         &mut self,
         alloc: Global,
@@ -157,7 +157,7 @@ impl Dialog {
         Ok(Acts { says, makes })
     }
 
-    /// What is said to the peer.
+    /// Gives the messages to the peer.
     #[tactic(auto, unfolding(crate::specs::Dialog::says))]
     fn said(
         &self,
@@ -181,7 +181,7 @@ impl Dialog {
         }
     }
 
-    /// The call that is made at the stream, and where the dialogue stands then.
+    /// Gives the call to make at the stream, and the state of the dialogue after it.
     #[tactic(auto, unfolding(crate::specs::Dialog::makes, crate::specs::Dialog::after))]
     fn change(
         &mut self,
@@ -231,7 +231,7 @@ impl Dialog {
         }
     }
 
-    // The message is pushed as the unit that it is, if it is one.
+    // Pushes the message as a unit, if it is one.
     fn publish(&mut self, message: Message) -> Option<Act>
         requires { length message.body ≤ 4194304 }
         ensures makes { result ≡ option_map Act.Push (published_in self.old.phase message) }
@@ -245,8 +245,8 @@ impl Dialog {
         }
     }
 
-    /// Does what the stream's reply to a Begin or Join makes: the answer to the peer. Where no such call
-    /// is out, or the reply is to another call, nothing is said. Only memory can be wanting, and then
+    /// Takes the stream's reply to a Begin or Join, and gives the answer to the peer. If no such call is out,
+    /// or the reply is to another call, there is no answer. It fails only if memory is refused, and then
     /// nothing has changed.
     #[tactic(auto, unfolding(crate::specs::Dialog::told))]
     pub fn answered(&mut self, alloc: Global, reply: &Reply) -> Result<MessageList, DialogFail>
@@ -270,14 +270,14 @@ impl Dialog {
         Ok(says)
     }
 
-    /// The role.
+    /// Gives the role.
     pub fn phase(&self) -> Phase
         ensures { result ≡ self.now.phase }
     {
         self.phase
     }
 
-    /// The granted play; `None` exactly where none is active.
+    /// Gives the granted play; `None` exactly if none is active.
     pub fn playing(&self) -> Option<Playing>
         ensures { result ≡ playing_in self.now.phase }
     {
@@ -289,14 +289,14 @@ impl Dialog {
         }
     }
 
-    /// The application to which the peer has connected, if it has, where it is kept.
+    /// Gives a reference to the application to which the peer has connected, if it has connected.
     pub fn app(&self) -> Option<&App>
         ensures { option_copied result ≡ self.now.app }
     {
         self.app.as_ref()
     }
 
-    /// How many bytes of its peer the dialogue keeps: the length of the app, at most 64.
+    /// Gives the number of bytes of its peer that the dialogue keeps: the length of the app, at most 64.
     pub fn held(&self) -> u64
         ensures value { result ≡ app_length self.now.app }
         ensures most { result ≤ 64 }

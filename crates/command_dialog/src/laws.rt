@@ -31,8 +31,8 @@ pub fn no_act_is_a_take()
     ensures { (a : Act) (player : ℕ) (want : Want) → call_of a ≡ call.Take player want → ⊥ }
 {}
 
-/// What is said and shown is of a type that is written, isn't too long, and has a time of 32 bits; the
-/// chunk size that is told is 4,096.
+/// Each message sent or shown is of a type that is written, isn't too long, and has a time of 32 bits; the
+/// announced chunk size is 4,096.
 pub fn what_is_said_can_be_written()
     ensures step { (s : State) (g : Option Grant) (m : Meant) → All IsSaid (says s g m) }
     ensures message { (desk : Ask → Grant) (s : State) (m : Message) → All IsSaid (does desk s m).says }
@@ -40,7 +40,7 @@ pub fn what_is_said_can_be_written()
     ensures item { (s : State) (i : Item) → HasRoom i → All IsShown (shows s i) }
 {}
 
-/// All that is said and shown is on message stream 0 or on one of 1 to 16: the ids that are open and that
+/// Each message sent or shown is on message stream 0 or on one of 1 to 16. For the ids that are open and that
 /// of the role are at most 16 at first, after a message, and after a reply.
 pub fn what_is_said_is_on_a_stream()
     ensures first { (window : ℕ) → HasIds (fresh window) }
@@ -51,15 +51,15 @@ pub fn what_is_said_is_on_a_stream()
     ensures item { (s : State) (i : Item) → HasIds s → All IsOn (shows s i) }
 {}
 
-/// A createStream is given the least id of 1 to 16 that isn't open, and is refused where all are.
+/// A createStream is given the least id of 1 to 16 that isn't open, and is refused if all are open.
 pub fn the_least_free_id_is_given()
     ensures free { (ids : List ℕ) (id : ℕ) → least_free ids ≡ Some id → (1 ≤ id) × (id ≤ 16) × (is_open id ids ≡ false) }
     ensures least { (ids : List ℕ) (id k : ℕ) → least_free ids ≡ Some id → 1 ≤ k → k < id → is_open k ids ≡ true }
     ensures none { (ids : List ℕ) (k : ℕ) → least_free ids ≡ None → 1 ≤ k → k ≤ 16 → is_open k ids ≡ true }
 {}
 
-/// A publish or play is refused by the first of these: a role is active, no place has that name, the
-/// guard refuses, the stream is in use or full, the open table has no slot for the name.
+/// A publish or play is refused by the first of these causes: a role is active, no place has that name, or
+/// the guard refuses. Then the stream is in use or full, or the open table has no slot for the name.
 pub fn the_first_refusal_is_told()
     ensures active { (p : Phase) (r : Role) (id : ℕ) (app text : List ℕ) → (p ≡ phase.Idle → ⊥) → asks_while p r id app text ≡ meant.Busy r id }
     ensures busy { (s : State) (r : Role) (id : ℕ) → says s None (meant.Busy r id) ≡ refuses r id why.RoleActive }
@@ -73,8 +73,9 @@ pub fn the_first_refusal_is_told()
         → (told (with_phase s (phase.Asked r id)) (reply.NoSlot slots)).says ≡ refuses r id why.Full }
 {}
 
-/// By the last video configuration that was pushed since the Begin a picture is told apart that no other picture needs: how many
-/// bytes the lengths of NAL units have while a publish is granted, 0 where there was no such configuration.
+/// While a publish is granted, the size by which disposable frames are recognised is that of the last video
+/// configuration pushed since the Begin. The size is the number of bytes of a NAL unit's length, and 0 if
+/// there was no such configuration.
 pub fn the_last_configuration_tells_the_size()
     ensures { (window : ℕ) (past : List Event) (id size : ℕ) → (state_of window past).phase ≡ phase.Publishes id size
         → size ≡ last_size (pushed_of window past) }

@@ -1,8 +1,8 @@
-//! The dialogue of RTMP's commands (RTMP 1.0, section 7.2): what each message of a peer means, what it
-//! is answered, and which one call at a stream it makes. It knows no socket, no stream and no guard.
+//! The dialogue of RTMP's commands (RTMP 1.0, section 7.2). It gives the meaning of each message of a peer, its
+//! answer, and the one call at a stream that it makes. It knows no socket, no stream and no guard.
 //!
-//! Read `Dialog::asks` and `Dialog::step` first. What a message means is `specs/Meaning.antt`, what follows of it
-//! `specs/Dialog.antt`.
+//! Read `Dialog::asks` and `Dialog::step` first. The meaning of a message is `specs/Meaning.antt`, its
+//! effects `specs/Dialog.antt`.
 #![tactic(auto)]
 
 mod calls;

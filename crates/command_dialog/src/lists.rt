@@ -8,7 +8,7 @@ use std::alloc::Global;
 use std::marker::Model;
 
 /// Messages in order. Contracts see them as their list.
-#[derive(Debug, Drop)]
+#[derive(Drop)]
 pub struct MessageList {
     list: Vec<Message>,
 }
@@ -23,28 +23,28 @@ impl Model for MessageList {
 }
 
 impl MessageList {
-    /// The list of a `Vec`'s messages.
+    /// Makes a list of a `Vec`'s messages.
     pub fn from_vec(list: Vec<Message>) -> MessageList
         ensures { result ≡ list.items }
     {
         MessageList { list }
     }
 
-    /// Its messages.
+    /// Gives its messages.
     pub fn as_slice(&self) -> &[Message]
         ensures { result.now ≡ self.now }
     {
         &self.list
     }
 
-    /// How many there are.
+    /// Gives the number of messages.
     pub fn len(&self) -> usize
         ensures { result ≡ length self.now }
     {
         self.list.len()
     }
 
-    /// The messages as a `Vec`.
+    /// Gives the messages as a `Vec`.
     pub fn into_vec(self) -> Vec<Message>
         ensures { result.items ≡ self }
     {
@@ -53,7 +53,7 @@ impl MessageList {
 }
 
 /// The app of a connect, of at most 64 bytes. Contracts see it as the list of its bytes.
-#[derive(Debug, Drop)]
+#[derive(Drop)]
 pub struct App {
     text: Bytes,
 }
@@ -69,8 +69,8 @@ impl Model for App {
 }
 
 impl App {
-    /// The app that a connect's text names: what stands before the first `?`, without one last `/`. A
-    /// longer one is the empty app.
+    /// Reads the app from a connect's text: the bytes before the first `?`, without one last `/`. A longer
+    /// one is the empty app.
     pub fn of(alloc: Global, text: &[u8]) -> Result<App, OutOfMemory>
         ensures { IfOk result (λ app. app ≡ app_in text.now) }
     {
@@ -85,7 +85,7 @@ impl App {
         })
     }
 
-    /// Its bytes.
+    /// Gives its bytes.
     pub fn as_slice(&self) -> &[u8]
         ensures value { result.now ≡ self.now }
         ensures most { length result.now ≤ 64 }

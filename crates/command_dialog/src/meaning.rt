@@ -13,7 +13,7 @@ use rtmp_command::CommandFail;
 use std::alloc::Global;
 use stream_model::Reply;
 
-/// The least id of 1 to 16 that isn't open.
+/// Gives the least id of 1 to 16 that isn't open.
 pub fn free_id(ids: &[u32]) -> Option<u32>
     ensures { result ≡ least_free ids.now }
 {
@@ -116,7 +116,7 @@ fn ask_text(
     }
 }
 
-/// Whether a granted publish is on this message stream.
+/// Tells whether a granted publish is on this message stream.
 pub fn is_published(phase: &Phase, stream: u32) -> bool
     ensures { result ≡ publishes_on stream phase.now }
 {
@@ -126,7 +126,7 @@ pub fn is_published(phase: &Phase, stream: u32) -> bool
     }
 }
 
-/// The role after a publish or play with its grant.
+/// Gives the role after a publish or play with its grant.
 pub fn asked_role(role: Role, id: u32, grant: Option<Grant>) -> Phase
     ensures { result ≡ asked role id grant }
 {
@@ -138,7 +138,7 @@ pub fn asked_role(role: Role, id: u32, grant: Option<Grant>) -> Phase
     }
 }
 
-/// The role after a reply of the stream.
+/// Gives the role after a reply of the stream.
 pub fn told_role(phase: Phase, reply: &Reply) -> Phase
     ensures { result ≡ phase_after phase reply.now }
 {
@@ -171,7 +171,7 @@ pub fn told_role(phase: Phase, reply: &Reply) -> Phase
     }
 }
 
-/// The open id whose number has this pattern.
+/// Finds the open id whose number has this pattern.
 fn closing(ids: &[u32], bits: u64) -> Option<u32>
     ensures { result ≡ closed_in bits ids.now }
 {
@@ -247,7 +247,7 @@ pub fn turn(phase: &Phase, stream: u32, switch: Switch, fourth: &Brief) -> Meant
     }
 }
 
-/// The role after its message stream, or another one, is closed.
+/// Gives the role after its message stream, or another one, is closed.
 pub fn role_without(id: u32, phase: Phase) -> Phase
     ensures { result ≡ phase_without id phase }
 {
@@ -271,7 +271,7 @@ pub fn role_without(id: u32, phase: Phase) -> Phase
     }
 }
 
-// The length size after a unit.
+// Gives the length size after a unit.
 fn size_by(unit: &Unit, size: u8) -> u8
     ensures { result ≡ size_by unit.now.kind unit.now.body size }
 {
@@ -282,7 +282,7 @@ fn size_by(unit: &Unit, size: u8) -> u8
     }
 }
 
-/// The role after a unit is pushed.
+/// Gives the role after a unit is pushed.
 pub fn sized(unit: &Option<Unit>, phase: Phase) -> Phase
     ensures { result ≡ sized unit.now phase }
 {
@@ -298,7 +298,7 @@ pub fn sized(unit: &Option<Unit>, phase: Phase) -> Phase
     }
 }
 
-/// The open ids but one.
+/// Gives the open ids but one.
 pub fn remove(ids: &mut Vec<u32>, id: u32)
     ensures { ids.new.items ≡ without id ids.old.items }
 {

@@ -18,7 +18,7 @@ const STREAM_BEGIN: u16 = 0;
 
 const STREAM_EOF: u16 = 1;
 
-/// A command message that carries an answer.
+/// Makes a command message that carries an answer.
 fn say(alloc: Global, stream: u32, answer: &Answer) -> Result<Message, OutOfMemory>
     ensures { IfOk result (λ m. m ≡ answers stream answer.now) }
 {
@@ -31,14 +31,14 @@ fn say(alloc: Global, stream: u32, answer: &Answer) -> Result<Message, OutOfMemo
     })
 }
 
-/// No messages.
+/// Gives no messages.
 pub fn nothing(alloc: Global) -> MessageList
     ensures { result ≡ [] }
 {
     MessageList::from_vec(Vec::new(alloc))
 }
 
-/// One message that carries an answer.
+/// Makes one message that carries an answer.
 fn one(alloc: Global, stream: u32, answer: &Answer) -> Result<MessageList, OutOfMemory>
     ensures { IfOk result (λ list. list ≡ answers stream answer.now ∷ []) }
 {
@@ -47,7 +47,7 @@ fn one(alloc: Global, stream: u32, answer: &Answer) -> Result<MessageList, OutOf
     Ok(MessageList::from_vec(list))
 }
 
-/// An event of the message stream, and an answer on it.
+/// Makes an event of the message stream, and an answer on it.
 fn event_and(
     alloc: Global,
     event: u16,
@@ -63,7 +63,7 @@ fn event_and(
     Ok(MessageList::from_vec(list))
 }
 
-/// The answer to a refused publish or play.
+/// Makes the answer to a refused publish or play.
 pub fn refuse(alloc: Global, role: Role, id: u32, why: Why) -> Result<MessageList, OutOfMemory>
     ensures { IfOk result (λ list. list ≡ refuses role id why) }
 {
@@ -73,7 +73,7 @@ pub fn refuse(alloc: Global, role: Role, id: u32, why: Why) -> Result<MessageLis
     }
 }
 
-/// The four messages of the connect answer.
+/// Makes the four messages of the connect answer.
 pub fn connected(alloc: Global, window: u32, transaction: u64) -> Result<MessageList, OutOfMemory>
     ensures { IfOk result (λ list. list ≡ dialog.connected window transaction) }
 {
@@ -86,14 +86,14 @@ pub fn connected(alloc: Global, window: u32, transaction: u64) -> Result<Message
     Ok(MessageList::from_vec(list))
 }
 
-/// The answer to a createStream.
+/// Makes the answer to a createStream.
 pub fn created(alloc: Global, transaction: u64, id: u32) -> Result<MessageList, OutOfMemory>
     ensures { IfOk result (λ list. list ≡ answers 0 (Answer.Created transaction id) ∷ []) }
 {
     one(alloc, 0, &Answer::Created { transaction, id })
 }
 
-/// What is said to a publish or play by its grant.
+/// Gives the messages to a publish or play by its grant.
 pub fn refuse_by(
     alloc: Global,
     role: Role,
@@ -110,7 +110,7 @@ pub fn refuse_by(
     }
 }
 
-/// The call that a publish or play of a name makes by its grant.
+/// Gives the call that a publish or play of a name makes by its grant.
 pub fn call_by(role: Role, name: Bytes, grant: Option<Grant>) -> Option<Act>
     ensures { result ≡ calls_by role name grant }
 {
@@ -125,7 +125,7 @@ pub fn call_by(role: Role, name: Bytes, grant: Option<Grant>) -> Option<Act>
     }
 }
 
-/// The unit that is published by a message, where a publish is granted. It takes over the message's body.
+/// Gives the unit that a message publishes, if a publish is granted. It takes over the message's body.
 pub fn unit_in(phase: Phase, message: Message) -> Option<Unit>
     requires { length message.body ≤ 4194304 }
     ensures { result ≡ published_in phase message }
@@ -142,7 +142,7 @@ pub fn unit_in(phase: Phase, message: Message) -> Option<Unit>
     }
 }
 
-/// What is said at the reply to a Begin.
+/// Gives the messages after the reply to a Begin.
 pub fn begun(alloc: Global, id: u32, reply: &Reply) -> Result<MessageList, OutOfMemory>
     ensures { IfOk result (λ list. list ≡ told_publish id reply.now) }
 {
@@ -153,7 +153,7 @@ pub fn begun(alloc: Global, id: u32, reply: &Reply) -> Result<MessageList, OutOf
     }
 }
 
-/// What is said at the reply to a Join.
+/// Gives the messages after the reply to a Join.
 pub fn joined(alloc: Global, id: u32, reply: &Reply) -> Result<MessageList, OutOfMemory>
     ensures { IfOk result (λ list. list ≡ told_play id reply.now) }
 {
@@ -163,7 +163,7 @@ pub fn joined(alloc: Global, id: u32, reply: &Reply) -> Result<MessageList, OutO
     }
 }
 
-/// The call by which a role ends where its message stream is closed.
+/// Gives the call that ends a role when its message stream is closed.
 pub fn end_of(id: u32, phase: Phase) -> Option<Act>
     ensures { result ≡ ends id phase }
 {
@@ -181,14 +181,16 @@ pub fn end_of(id: u32, phase: Phase) -> Option<Act>
     }
 }
 
-/// What a player on that message stream is shown of a Begin item: Stream Begin and PublishNotify.
+/// Gives the messages that show a Begin item to a player on that message stream: Stream Begin and
+/// PublishNotify.
 pub fn begin_messages(alloc: Global, id: u32) -> Result<MessageList, OutOfMemory>
     ensures { IfOk result (λ list. list ≡ shown id item.Begin) }
 {
     event_and(alloc, STREAM_BEGIN, id, &Answer::PublishNotify)
 }
 
-/// What a player on that message stream is shown of an End item: Stream EOF and UnpublishNotify.
+/// Gives the messages that show an End item to a player on that message stream: Stream EOF and
+/// UnpublishNotify.
 pub fn end_messages(alloc: Global, id: u32) -> Result<MessageList, OutOfMemory>
     ensures { IfOk result (λ list. list ≡ shown id item.End) }
 {

@@ -13,7 +13,7 @@ use std::marker::Model;
 use std::snapshot::Snapshot;
 use stream_model::Reply;
 
-/// What was met: a message with its grant, or a reply. It has no bytes but a tag.
+/// One event of the dialogue: a message with its grant, or a reply. It has no bytes but a tag.
 #[derive(Drop)]
 pub struct Met {
     is: Result<Pair<Message, Option<Grant>>, Snapshot<Reply>>,
@@ -43,7 +43,7 @@ fn met_reply(reply: &Reply) -> Met
     }
 }
 
-/// The dialogue with one peer, which stands for all that was met so far.
+/// The dialogue with one peer, which stands for all events so far.
 #[derive(Drop)]
 pub struct Talk {
     dialog: Dialog,
@@ -63,7 +63,7 @@ impl Model for Talk {
 }
 
 impl Talk {
-    /// Nothing was met yet.
+    /// Makes a dialogue without events.
     pub fn new(alloc: Global, window: u32) -> Talk
         ensures { result ≡ record { window = window; past = [] } }
     {
@@ -74,7 +74,7 @@ impl Talk {
         }
     }
 
-    /// What a message means after all that was met.
+    /// Gives the meaning of a message after all events so far.
     pub fn asks(&self, alloc: Global, message: &Message) -> Result<Meant, DialogFail>
         ensures { MatchResult result (λ m. meaning (now_in self.now) message.now ≡ Ok m)
             (λ e. (e ≡ DialogFail.OutOfMemory) ⊎ (meaning (now_in self.now) message.now ≡ Err e)) }
@@ -82,7 +82,7 @@ impl Talk {
         self.dialog.asks(alloc, message)
     }
 
-    /// Does what the message makes.
+    /// Carries out a message: gives its messages and its call.
     pub fn step(
         &mut self,
         alloc: Global,
@@ -104,7 +104,7 @@ impl Talk {
         Ok(acts)
     }
 
-    /// Does what the stream's reply makes.
+    /// Takes the stream's reply, and gives the messages that follow from it.
     pub fn answered(&mut self, alloc: Global, reply: &Reply) -> Result<MessageList, DialogFail>
         ensures says { IfOk result (λ list. list ≡ (one (now_in self.old) (an_answer reply.now)).says) }
         ensures past { IfOk result (λ _. self.new ≡ talked self.old (an_answer reply.now)) }
@@ -116,7 +116,7 @@ impl Talk {
         Ok(says)
     }
 
-    /// The granted play after all that was met.
+    /// Gives the granted play after all events so far.
     pub fn playing(&self) -> Option<Playing>
         ensures { result ≡ playing_in (now_in self.now).phase }
     {

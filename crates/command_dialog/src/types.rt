@@ -6,16 +6,16 @@ use av_unit::{Bytes, OutOfMemory, Unit, Want};
 use std::alloc::AllocFailed;
 use thiserror::Error;
 
-/// What a peer does on one of its message streams.
-#[derive(Clone, Copy, Debug, PartialEq, Eq)]
+/// The use that a peer makes of one of its message streams.
+#[derive(Clone, Copy)]
 pub enum Role {
     Publish,
     Play,
 }
 
-/// A publish or play that is to be granted: the app of the connect, and of its text the name before
-/// the first `?` and the key after it.
-#[derive(Debug, PartialEq, Eq, Drop)]
+/// A publish or play that needs a grant: the app of the connect, and of its text the name before the first
+/// `?` and the key after it.
+#[derive(Drop)]
 pub struct Ask {
     pub role: Role,
     pub app: Bytes,
@@ -23,8 +23,8 @@ pub struct Ask {
     pub key: Bytes,
 }
 
-/// What is granted to a publish or play: a place, or why there is none.
-#[derive(Clone, Copy, Debug, PartialEq, Eq)]
+/// The grant of a publish or play: a place, or why there is none.
+#[derive(Clone, Copy)]
 pub enum Grant {
     /// No place has that app and name.
     NoName,
@@ -34,9 +34,9 @@ pub enum Grant {
     Place(u32),
 }
 
-/// A call that is to be made at a stream: at the place of a Begin or Join, and from then on at that
-/// same place. These two have the name that was asked for.
-#[derive(Debug, PartialEq, Eq, Drop)]
+/// A call to make at a stream: at the place of a Begin or Join, and from then on at that same place. These
+/// two have the requested name.
+#[derive(Drop)]
 pub enum Act {
     Begin { place: u32, name: Bytes },
     Join { place: u32, name: Bytes },
@@ -46,8 +46,8 @@ pub enum Act {
     Leave(u32),
 }
 
-/// What a message makes: messages to the peer, and after them at most one call at a stream.
-#[derive(Debug, Drop)]
+/// The effects of a message: messages to the peer, and after them at most one call at a stream.
+#[derive(Drop)]
 pub struct Acts {
     pub says: MessageList,
     pub makes: Option<Act>,
@@ -55,7 +55,7 @@ pub struct Acts {
 
 /// A granted play: the player's place in its stream, its message stream, its switches, and whether
 /// it is paused.
-#[derive(Clone, Copy, Debug, PartialEq, Eq)]
+#[derive(Clone, Copy)]
 pub struct Playing {
     pub player: u32,
     pub id: u32,
@@ -63,11 +63,11 @@ pub struct Playing {
     pub paused: bool,
 }
 
-/// The role of a peer: none, one whose call at the stream has had no reply yet, or a granted one. The
-/// ids are those of message streams. `size` is how many bytes the lengths of NAL units have by the last
-/// video configuration that was pushed since the publish began; 0 where there was none, or it tells no
-/// such number.
-#[derive(Clone, Copy, Debug, PartialEq, Eq)]
+/// The role of a peer: none, one whose call at the stream has had no reply yet, or a granted one. The ids are
+/// those of message streams. `size` is the number of bytes of a NAL unit's length, by the last video
+/// configuration that was pushed since the publish began. It is 0 if there was none, or it gives no such
+/// number.
+#[derive(Clone, Copy)]
 pub enum Phase {
     Idle,
     Asked { role: Role, id: u32 },
@@ -75,18 +75,18 @@ pub enum Phase {
     Plays(Playing),
 }
 
-/// What a player turns.
-#[derive(Clone, Copy, Debug, PartialEq, Eq)]
+/// The switches of a player.
+#[derive(Clone, Copy)]
 pub enum Switch {
     Audio,
     Video,
     Pause,
 }
 
-/// What a message means where the dialogue stands.
-#[derive(Debug, Drop)]
+/// The meaning of a message in the present state of the dialogue.
+#[derive(Drop)]
 pub enum Meant {
-    /// It is passed over.
+    /// It is ignored.
     Passed,
     /// The first connect, with the pattern of its transaction and its app.
     Connects { transaction: u64, app: App },
@@ -94,7 +94,7 @@ pub enum Meant {
     Creates { transaction: u64, id: u32 },
     /// A publish or play on an open id while a role is active.
     Busy { role: Role, id: u32 },
-    /// A publish or play on an open id that is to be granted.
+    /// A publish or play on an open id that needs a grant.
     Asks { ask: Ask, id: u32 },
     /// A deleteStream of an open id.
     Closes { id: u32 },
@@ -105,9 +105,9 @@ pub enum Meant {
 }
 
 /// Why a message ends the dialogue.
-#[derive(Clone, Copy, Debug, PartialEq, Eq, Error)]
+#[derive(Clone, Copy, Debug, Error)]
 pub enum DialogFail {
-    /// A command body that is no command, and the place in it.
+    /// The body of a command message that isn't a command, and the place of the fault in it.
     #[error("a command message that is no command, at byte {at} of it")]
     BadCommand { at: usize },
     /// A createStream while 16 message streams are open.

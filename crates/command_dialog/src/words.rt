@@ -10,7 +10,7 @@ fn mark(text: &[u8]) -> Option<usize>
     text.iter().position(|c| *c == b'?')
 }
 
-/// What stands before the first `?`.
+/// Gives the bytes before the first `?`.
 pub fn name_of(text: &[u8]) -> &[u8]
     ensures { result.now ≡ name_in text.now }
 {
@@ -20,7 +20,7 @@ pub fn name_of(text: &[u8]) -> &[u8]
     }
 }
 
-/// What follows the first `?`, else nothing.
+/// Gives the bytes after the first `?`, else none.
 pub fn key_of(text: &[u8]) -> &[u8]
     ensures { result.now ≡ key_in text.now }
 {

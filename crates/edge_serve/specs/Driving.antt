@@ -102,7 +102,8 @@ pub record CanPull (app name : List ℕ) (max : ℕ) (rules : PortRules) : Type 
   pub most : max ≤ 4194304
   pub there : edge_place < places rules
 
--- it has pulled, and its line says so, unless there was no memory. Then too what was played over the link was the stream
+-- it has pulled, and its line says so, unless there was no memory. Then too what was played over the link was
+-- the stream
 pub record IsPulled (k : Asked) (max : ℕ) (rules rules' : PortRules) (histories : Histories) (e : EdgeEnd) (line : List ℕ) (o o' : Origin) : Type 0 where
   pub fixed : rules' ≡ rules
   pub played : HasPlayed k max o o'

@@ -21,8 +21,8 @@ use Rattle.stream_registry.specs.Refusals.{IsFull}
 use Rattle.edge_serve.specs.Line.{edge_line}
 use Rattle.edge_serve.specs.Pulls.{HasPlayed, HasPulled, Origin, edge_name, edge_place}
 
--- WHAT IS SEEN WHERE ALL WERE SERVED, by what each place was asked to the end: what `serve` reports, and behind it the line of the edge, how
--- that has pulled, and why it has ended
+-- WHAT IS SEEN WHERE ALL WERE SERVED, by what each place was asked to the end: what `serve` reports, and
+-- behind it the line of the edge, how that has pulled, and why it has ended
 pub record ReportsBoth (k : Asked) (config : Config) (attempts : ℕ → List Attempt) (old new : Seen) (o o' : Origin) : Type 0 where
   -- what is seen before the line is written
   pub mid : Seen
@@ -39,8 +39,8 @@ pub record ReportsBoth (k : Asked) (config : Config) (attempts : ℕ → List At
   pub spared : ended ≢ edge.OutOfMemory
   pub full : ended ≡ edge.Worn → IsFull (shapes edge_place) (attempts edge_place)
 
--- HOW A CONFIGURATION THAT IS ACCEPTED IS SERVED beside an edge. Where the report couldn't be written the stream was played over the link all the
--- same, and where nobody could be served the link wasn't used
+-- HOW A CONFIGURATION THAT IS ACCEPTED IS SERVED beside an edge. Where the report couldn't be written the
+-- stream was played over the link all the same, and where nobody could be served the link wasn't used
 abbrev pub RunsBoth : Asked → Config → (ℕ → List Attempt) → Seen → Seen → Origin → Origin → Ending → Type 0
 RunsBoth k config attempts old new o o' end.Served =
     ReportsBoth k config attempts old new o o' × (new.sink_faults ≡ old.sink_faults) × (new.house.faults ≡ old.house.faults)

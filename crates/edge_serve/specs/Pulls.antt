@@ -66,8 +66,8 @@ ClientCause client.OutOfMemory max fed all n n' = ⊥
 abbrev pub IsLast : ℕ → Call → Reply → List Own → Type 0
 IsLast who c r calls = (before : List Own) × (calls ≡ before ++ (entry_of who c, r) ∷ [])
 
--- WHY IT HAS: by its client, as somebody else publishes at its place, or as that has no slot for it. A full history and want of memory are
--- no matter of the link: they are told of apart
+-- WHY IT HAS: by its client, as somebody else publishes at its place, or as that has no slot for it. A full
+-- history and want of memory are no matter of the link: they are told of apart
 abbrev pub EdgeCause : EdgeEnd → Option ClientEnd → ℕ → List Own → ℕ → ℕ → List ℕ → LinkCounts → LinkCounts → Type 0
 EdgeCause edge.Client (Some e) who calls max fed all n n' = ClientCause e max fed all n n'
 EdgeCause edge.Client None who calls max fed all n n' = ⊥
@@ -96,8 +96,8 @@ PartsBy who (Some c) left = (r : Reply) × (left ≡ (entry_of who c, r) ∷ [])
 abbrev pub Parts : ℕ → Active → List Own → Type 0
 Parts who a left = PartsBy who (last_of a) left
 
--- HOW IT LEFT its place: by the call that ends what it was granted. Where the history there was full, or there was no memory, that call may
--- not have been made, and one that waited may have been
+-- HOW IT LEFT its place: by the call that ends what it was granted. Where the history there was full, or
+-- there was no memory, that call may not have been made, and one that waited may have been
 abbrev pub LeftBy : EdgeEnd → ℕ → List Own → List Own → Type 0
 LeftBy edge.Client who calls left = Parts who (granted_by active.Nothing calls) left
 LeftBy (edge.InUse by) who calls left = Parts who (granted_by active.Nothing calls) left
@@ -108,8 +108,8 @@ LeftBy edge.Closed who calls left = ⊥
 
 -- ---- the whole
 
--- THIS STREAM WAS PLAYED OVER THE LINK, with messages of at most so many bytes: the link took a beginning of what a client owes that plays
--- it, for the first of the bytes that the link gave
+-- THIS STREAM WAS PLAYED OVER THE LINK, with messages of at most so many bytes: the link took a beginning of
+-- what a client owes that plays it, for the first of the bytes that the link gave
 pub record HasPlayed (k : Asked) (max : ℕ) (old new : Origin) : Type 0 where
   -- what its client was fed of what the link gave, and the messages that this reads as
   pub y : List ℕ
@@ -122,9 +122,9 @@ pub record HasPlayed (k : Asked) (max : ℕ) (old new : Origin) : Type 0 where
   pub more : List ℕ
   pub owes : took ++ more ≡ out k y ms []
 
--- AN EDGE HAS PULLED THIS STREAM, and has ended so: it was played over the link. The edge's calls stand in the history of its place, in
--- their order and each once, answered by the rules: those for what its client was told by the bytes that it was fed, and then the one by
--- which it left
+-- AN EDGE HAS PULLED THIS STREAM, and has ended so: it was played over the link. The edge's calls stand in
+-- the history of its place, in their order and each once, answered by the rules: those for what its client
+-- was told by the bytes that it was fed, and then the one by which it left
 pub record HasPulled (k : Asked) (max who place : ℕ) (limits : ℕ → Shape) (histories : Histories) (e : EdgeEnd) (c : Option ClientEnd)
     (old new : Origin) : Type 0 where
   pub link : HasPlayed k max old new

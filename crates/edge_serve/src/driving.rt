@@ -9,7 +9,7 @@ ghost use Rattle.edge_serve.specs.Driving.{DrivenBy, Drives, HasDriven, HasLeft}
 ghost use Rattle.edge_serve.specs.Pulls.{Origin, origin};
 
 use crate::pulling::PLACE;
-use crate::telling::tell_begun;
+use crate::telling::{tell_begun, tell_live};
 use origin_pull::{Edge, EdgeEnd, EdgeTurn};
 use relay_outside::{Link, Rest};
 use relay_session::Leaving;
@@ -45,7 +45,8 @@ fn tell_moved<R: Rest>(rest: &mut R) {
     rest.moved();
 }
 
-/// Turns an edge until it has ended, with a pause after each turn in which nothing moved. Its link is told when the stream is played.
+/// Turns an edge until it has ended, with a pause after each turn in which nothing moved. Its link is told when
+/// the stream is played, and when a broadcast begins and ends.
 pub(crate) fn drive<W: Wait, P: StreamPort, L: Link, R: Rest>(
     rt: &W,
     alloc: Global,
@@ -69,8 +70,10 @@ pub(crate) fn drive<W: Wait, P: StreamPort, L: Link, R: Rest>(
         → HasDriven k max who place start (origin (L.told link.new) (L.counts link.new)) result edge.new }
 {
     let mut told = false;
+    let mut live = false;
     for _ in rt.forever() {
         told = tell_begun(&*link, edge.started(), told, app, name);
+        live = tell_live(&*link, edge.is_live(), live, app, name);
         match turn_once(alloc, edge, port, link) {
             EdgeTurn::Moved => tell_moved(rest),
             EdgeTurn::Idle => rest.pause(),
@@ -80,8 +83,8 @@ pub(crate) fn drive<W: Wait, P: StreamPort, L: Link, R: Rest>(
     unreachable!()
 }
 
-/// Closes an edge that has ended until it has left its place, with a pause after each time that it couldn't. Whether the history there is
-/// full.
+/// Closes an edge that has ended until it has left its place, with a pause after each time that it
+/// couldn't. Whether the history there is full.
 pub(crate) fn leave<W: Wait, P: StreamPort, R: Rest>(
     rt: &W,
     edge: &mut Edge<P>,

@@ -28,7 +28,8 @@ const NAME: u64 = (1 << 61) + (1 << 60);
 /// Its place.
 pub(crate) const PLACE: u32 = 0;
 
-/// What is pulled: the stream of an origin, and how many bytes its longest message may have.
+/// The target of a pull: the stream of an origin, and the number of bytes that its longest message may
+/// have.
 #[derive(Clone, Copy)]
 pub(crate) struct Stream<'a> {
     pub app: &'a [u8],
@@ -36,7 +37,7 @@ pub(crate) struct Stream<'a> {
     pub longest: u32,
 }
 
-/// What is left of an edge: its port and its link, why it has ended, and its line in the report.
+/// The remains of an edge: its port and its link, the reason why it has ended, and its line in the report.
 #[derive(Drop)]
 pub(crate) struct Pulled<L: Link> {
     pub port: Shared<PlaceTable>,
@@ -77,7 +78,7 @@ fn new_edge<P: StreamPort>(client: Client) -> Edge<P>
     Edge::new(NAME, PLACE, client)
 }
 
-// Why it has ended, where it has left a place whose history is full or isn't.
+// The reason why it has ended, if it has left a place whose history is full or isn't.
 fn end_then(end: EdgeEnd, worn: bool) -> EdgeEnd
     ensures { result ≡ end_then end worn }
 {
@@ -88,7 +89,7 @@ fn end_then(end: EdgeEnd, worn: bool) -> EdgeEnd
     }
 }
 
-// Its line, and why it has ended then: for want of memory, where there was none for the line.
+// Returns its line, and the reason why it has ended then: want of memory, if there was none for the line.
 fn line_of(alloc: Global, end: EdgeEnd, client: &Option<ClientEnd>) -> (EdgeEnd, Vec<u8>)
     ensures end { (result.0 ≡ end) ⊎ (result.0 ≡ EdgeEnd.OutOfMemory) }
     ensures line { result.0 ≢ EdgeEnd.OutOfMemory → result.1.items ≡ edge_line result.0 client.now }
@@ -99,8 +100,8 @@ fn line_of(alloc: Global, end: EdgeEnd, client: &Option<ClientEnd>) -> (EdgeEnd,
     }
 }
 
-/// Pulls the stream until that is over, and leaves. An edge for which there was no memory, and one whose line had none, have ended for
-/// want of it.
+/// Pulls the stream until that is over, and leaves. An edge for which there was no memory, or none for its
+/// line, has ended for want of memory.
 pub(crate) fn pull<W: Wait, L: Link, R: Rest>(
     rt: &W,
     alloc: Global,

@@ -30,7 +30,7 @@ use std::sync::Wait;
 use std::thread::{Threads, join};
 use stream_registry::{PlaceTable, Shared};
 
-/// What `edge` leaves: its status, and the link to the origin.
+/// The outcome of `edge`: its status, and the link to the origin.
 #[derive(Drop)]
 pub struct Edged<L: Link> {
     pub status: Status,
@@ -103,7 +103,8 @@ where
     )
 }
 
-// The place of the edge, where the history there is full. Where that couldn't be noted the edge has ended for want of memory.
+// Returns the place of the edge, if the history there is full. If that couldn't be noted the edge has ended
+// for want of memory.
 fn full_places(alloc: Global, end: EdgeEnd) -> (Vec<u32>, EdgeEnd)
     ensures end { (result.1 ≡ end) ⊎ (result.1 ≡ EdgeEnd.OutOfMemory) }
     ensures full { result.1 ≡ EdgeEnd.Worn → Contains result.0.items edge_place }
@@ -118,7 +119,7 @@ fn full_places(alloc: Global, end: EdgeEnd) -> (Vec<u32>, EdgeEnd)
     }
 }
 
-// Writes the line of an edge that has ended so. One that had no memory has none.
+// Writes the line of an edge that has ended with `end`. An edge that had no memory has none.
 fn put_line<K: Sink>(end: EdgeEnd, line: &[u8], out: &mut K) -> Ending
     ensures { LinesAs end line.now (K.holds out.old) (K.faults out.old) (K.holds out.new) (K.faults out.new) result }
 {
@@ -232,19 +233,22 @@ fn end<T: Threads + Wait + Sync, H: House, L: Link + Send, Q: Rest + Send, S: So
     }
 }
 
-/// Serves by a configuration as [`relay_serve::serve`] does, and beside its workers pulls a stream of another relay, its origin, over a link
-/// to that, and publishes it at the configuration's first place: its first stream, or its first open table where it has none. It may wait.
+/// Serves by a configuration as [`relay_serve::serve`] does, and beside its workers pulls a stream of
+/// another relay, its origin, over a link to that. It publishes the stream at the configuration's first
+/// place: its first stream, or its first open table if it has no stream. It may wait.
 ///
-/// The words are `edge FILE ADDRESS APP NAME`, where APP and NAME have 1 to 255 bytes and a key may stand in NAME behind `?`; whom the
-/// address names, and the file, are the caller's affair. The edge is 2^61 + 2^60 by its name, takes messages as long as the configuration allows, and runs in a
-/// thread of its own: it is turned until it has ended, with a pause after each turn in which nothing moved, and is then closed. So the broadcast that is
-/// live ends here when its origin is lost. The server goes on then, and ends as by `serve`. The link is told when the stream is played, and why
-/// the edge has ended.
+/// The words are `edge FILE ADDRESS APP NAME`. APP and NAME have 1 to 255 bytes, and a key may stand in
+/// NAME behind `?`. The server that the address names, and the file, are the caller's affair. The edge is
+/// 2^61 + 2^60 by its name, takes messages as long as the configuration allows, and runs in a thread of its
+/// own. It is turned until it has ended, with a pause after each turn in which nothing moved, and is then
+/// closed. So the broadcast that is live ends here when its origin is lost. The server goes on then, and
+/// ends as by `serve`. The link is told when the stream is played, and the reason why the edge has ended.
 ///
-/// The code is that of `serve`. With 0 the report has one more line, `edge E`: E is why the edge has ended, in the words of a replay. An edge
-/// that has ended for want of memory has no line, and the code is 6.
+/// The code is that of `serve`. With 0 the report has one more line, `edge E`: E is why the edge has ended,
+/// in the words of a replay. An edge that has ended for want of memory has no line, and the code is 6.
 ///
-/// An edge holds at most what the configuration counts for a session: so much more than the configured sum is held.
+/// An edge holds at most the bytes that the configuration counts for a session. So all together hold at most
+/// the configured sum and that number.
 pub fn edge<T: Threads + Wait + Sync, H: House, L: Link + Send, Q: Rest + Send, S: Source, K: Sink>(
     rt: &T,
     alloc: Global,

@@ -1,4 +1,4 @@
-//! What the link to an origin is told of its edge, each thing once.
+//! News of an edge for the link to its origin, each thing once.
 
 use origin_pull::EdgeEnd;
 use relay_outside::{Denied, Ending, Link, News};
@@ -18,7 +18,7 @@ fn shown(name: &[u8]) -> &[u8] {
     &name[..most]
 }
 
-/// Tells a link that the stream is played, where it is and that wasn't told. Whether it was told then.
+/// Tells a link that the stream is played, if it is and that wasn't told. Returns whether it was told then.
 pub(crate) fn tell_begun<L: Link>(
     link: &L,
     started: bool,
@@ -30,6 +30,21 @@ pub(crate) fn tell_begun<L: Link>(
         link.tell(News::Plays, shown(app), shown(name));
     }
     started || told
+}
+
+/// Tells a link that a broadcast has begun or has ended, if the last news of it isn't that. Whether one is live.
+pub(crate) fn tell_live<L: Link>(
+    link: &L,
+    live: bool,
+    told: bool,
+    app: &[u8],
+    name: &[u8],
+) -> bool {
+    if live != told {
+        let news = if live { News::Publishes } else { News::Left };
+        link.tell(news, shown(app), shown(name));
+    }
+    live
 }
 
 /// Tells a link why its edge has ended.
@@ -47,7 +62,7 @@ fn over(ending: Ending, at: Option<u64>) -> News {
     News::Ended { ending, at }
 }
 
-// Where the origin refuses the stream it doesn't say why.
+// If the origin refuses the stream it doesn't say why.
 fn client_news(client: &Option<ClientEnd>) -> News {
     match client {
         None => over(Ending::Quit, None),

@@ -14,7 +14,7 @@ fn is_short(word: &[u8]) -> bool
     0 < word.len() && word.len() <= 255
 }
 
-// What these words ask for.
+// The request in these words.
 fn asked_by<'a>(word: &[u8], address: &'a [u8], app: &'a [u8], name: &'a [u8]) -> Option<Target<'a>>
     ensures asked { option_map (λ t. pull_of t.app.now t.name.now) result ≡ asked_by word.now app.now name.now }
     ensures short { IfSome result (λ t. AreShort t.app.now t.name.now) }
@@ -26,7 +26,8 @@ fn asked_by<'a>(word: &[u8], address: &'a [u8], app: &'a [u8], name: &'a [u8]) -
     }
 }
 
-/// What the words ask for, where they are `edge FILE ADDRESS APP NAME`; APP and NAME have 1 to 255 bytes.
+/// Returns the request in the words, if they are `edge FILE ADDRESS APP NAME`. APP and NAME have 1 to 255
+/// bytes.
 pub fn edge_target(words: &[Vec<u8>]) -> Option<Target<'_>>
     ensures asked { option_map (λ t. pull_of t.app.now t.name.now) result ≡ asked_of (map (λ w. w.items) words.now) }
     ensures short { IfSome result (λ t. AreShort t.app.now t.name.now) }

@@ -14,7 +14,8 @@ most_bytes = 2 ^ 36
 abbrev pub most_pending : ℕ
 most_pending = 65536
 
--- what is seen of a source and a sink: what is left of the one and what the other holds, where they tell it, and their faults
+-- what is seen of a source and a sink: what is left of the one and what the other holds, where they tell it,
+-- and their faults
 pub record Seen : Type 0 where
   pub left : Option (List ℕ)
   pub held : Option (List ℕ)
@@ -31,9 +32,9 @@ IsCode code = (code ≡ 0) ⊎ ((code ≡ 2) ⊎ ((code ≡ 3) ⊎ ((code ≡ 4)
 abbrev pub IsReadTo : List ℕ → Seen → Seen → Type 0
 IsReadTo read old new = (rest : List ℕ) × (old.left ≡ Some (read ++ rest)) × (new.left ≡ Some rest)
 
--- A command is told by the text that bytes give so far (`Gives`: bytes, text), by where they are refused (`Stops`: bytes, place,
--- the text of what stands before) or why they can't end (`Cut`: the same), and by what they give in the end (`Whole`: bytes,
--- whether something was left out, text).
+-- A command is told by the text that bytes give so far (`Gives`: bytes, text), by where they are refused
+-- (`Stops`: bytes, place, the text of what stands before) or why they can't end (`Cut`: the same), and by
+-- what they give in the end (`Whole`: bytes, whether something was left out, text).
 module _ (Gives : List ℕ → List ℕ → Type 0) where
   -- some first bytes give this text
   pub record GivenBy (read text : List ℕ) : Type 0 where
@@ -102,7 +103,8 @@ module _ (Gives : List ℕ → List ℕ → Type 0) (Stops Cut : List ℕ → �
   WritesUpTo file at before now = (text : List ℕ) × Refused file at text × (now ≡ append_known before text)
 
 module _ (Gives : List ℕ → List ℕ → Type 0) (Stops Cut : List ℕ → ℕ → List ℕ → Type 0) (Whole : List ℕ → Bool → List ℕ → Type 0) where
-  -- what a status says of the source and the sink before and after, where `asked` says whether the words ask for the command
+  -- what a status says of the source and the sink before and after, where `asked` says whether the words ask
+  -- for the command
   pub record Outcome (asked : Bool) (old new : Seen) (status : Status) : Type 0 where
     pub words : (status.code ≡ 2) ↔ (asked ≡ false)
     pub read : (status.code ≡ 0) ⊎ (status.code ≡ 8) → IsAtEnd new.left

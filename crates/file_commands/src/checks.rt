@@ -11,22 +11,23 @@ use relay_base::Status;
 use relay_outside::{Sink, Source};
 use std::alloc::Global;
 
-/// Tells the units of a transport stream (ISO/IEC 13818-1) of the form that `remux` writes: a line for each, and their
-/// number.
+/// Prints the units of a transport stream (ISO/IEC 13818-1) of the form that `remux` writes: a line for each,
+/// and their number.
 ///
-/// The one word is `check`. A line is `video PTS DTS LEN` or `audio PTS LEN`, times in 1/90,000 second and LEN the payload's
-/// bytes; the last is `units N`. The answer's code tells how it ended:
+/// The one word is `check`. A line is `video PTS DTS LEN` or `audio PTS LEN`, with times in 1/90,000 second
+/// and LEN the number of bytes of the payload. The last line is `units N`. The code of the answer says how
+/// the command ended:
 ///
-/// | Code | Comes | Written |
+/// | Code | Condition | Written |
 /// |---|---|---|
 /// | 0 | the stream was read to its end | the lines of its units, and their number |
-/// | 2 | exactly where the words aren't `check` alone; nothing is read | nothing |
-/// | 3 | only where the source's faults rose | the lines of the units that were read, but for the last of these lines: fewer than 65,536 bytes |
-/// | 4 | the stream is refused at `place`: at that of [`ts_reader::TsFail`], or at 2^36 where it has more bytes | the lines of the units before |
-/// | 5 | only where the sink's faults rose | a first part of the lines of the units that were read, and of their number |
-/// | 6 | for want of memory | the same |
+/// | 2 | exactly if the words aren't `check` alone; nothing is read | nothing |
+/// | 3 | only if the source's faults rose | the lines of the units read, except for at most 65,535 last bytes |
+/// | 4 | the stream is refused at `place` | the lines of the units before |
+/// | 5 | only if the sink's faults rose | a first part of the lines of the units read, and of their number |
+/// | 6 | memory was refused | the same |
 ///
-/// `place` is 0 but for code 4.
+/// For code 4, `place` is that of [`ts_reader::TsFail`], or 2^36 if the stream has more bytes. Else it is 0.
 pub fn check<S: Source, K: Sink>(
     alloc: Global,
     words: &[Vec<u8>],

@@ -5,14 +5,14 @@ use crate::fail::Fail;
 use av_unit::Bytes;
 use std::alloc::Global;
 
-/// A file that is read as its bytes come, and becomes a text.
+/// The state of a conversion: a file is read as its bytes come, and becomes a text.
 pub(crate) trait Convert: Drop {
     // The bytes that it was fed, and the text that they gave.
     ghost fed: { Self → List ℕ };
 
     ghost given: { Self → List ℕ };
 
-    // What it keeps of them, where none were refused.
+    // The property that it keeps as long as no bytes are refused.
     ghost fits: { Self → Type 0 };
 
     // The text that bytes give, whatever follows.
@@ -24,10 +24,10 @@ pub(crate) trait Convert: Drop {
     // The same of bytes that may not end here.
     ghost cut: { List ℕ → ℕ → List ℕ → Type 0 };
 
-    // What a whole file becomes, and whether something of it is left out.
+    // The text that a whole file becomes, and whether a part of it is left out.
     ghost whole: { List ℕ → Bool → List ℕ → Type 0 };
 
-    // What is known of it once a whole file has ended.
+    // The facts known of it once a whole file has ended.
     ghost told: { Self → List ℕ → Type 0 };
 
     /// Takes bytes of the piece, and appends the text that they give.
@@ -39,7 +39,7 @@ pub(crate) trait Convert: Drop {
         ensures ok { IfOk result (λ used. Steps (fed self.old) (given self.old) piece.now used out.old (fed self.new) (given self.new) out.new) }
         ensures err { IfErr result (λ e. StepFails stops e (fed self.old ++ piece.now) (given self.old) out.old out.new) };
 
-    /// Ends the file, and appends the text that it still gives. It says whether something was left out.
+    /// Ends the file, and appends the text that remains. It returns whether a part of the file was left out.
     fn finish(&mut self, alloc: Global, out: &mut Bytes) -> Result<bool, Fail>
         requires fits { fits self.old }
         requires near { length (fed self.old) ≤ 2 ^ 36 }
@@ -47,6 +47,6 @@ pub(crate) trait Convert: Drop {
         ensures told { OnOk result (told self.new (fed self.old)) }
         ensures err { IfErr result (λ e. StepFails cut e (fed self.old) (given self.old) out.old out.new) };
 
-    // What it was fed gives its text.
+    // The bytes that it was fed give its text.
     ghost reads: { (c : Self) → fits c → gives (fed c) (given c) };
 }

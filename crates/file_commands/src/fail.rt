@@ -3,8 +3,8 @@ ghost use Rattle.file_commands.specs.declared.fail.Fail.TheVariants.{OutOfMemory
 
 use av_unit::OutOfMemory;
 
-/// Why a file isn't read to its end.
-#[derive(Clone, Copy, Debug, Drop, PartialEq, Eq)]
+/// The reason why a file isn't read to its end.
+#[derive(Clone, Copy, Drop)]
 pub(crate) enum Fail {
     /// It is refused at that byte.
     Refused { at: u64 },

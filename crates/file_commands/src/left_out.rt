@@ -6,16 +6,16 @@ use std::fmt;
 use std::fmt::{Display, Formatter};
 use ts_writer::{Left, Wrote};
 
-/// How many units are left out of a transport stream, and why the first of these is. The count stands still at the last value
-/// of a u64.
-#[derive(Clone, Copy, Debug, Drop, PartialEq, Eq)]
+/// The number of units left out of a transport stream, and why the first of these is. The count stops at the
+/// last value of a u64.
+#[derive(Clone, Copy, Drop)]
 pub struct LeftOut {
     pub count: u64,
     pub first: Option<Left>,
 }
 
 impl LeftOut {
-    /// None is.
+    /// Makes a count of 0.
     pub fn none() -> LeftOut
         ensures { result ≡ none_left }
     {
@@ -25,7 +25,7 @@ impl LeftOut {
         }
     }
 
-    /// Notes what was done with one item more.
+    /// Notes the result of writing one more item.
     pub(crate) fn note(&mut self, wrote: Wrote)
         ensures { self.new ≡ noted self.old wrote }
     {

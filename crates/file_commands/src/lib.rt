@@ -1,21 +1,23 @@
-//! The commands that turn one file into another: [`remux`] makes a transport stream of a file of FLV, and [`check`] tells
-//! the units of a transport stream.
+//! The commands that turn one file into another: [`remux`] makes a transport stream of a file of FLV, and
+//! [`check`] prints the units of a transport stream.
 //!
-//! Each reads its input as it comes, writes as it goes, and keeps one unit at most beside what it reads and writes at a
-//! time. A file has at most 2^36 bytes; the first byte behind them is refused. How a command ended is told by the exit code of
-//! its [`Status`](relay_base::Status):
+//! Read [`remux`] first. The crate opens no files: a command is handed its source and its sink.
 //!
-//! | Code | Comes | Written |
+//! Each command reads its input as it comes, writes as it goes, and keeps at most one unit besides the piece
+//! that it reads and writes at a time. A file has at most 2^36 bytes; the first byte after them is refused.
+//! The exit code of a command's [`Status`](relay_base::Status) says how it ended:
+//!
+//! | Code | Condition | Written |
 //! |---|---|---|
 //! | 0 | the input was read to its end | all |
-//! | 2 | exactly where the words aren't those of the command; nothing is read | nothing |
-//! | 3 | only where the source's faults rose | what the bytes give that were read, but for its last bytes, fewer than 65,536 |
-//! | 4 | the input is refused at the byte `place` | what stands before gives |
-//! | 5 | only where the sink's faults rose | a first part of what the bytes give that were read |
-//! | 6 | for want of memory | a first part of what the bytes give that were read |
-//! | 8 | `remux` alone: as 0, and a unit of sound or pictures was left out | all |
+//! | 2 | exactly if the words aren't those of the command; nothing is read | nothing |
+//! | 3 | only if the source's faults rose | the text of the bytes read, except for at most 65,535 last bytes |
+//! | 4 | the input is refused at the byte `place` | the text of the bytes before |
+//! | 5 | only if the sink's faults rose | a first part of the text of the bytes read |
+//! | 6 | memory was refused | a first part of the text of the bytes read |
+//! | 8 | `remux` alone: as 0, and a unit of audio or video was left out | all |
 //!
-//! `place` is 0 but for code 4.
+//! `place` is 0 except for code 4.
 #![tactic(auto)]
 
 mod cause;

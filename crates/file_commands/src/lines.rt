@@ -39,7 +39,8 @@ pub(crate) fn put_count(alloc: Global, count: u64, out: &mut Bytes) -> Result<()
     out.append(text.as_str().as_bytes())
 }
 
-/// Appends the line of the last unit, if there is one, and that of the number of all, of which so many stand before.
+/// Appends the line of the last unit, if there is one, and the line with the number of all units, of which
+/// `count` stand before.
 pub(crate) fn put_last(
     alloc: Global,
     last: &Option<TsUnit>,

@@ -6,7 +6,7 @@ use crate::fail::Fail;
 use put_text::PutFail;
 use relay_outside::Sink;
 
-/// Puts all of the text.
+/// Puts all bytes of the text.
 pub(crate) fn put_all<K: Sink>(out: &mut K, text: &[u8]) -> Result<(), Fail>
     ensures text { MatchResult result (λ _. K.holds out.new ≡ append_known (K.holds out.old) text.now)
         (λ fail. PutFails fail text.now (K.holds out.old) (K.holds out.new)) }

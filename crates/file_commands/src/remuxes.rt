@@ -12,17 +12,18 @@ use relay_base::Status;
 use relay_outside::{Sink, Source};
 use std::alloc::Global;
 
-/// How a file was made a transport stream, and what of a whole file isn't in it.
-#[derive(Clone, Copy, Debug, Drop, PartialEq, Eq)]
+/// The result of making a file a transport stream, and the parts of a whole file that aren't in it.
+#[derive(Clone, Copy, Drop)]
 pub struct Remuxed {
     pub status: Status,
-    /// How many units of a file that was read to its end were left out, and why the first of these was.
+    /// The number of units left out of a file that was read to its end, and why the first of these was.
     pub left_out: LeftOut,
-    /// Whether a picture of Enhanced RTMP stands in a file that was read to its end. It has no class, so it isn't counted.
+    /// Whether a file that was read to its end has a video tag of Enhanced RTMP. Such a tag has no class, so
+    /// it isn't counted.
     pub enhanced: bool,
 }
 
-// What is told of a file that wasn't read to its end.
+// Returns the report of a file that wasn't read to its end.
 fn nothing_told(status: Status) -> Remuxed
     ensures status { result.status ≡ status }
     ensures nothing { TellsNothing result }
@@ -34,7 +35,7 @@ fn nothing_told(status: Status) -> Remuxed
     }
 }
 
-// What is told of a file whose reading ended so.
+// Returns the report of a file whose reading ended with this status.
 fn told(status: Status, file: &Tags) -> Remuxed
     ensures status { result.status ≡ status }
     ensures left { IsWholeCode status.code → result.left_out ≡ file.now.left_out }
@@ -53,21 +54,21 @@ fn told(status: Status, file: &Tags) -> Remuxed
 
 /// Makes a transport stream (ISO/IEC 13818-1) of a file of FLV: that of a Begin and of the units of its tags.
 ///
-/// The one word is `remux`. A tag is a unit by `class_of`; one without a class writes nothing and isn't counted as left out.
-/// Which units are left out, and the tables and packets of the others, are told at `TsWriter`. The answer's code tells how it
-/// ended:
+/// The one word is `remux`. A tag is a unit by `class_of`. A tag without a class writes nothing and isn't
+/// counted as left out. `TsWriter` documents the units that are left out, and the tables and packets of the
+/// others. The code of the answer says how the command ended:
 ///
-/// | Code | Comes | Written |
+/// | Code | Condition | Written |
 /// |---|---|---|
 /// | 0 | the file was read to its end, and no unit was left out | the text of its tags |
-/// | 2 | exactly where the words aren't `remux` alone; nothing is read | nothing |
-/// | 3 | only where the source's faults rose | the text of the tags that were read, but for its last bytes, fewer than 65,536 |
-/// | 4 | the file is refused at `place`: at that of [`flv_tags::FlvFail`], or at 2^36 where it has more bytes | the text of the tags before |
-/// | 5 | only where the sink's faults rose | a first part of the text of the tags that were read |
-/// | 6 | for want of memory | a first part of the text of the tags that were read |
-/// | 8 | the file was read to its end, and a unit of sound or pictures was left out | the text of its tags |
+/// | 2 | exactly if the words aren't `remux` alone; nothing is read | nothing |
+/// | 3 | only if the source's faults rose | the text of the tags read, except for at most 65,535 last bytes |
+/// | 4 | the file is refused at `place` | the text of the tags before |
+/// | 5 | only if the sink's faults rose | a first part of the text of the tags read |
+/// | 6 | memory was refused | a first part of the text of the tags read |
+/// | 8 | the file was read to its end, and a unit of audio or video was left out | the text of its tags |
 ///
-/// `place` is 0 but for code 4.
+/// For code 4, `place` is that of [`flv_tags::FlvFail`], or 2^36 if the file has more bytes. Else it is 0.
 pub fn remux<S: Source, K: Sink>(
     alloc: Global,
     words: &[Vec<u8>],
@@ -82,7 +83,8 @@ pub fn remux<S: Source, K: Sink>(
     remux_and_tell(alloc, words, input, out).status
 }
 
-/// Does what [`remux`] does, and tells what of a file that was read to its end isn't in its transport stream.
+/// Does the same as [`remux`], and reports the parts of a file read to its end that aren't in its transport
+/// stream.
 pub fn remux_and_tell<S: Source, K: Sink>(
     alloc: Global,
     words: &[Vec<u8>],

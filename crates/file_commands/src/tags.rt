@@ -12,11 +12,11 @@ use flv_tags::{FlvFail, Tag, TagFed, TagReader};
 use std::alloc::Global;
 use ts_writer::TsWriter;
 
-/// The type of a tag of pictures.
+/// The type of a video tag.
 const VIDEO: u8 = 9;
 
-/// The tags of a file, and the transport stream of their units: what is left out of it, and whether a picture of Enhanced RTMP
-/// stands among them.
+/// The tags of a file, and the transport stream of their units: the units left out of it, and whether a video
+/// tag of Enhanced RTMP is among them.
 #[derive(Drop)]
 pub(crate) struct Tags {
     reader: TagReader,
@@ -25,7 +25,7 @@ pub(crate) struct Tags {
     pub(crate) enhanced: bool,
 }
 
-// Whether it is a picture of Enhanced RTMP (IsExHeader).
+// Returns whether it is a video tag of Enhanced RTMP (IsExHeader).
 #[tactic(auto, using(std::proofs::lemmas::Bool::Decides::nat_tests))]
 fn is_enhanced(tag: &Tag) -> bool
     ensures { result ≡ is_enhanced tag.now }
@@ -66,7 +66,8 @@ fn write_unit(
     Ok(())
 }
 
-// Writes the unit of a tag, if it has a class. No picture is told apart as disposable: it makes no difference to the text.
+// Writes the unit of a tag, if it has a class. No video is classed as disposable: it makes no difference to
+// the text.
 fn write_tag(
     alloc: Global,
     writer: &mut TsWriter,
@@ -85,7 +86,7 @@ fn write_tag(
 }
 
 impl Tags {
-    /// A file of which nothing was read. A broadcast begins, which writes nothing.
+    /// Makes the state of a file of which nothing was read. A broadcast begins, which writes nothing.
     #[tactic(auto, unfolding(ts_writer::specs::Text::item_text))]
     pub(crate) fn new(alloc: Global, out: &mut Bytes) -> Result<Tags, OutOfMemory>
         ensures fits { IfOk result (λ t. TagsFit t.reader t.writer t.left_out t.enhanced) }

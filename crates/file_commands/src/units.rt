@@ -1,4 +1,4 @@
-//! A transport stream that is told unit by unit.
+//! A transport stream that is printed unit by unit.
 ghost use Rattle.std.specs.Prelude.{◌≡◌, [], refl};
 ghost use Rattle.file_commands.specs.Fits.{UnitsFit, units_refusal};
 
@@ -9,7 +9,7 @@ use av_unit::Bytes;
 use std::alloc::Global;
 use ts_reader::{TsFail, TsFed, TsReader};
 
-/// The units of a transport stream, and how many were told.
+/// The units of a transport stream, and the number of units printed.
 #[derive(Drop)]
 pub(crate) struct Units {
     reader: TsReader,
@@ -34,7 +34,7 @@ fn refusal(fail: TsFail) -> Fail
 }
 
 impl Units {
-    /// A stream of which nothing was read.
+    /// Makes the state of a stream of which nothing was read.
     pub(crate) fn new(alloc: Global) -> Units
         ensures fits { UnitsFit result.reader result.count }
         ensures fresh { (result.reader.fed ≡ []) × (result.reader.given ≡ []) }

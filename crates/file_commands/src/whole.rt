@@ -13,13 +13,14 @@ use relay_base::Status;
 use relay_outside::{Got, Sink, Source};
 use std::alloc::Global;
 
-/// How many bytes of a file are read at most.
+/// The largest number of bytes of a file that are read.
 const MOST_BYTES: u64 = 1 << 36;
 
-/// How many bytes are asked of a source at a time, and from how many on what is written is put.
+/// The number of bytes asked of a source at a time, and the number of written bytes from which on they are
+/// put.
 const PIECE: usize = 65_536;
 
-// Puts the text where it has grown enough.
+// Puts the text if it has grown enough.
 fn put_some<K: Sink>(out: &mut K, text: &mut Bytes) -> Result<(), Fail>
     ensures goes { (given : List ℕ) (before : Option (List ℕ)) → Writes given text.old before (K.holds out.old)
         → MatchResult result (λ _. Writes given text.new before (K.holds out.new)) (λ fail. PutFails fail given before (K.holds out.new)) }
@@ -61,7 +62,7 @@ fn take_piece<C: Convert, K: Sink>(
     Ok(())
 }
 
-// Takes a piece, or what of it is read, where so many bytes stand before it.
+// Takes a piece, or the part of it that is read. `place` is the number of bytes before the piece.
 fn take_within<C: Convert, K: Sink>(
     alloc: Global,
     file: &mut C,
@@ -110,7 +111,7 @@ fn end<C: Convert, K: Sink>(
     Ok(some_out)
 }
 
-// Reads a file to its end, with that piece at a time.
+// Reads a file to its end, with this piece at a time.
 fn read_all<C: Convert, S: Source, K: Sink>(
     alloc: Global,
     file: &mut C,
@@ -171,7 +172,7 @@ fn read_file<C: Convert, S: Source, K: Sink>(
     read_all(alloc, file, text, &mut piece, input, out)
 }
 
-// What a failure is in the end: where the file is refused, what is pending is put.
+// Returns the failure in the end. If the file is refused, the pending text is put first.
 fn settle<K: Sink>(fail: Fail, text: &[u8], out: &mut K) -> Fail
     ensures settles { Settles fail result text.now (K.holds out.old) (K.holds out.new) }
     ensures faults { SettlesFaults fail result (K.faults out.old) (K.faults out.new) }

@@ -14,12 +14,12 @@ pub fn one_reading()
     ensures { (b : List ℕ) (ts us : List Tag) (q r : List ℕ) → Reads b ts q → Reads b us r → SameReading ts us q r }
 {}
 
-/// The first bytes of what is read are read too, as the first of its tags.
+/// If bytes are read, their first bytes are read too, as the first of the tags.
 pub fn beginnings_are_read()
     ensures { (b : List ℕ) (n : ℕ) (ts : List Tag) (r : List ℕ) → Reads b ts r → ReadsPart b n ts }
 {}
 
-/// Where a byte is refused, no list that begins with the bytes up to it and with it is read.
+/// If a byte is refused, no list that begins with the bytes up to and including it is read.
 pub fn refused_bytes_are_not_read()
     ensures { (b more : List ℕ) (e : FlvFail) (n : ℕ) (ts us : List Tag) (r : List ℕ) → Stops b n ts e → Reads (take (n + 1) b ++ more) us r → ⊥ }
 {}
@@ -29,14 +29,14 @@ pub fn one_refusal()
     ensures { (b : List ℕ) (c d : FlvFail) (m n : ℕ) (ts us : List Tag) → Stops b m ts c → Stops b n us d → SameStop c d m n ts us }
 {}
 
-/// What `write_header` and `write_tag` write, or `write_item` for items, is a file of these tags.
+/// The bytes that `write_header` and `write_tag` write, or `write_item` for items, are a file of these tags.
 pub fn what_is_written_is_a_file()
     ensures tags { (ts : List Tag) → AllByRecursion IsWritten ts → IsFile (tags_text ts) ts }
     ensures items { (items : List Item) → AllByRecursion IsHeld items → IsFile (flv_text items) (flat_map tags_of items) }
 {}
 
-/// A file is read as its tags, however it is cut: its first bytes as the first of them, with nothing refused, and all of
-/// its bytes as all of them, with nothing left.
+/// A file is read as its tags, however it is cut. Its first bytes are read as the first of the tags, without
+/// a refusal, and all its bytes as all tags, with no bytes left.
 pub fn a_file_is_read_back()
     ensures part { (b more : List ℕ) (ts us : List Tag) (r : List ℕ) → IsFile (b ++ more) ts → Reads b us r → (later : List Tag) × (ts ≡ us ++ later) }
     ensures accepted { (b more : List ℕ) (n : ℕ) (ts us : List Tag) (e : FlvFail) → IsFile (b ++ more) ts → Stops b n us e → ⊥ }

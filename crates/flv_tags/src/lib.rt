@@ -1,9 +1,9 @@
-//! The file format FLV, both ways: a header, and a tag for each unit of audio, video or script data.
+//! Reads and writes the file format FLV: a header, and a tag for each unit of audio, video or script data.
 //!
 //! The section numbers are those of Adobe's FLV 10.1, annex E.
 //!
-//! Read `TagReader::feed` first. The tags of bytes are `specs/Reads.antt`, the bytes of tags `specs/Text.antt`. It opens no file, and
-//! says nothing of what the bodies hold.
+//! Read `TagReader::feed` first. The tags of bytes are `specs/Reads.antt`, the bytes of tags
+//! `specs/Text.antt`. It opens no file, and doesn't look into the bodies.
 #![tactic(auto)]
 
 mod fail;

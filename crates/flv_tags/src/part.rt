@@ -19,7 +19,8 @@ const BACK: usize = 4;
 /// The longest body that is read or written, in bytes.
 const MOST_BYTES: u32 = 4_194_304;
 
-/// What is there of a tag that isn't whole: of its header, of its body, and of the number that counts both.
+/// The bytes so far of a tag that isn't whole: of its header, of its body, and of the number that counts
+/// both.
 #[derive(Drop)]
 pub(crate) struct Part {
     pub head: Vec<u8>,
@@ -30,28 +31,28 @@ pub(crate) struct Part {
 /// Why a byte of a tag is refused.
 #[derive(Clone, Copy)]
 pub(crate) enum Cause {
-    /// No tag begins so.
+    /// No tag begins with this byte.
     NoTag,
-    /// The tag is counted back wrongly.
+    /// The number after the tag isn't its length.
     Back { stored: u32, real: u32 },
     Memory,
 }
 
-/// How many bytes of a piece were taken, and the tag that they complete.
+/// The number of bytes taken of a piece, and the tag that they complete.
 #[derive(Drop)]
 pub(crate) struct Taken {
     pub used: usize,
     pub tag: Option<Tag>,
 }
 
-/// Whether tags of this type are read.
+/// Tells whether tags of this type are read.
 pub(crate) fn is_read(kind: u8) -> bool
     ensures { result ≡ is_kind kind }
 {
     kind == 8 || kind == 9 || kind == 18
 }
 
-// The bytes of the body that a tag's header tells.
+// Gives the length of the body by a tag's header, in bytes.
 #[tactic(auto, unfolding(crate::specs::Layout::size_in))]
 fn size_of(head: &[u8]) -> u32
     requires { 4 ≤ length head.now }
@@ -61,7 +62,7 @@ fn size_of(head: &[u8]) -> u32
     be24(&head[1..])
 }
 
-// The time that it tells.
+// Gives the time by the header.
 #[tactic(auto, unfolding(crate::specs::Layout::time_in))]
 fn time_of(head: &[u8]) -> u32
     requires { 8 ≤ length head.now }
@@ -70,7 +71,7 @@ fn time_of(head: &[u8]) -> u32
     head[7] as u32 * 16_777_216 + be24(&head[4..])
 }
 
-/// Nothing of a tag.
+/// Gives the state before a tag.
 pub(crate) fn nothing(alloc: Global) -> Part
     ensures part { IsPart result }
     ensures none { part_bytes result ≡ [] }
@@ -82,7 +83,7 @@ pub(crate) fn nothing(alloc: Global) -> Part
     }
 }
 
-/// How many bytes are there.
+/// Gives the number of bytes so far.
 pub(crate) fn len(part: &Part) -> u64
     requires { length (part_bytes part.now) < 2 ^ 64 }
     ensures { result ≡ length (part_bytes part.now) }
@@ -90,7 +91,7 @@ pub(crate) fn len(part: &Part) -> u64
     part.head.len() as u64 + part.body.len() as u64 + part.back.len() as u64
 }
 
-// Whether the last of these bytes of a header is refused.
+// Tells whether the last of these bytes of a header is refused.
 #[tactic(auto, using(std::proofs::lemmas::Bool::Decides::nat_tests))]
 fn is_refused(head: &[u8]) -> bool
     requires kind { 1 < length head.now → is_kind (kind_in head.now) ≡ true }
@@ -133,7 +134,7 @@ fn make_room(body: &mut Bytes, size: usize) -> Result<(), OutOfMemory>
     Ok(())
 }
 
-// Takes bytes of the body, which are no more than are missing.
+// Takes bytes of the body, at most those that are missing.
 fn body_run(part: &mut Part, size: usize, run: &[u8]) -> Result<(), OutOfMemory>
     requires part { IsPart part.old }
     requires late { length part.old.head.items ≡ 11 }
@@ -147,7 +148,7 @@ fn body_run(part: &mut Part, size: usize, run: &[u8]) -> Result<(), OutOfMemory>
     Ok(())
 }
 
-// Takes out the tag, whose header is whole, and leaves nothing.
+// Takes out the tag, whose header is whole, and leaves the state before a tag.
 fn take_tag(part: &mut Part, alloc: Global) -> Tag
     requires { length part.old.head.items ≡ 11 }
     ensures tag { result ≡ record { kind = kind_in part.old.head.items; time = time_in part.old.head.items; body = part.old.body } }

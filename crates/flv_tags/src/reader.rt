@@ -23,8 +23,8 @@ const BEFORE_TAGS: u64 = 13;
 // The place of the header's flags.
 const FLAGS: u64 = 4;
 
-/// What a feed used of its piece, and the tag that ends there.
-#[derive(Debug, PartialEq, Eq, Drop)]
+/// The result of a feed: the number of bytes used of its piece, and the tag that ends there.
+#[derive(Drop)]
 pub struct TagFed {
     pub used: usize,
     pub tag: Option<Tag>,
@@ -51,7 +51,7 @@ impl Model for TagReader {
     ghost invariant = { λ r. IsSound r.part r.count r.failed r.fed r.given };
 }
 
-// Whether the byte after so many is refused in the header.
+// Tells whether the byte after the first `count` is refused in the header.
 fn is_refused(count: u64, byte: u8) -> bool
     requires { count < 13 }
     ensures refused { result ≡ true → (count < 9) × (count ≢ 4) × (byte ≢ slice_index header count) }
@@ -60,7 +60,7 @@ fn is_refused(count: u64, byte: u8) -> bool
     count < COMPARED && count != FLAGS && byte != HEADER[count as usize]
 }
 
-// The refusal of a byte of a tag, after so many bytes of which so many are of the tag.
+// Gives the refusal of a byte of a tag, after `count` bytes, of which the last `begun` are of the tag.
 fn placed(cause: Cause, count: u64, begun: u64) -> FlvFail
     requires begun { begun ≤ count }
     requires late { 13 ≤ count }
@@ -77,7 +77,7 @@ fn placed(cause: Cause, count: u64, begun: u64) -> FlvFail
     }
 }
 
-// Takes the next bytes of a piece, where so many stand before it.
+// Takes the next bytes of a piece; `count` bytes of the file stand before it.
 fn take_some(part: &mut Part, alloc: Global, piece: &[u8], count: u64) -> Result<Taken, FlvFail>
     requires part { IsPart part.old }
     requires some { 0 < length piece.now }
@@ -110,7 +110,7 @@ fn note(given: &mut Flow<Tag>, tag: &Option<Tag>)
 }
 
 impl TagReader {
-    /// A reader that was fed nothing.
+    /// Makes a reader that was fed no bytes.
     pub fn new(alloc: Global) -> TagReader
         ensures { result ≡ record { fed = []; given = []; failed = None } }
     {
@@ -147,11 +147,11 @@ impl TagReader {
         }
     }
 
-    /// Takes a piece up to its end, or to the end of the tag that it completes, which is that of the four bytes after
-    /// the tag (E.3).
+    /// Takes a piece up to its end, or to the end of the tag that it completes. That is the end of the four
+    /// bytes after the tag (E.3).
     ///
-    /// It refuses the first byte by which what it was fed can't be a file (see `FlvFail`). A reader that refused
-    /// answers the same again.
+    /// It refuses the first byte after which the bytes fed can't be a file (see `FlvFail`). A reader that
+    /// refused gives the same answer again.
     pub fn feed(&mut self, alloc: Global, piece: &[u8]) -> Result<TagFed, FlvFail>
         requires near { length self.old.fed + length piece.now < 2 ^ 63 }
         ensures again { IfSome self.old.failed (λ e. (result ≡ Err e) × (self.new ≡ self.old)) }
@@ -176,8 +176,9 @@ impl TagReader {
         Ok(TagFed { used, tag: None })
     }
 
-    /// Whether what it was fed is a whole file: `BadHeader` where the first nine bytes of the header aren't whole,
-    /// `BadTag` where the four bytes after these or a tag isn't. A reader that refused a byte answers that again.
+    /// Tells whether the bytes fed are a whole file. `BadHeader` means that the first nine bytes of the
+    /// header aren't whole, `BadTag` that the four bytes after these or a tag isn't. A reader that refused a
+    /// byte gives that answer again.
     pub fn finish(&self) -> Result<(), FlvFail>
         ensures again { IfSome self.now.failed (λ e. result ≡ Err e) }
         ensures ok { self.now.failed ≡ None → OnOk result (IsFile self.now.fed self.now.given) }

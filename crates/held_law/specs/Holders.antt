@@ -11,15 +11,15 @@ use Rattle.relay_session.specs.Holding.{most_held}
 abbrev pub most_streamed : ℕ → ℕ
 most_streamed window = window + 196608
 
--- the open tables, as many as were configured or fewer: each of its names holds at most a window, one configuration of each kind, and
--- the name itself
+-- the open tables, as many as were configured or fewer: each of its names holds at most a window, one
+-- configuration of each kind, and the name itself
 abbrev pub AreTables : ℕ → List OpenRule → List ℕ → Type 0
 AreTables window opens [] = Unit {0}
 AreTables window [] (n ∷ tables) = ⊥
 AreTables window (o ∷ opens) (n ∷ tables) = (n ≤ o.names * (window + 196672)) × AreTables window opens tables
 
--- SO MANY BYTES EACH HOLDS: the streams, the open tables, the sessions of each worker, the HTTP players, and the recorders. Each holds
--- no more than its own bound, and there are no more of them than the configuration has
+-- SO MANY BYTES EACH HOLDS: the streams, the open tables, the sessions of each worker, the HTTP players, and
+-- the recorders. Each holds no more than its own bound, and there are no more of them than the configuration has
 pub record AreWithin (config : Config) (streams tables : List ℕ) (workers : List (List ℕ)) (players recorders : List ℕ) : Type 0 where
   pub few_streams : length streams ≤ length config.places
   pub each_stream : All (λ n. n ≤ most_streamed config.limits.ring_bytes) streams

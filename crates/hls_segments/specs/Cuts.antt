@@ -1,5 +1,5 @@
--- THE SEGMENTS of a stream, which are cut at the units that its transport stream has. Lists of items and of segments have the
--- newest first. Times are milliseconds modulo 2^32.
+-- THE SEGMENTS of a stream, which are cut at the units that its transport stream has. Lists of items and of
+-- segments have the newest first. Times are milliseconds modulo 2^32.
 use Rattle.std.specs.Prelude.{ℕ, ◌+◌, ◌-◌, ◌%◌, ◌^◌, Bool, true, false, ◌&&◌, ◌||◌, not, nat_lt, nat_le, if◌then◌else◌, List, [], ◌∷◌, ◌++◌, length}
 use Rattle.av_unit.specs.Media.{Media}
 use Rattle.av_unit.specs.declared.unit.Kind.{Kind}

@@ -1,4 +1,5 @@
--- What contracts see of a segmenter: the least span, the items that it was given, the newest first, and whether it has failed
+-- What contracts see of a segmenter: the least span, the items that it was given, the newest first, and
+-- whether it has failed
 use Rattle.std.specs.Prelude.{ℕ, List, [], ◌∷◌, Option, None, Some}
 use Rattle.av_unit.specs.declared.item.Item.{Item}
 use Rattle.hls_segments.specs.declared.cut.CutFail.{CutFail}

@@ -8,8 +8,8 @@ use Rattle.av_unit.specs.declared.item.Item.TheVariants.{Begin, Unit as AUnit, E
 use Rattle.ts_writer.specs.declared.left.Wrote.{Wrote}
 use Rattle.ts_writer.specs.declared.left.Wrote.TheVariants.{Unit as AWritten, Nothing as NothingWritten, LeftOut}
 
--- a text begins with the packet of an association table: the byte behind the first has the start bit and the highest bits of
--- the PID, which are 1 in a unit's packet and 0 in this
+-- a text begins with the packet of an association table: the byte behind the first has the start bit and the
+-- highest bits of the PID, which are 1 in a unit's packet and 0 in this
 abbrev pub has_tables : List ℕ → Bool
 has_tables [] = false
 has_tables (a ∷ []) = false

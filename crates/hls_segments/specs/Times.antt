@@ -1,6 +1,6 @@
 -- Only proofs and private functions use it.
--- What a segmenter keeps of the segments: the spans of those that are followed by another, the oldest first, and the times of
--- the first and the last unit of the one that is being written
+-- What a segmenter keeps of the segments: the spans of those that are followed by another, the oldest first,
+-- and the times of the first and the last unit of the one that is being written
 use Rattle.std.specs.Prelude.{◌≡◌, ℕ, ◌+◌, Bool, false, ◌&&◌, not, nat_lt, if◌then◌else◌, List, [], ◌∷◌, ◌++◌, length, reverse, is_some, Option, Some, None}
 use Rattle.av_unit.specs.declared.item.Item.{Item}
 use Rattle.av_unit.specs.declared.item.Item.TheVariants.{Begin, Unit as AUnit, End}

@@ -4,8 +4,8 @@ ghost use Rattle.hls_segments.specs.declared.cut.CutFail.TheVariants.{OutOfMemor
 use av_unit::OutOfMemory;
 use thiserror::Error;
 
-/// What an item did to the segments of those before it.
-#[derive(Clone, Copy, Debug, Drop, PartialEq, Eq)]
+/// The effect of an item on the segments of those before it.
+#[derive(Clone, Copy, Drop)]
 pub enum Cut {
     /// Its bytes begin the first segment.
     First,
@@ -18,7 +18,7 @@ pub enum Cut {
 }
 
 /// Why an item isn't cut.
-#[derive(Clone, Copy, Debug, Drop, PartialEq, Eq, Error)]
+#[derive(Clone, Copy, Debug, Drop, Error)]
 pub enum CutFail {
     /// It would begin a segment more than 100,000.
     #[error("more than 100,000 segments")]

@@ -7,14 +7,15 @@ ghost use Rattle.hls_segments.specs.Examples.{key_pictures, list_of_pictures, li
 ghost use Rattle.hls_segments.specs.Laws.{AreCut, CoversAll};
 ghost use Rattle.hls_segments.specs.ReadBack.{AreReadBack};
 
-/// The segments of items are one after the other their transport stream. Each begins with an association table and a map table,
-/// and then its first unit; each but the first begins with a key picture, or with sound where no pictures are listed; and each
-/// but the last spans at least so many milliseconds.
+/// The segments of items are, one after the other, their transport stream. Each begins with an association
+/// table and a map table, and then its first unit. Each but the first begins with a keyframe, or with audio
+/// if no video is listed. Each but the last spans at least the given number of milliseconds.
 pub fn segments_are_cut()
     ensures { (least : ℕ) (items : List Item) → AreCut least items }
 {}
 
-/// One after the other they are read as the bridged units: each picture and each sound that isn't left out, with its times.
+/// One after the other they are read as the bridged units: all video frames and audio frames that aren't left
+/// out, with their times.
 pub fn segments_are_read()
     ensures { (least : ℕ) (items : List Item) → AreReadBack least items }
 {}
@@ -25,7 +26,8 @@ pub fn a_target_covers_all()
     ensures { (list : List ℕ) → CoversAll list }
 {}
 
-/// Worked examples of the definitions: one frame of sound, and key pictures at 0, 2,000, 3,999 and 4,000 milliseconds.
+/// Worked examples of the definitions: one audio frame, and keyframes at 0, 2,000, 3,999 and 4,000
+/// milliseconds.
 pub fn worked_playlists()
     ensures sound { playlist (codes "a") (segments 2000 sound_items) ≡ list_of_sound }
     ensures pictures { playlist (codes "a") (segments 2000 key_pictures) ≡ list_of_pictures }

@@ -1,7 +1,8 @@
-//! A recording as segments of a transport stream (ISO/IEC 13818-1), and their playlist (RFC 8216), for any web server to serve.
+//! Cuts a recording into segments of a transport stream (ISO/IEC 13818-1), and writes their playlist (RFC
+//! 8216), for any web server to serve.
 //!
-//! Read `Segmenter::item` first. Where it cuts is `segments` (`specs/Cuts.antt`), the playlist `specs/Playlist.antt`. It makes no
-//! files: `segment_command` does.
+//! Read `Segmenter::item` first. Its cuts are `segments` (`specs/Cuts.antt`), the playlist
+//! `specs/Playlist.antt`. It makes no files: `segment_command` does.
 #![tactic(auto)]
 
 mod cut;

@@ -7,7 +7,7 @@ use crate::times::Times;
 use av_unit::{Bytes, OutOfMemory};
 use std::alloc::Global;
 
-/// The name of the file of a segment: `NAME-0.ts`, `NAME-1.ts` and so on, where NAME is the name.
+/// Gives the name of a segment's file: `NAME-0.ts`, `NAME-1.ts` and so on; NAME is the given name.
 pub fn file_name(alloc: Global, name: &[u8], number: u64) -> Result<Bytes, OutOfMemory>
     ensures { IfOk result (λ b. b ≡ file_name name.now number) }
 {
@@ -18,7 +18,7 @@ pub fn file_name(alloc: Global, name: &[u8], number: u64) -> Result<Bytes, OutOf
     Ok(text)
 }
 
-// A span in seconds with three digits behind the point.
+// Gives a span in seconds with three digits after the point.
 fn seconds(alloc: Global, span: u32) -> Result<String, OutOfMemory>
     ensures { IfOk result (λ text. string_bytes text ≡ seconds span) }
 {
@@ -67,7 +67,7 @@ fn put_entries(
     Ok(())
 }
 
-// Appends the lines of the last segment, before which so many stand.
+// Appends the lines of the last segment, which has the number `number`.
 fn put_last(
     alloc: Global,
     name: &[u8],
@@ -83,7 +83,7 @@ fn put_last(
     }
 }
 
-// A span in whole seconds.
+// Rounds a span to whole seconds.
 fn rounded(span: u32) -> u64
     ensures { result ≡ rounded span }
 {
@@ -99,7 +99,7 @@ fn longest_last(last: Option<u32>) -> u64
     }
 }
 
-// The greatest of the spans in whole seconds, and of 1.
+// Gives the greatest of the spans in whole seconds, and of 1.
 fn longest(spans: &[u32], last: Option<u32>) -> u64
     ensures { result ≡ target (spans.now ++ option_to_list last) }
 {
@@ -139,7 +139,7 @@ fn put_list(
     Ok(())
 }
 
-/// The playlist of segments with these times.
+/// Gives the playlist of segments with these times.
 pub(crate) fn text_of(alloc: Global, name: &[u8], times: &Times) -> Result<Bytes, OutOfMemory>
     ensures { IfOk result (λ b. b ≡ text_of name.now (all_spans times.now)) }
 {

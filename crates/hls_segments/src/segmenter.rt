@@ -20,8 +20,8 @@ use std::alloc::Global;
 use std::marker::Model;
 use ts_writer::{TsWriter, Wrote};
 
-// Whether a text begins with the packet of an association table (ISO/IEC 13818-1, 2.4.3.2). The byte behind the first has the
-// start bit and the highest bits of the PID.
+// Tells whether a text begins with the packet of an association table (ISO/IEC 13818-1, 2.4.3.2). The byte
+// after the first has the start bit and the highest bits of the PID.
 fn has_tables(text: &[u8]) -> bool
     ensures { result ≡ has_tables text.now }
 {
@@ -31,7 +31,7 @@ fn has_tables(text: &[u8]) -> bool
     }
 }
 
-// Whether a segment may begin at a unit of that kind with that text.
+// Tells whether a segment may begin at a unit of that kind with that text.
 fn opens(kind: Kind, pictures: bool, text: &[u8]) -> bool
     ensures { result ≡ opens kind pictures text.now }
 {
@@ -76,7 +76,7 @@ fn pictures_by(kind: Kind, before: bool, wrote: Wrote) -> bool
     }
 }
 
-// Whether pictures are listed after an item.
+// Tells whether video is listed after an item.
 fn pictures_after(before: bool, item: &Item, wrote: Wrote) -> bool
     ensures { result ≡ pictures_after before item.now wrote }
 {
@@ -154,13 +154,14 @@ fn write(
 
 /// Cuts the transport stream of items (ISO/IEC 13818-1) into segments for a playlist (RFC 8216).
 ///
-/// The first unit that is written begins the first segment. A later one begins the next where it is a key picture, or sound
-/// before which stand tables that list no pictures, and its time is at least so many milliseconds after that of the segment's
-/// first unit, and less than 2^31. Times are milliseconds modulo 2^32. A segment has the tables before its first unit, and all
-/// bytes up to the tables before the next segment's.
+/// The first unit that is written begins the first segment. A later unit begins the next segment under two
+/// conditions. It is a keyframe, or audio directly after tables that list no video. And its time is at least
+/// the least span, and less than 2^31 milliseconds, after that of the segment's first unit. Times are
+/// milliseconds modulo 2^32. A segment has the tables before its first unit, and all bytes up to the tables
+/// before the next segment's.
 ///
-/// It keeps the spans of the segments, of which there are at most 100,000. Contracts see it as the least span, the items that
-/// it was given, the newest first, and whether it has failed.
+/// It keeps the spans of the segments, of which there are at most 100,000. Contracts see it as the least
+/// span, the items that it was given, the newest first, and whether it has failed.
 #[derive(Drop)]
 pub struct Segmenter {
     span: u32,
@@ -184,7 +185,7 @@ impl Model for Segmenter {
 }
 
 impl Segmenter {
-    /// A segmenter that was given no item. Each segment but the last spans at least so many milliseconds.
+    /// Makes a segmenter that was given no item. Each segment but the last spans at least `span` milliseconds.
     pub fn new(alloc: Global, span: u32) -> Segmenter
         ensures { result ≡ fresh span }
     {
@@ -199,10 +200,10 @@ impl Segmenter {
         }
     }
 
-    /// Appends the bytes of an item, and says which segment they belong to.
+    /// Appends the bytes of an item, and gives the segment that they belong to.
     ///
-    /// `TooMany` comes exactly where a 100,001st segment would begin. After a refusal it answers the same, and nothing is
-    /// appended then.
+    /// `TooMany` comes exactly when a 100,001st segment would begin. After a refusal it gives the same answer
+    /// again, and appends nothing.
     pub fn item(&mut self, item: &Item, out: &mut Bytes) -> Result<Cut, CutFail>
         ensures known { OnOk result (self.new ≡ given self.old item.now) }
         ensures bytes { OnOk result (out.new ≡ out.old ++ item_text self.old.past item.now) }
@@ -237,15 +238,16 @@ impl Segmenter {
         }
     }
 
-    /// Whether an item was left out: one of other codecs, one that can't be read, or one without a configuration.
+    /// Tells whether an item was left out: one of other codecs, one that can't be read, or one without a
+    /// configuration.
     pub fn left_out(&self) -> bool
         ensures { result ≡ some_left_out self.now.past }
     {
         self.omits
     }
 
-    /// Appends the playlist of the segments (RFC 8216, 4), whose files are `NAME-0.ts`, `NAME-1.ts` and so on, where NAME is
-    /// the name. A refusal appends nothing.
+    /// Appends the playlist of the segments (RFC 8216, 4). Their files are `NAME-0.ts`, `NAME-1.ts` and so
+    /// on; NAME is the given name. A refusal appends nothing.
     pub fn playlist(&self, alloc: Global, name: &[u8], out: &mut Bytes) -> Result<(), OutOfMemory>
         ensures ok { OnOk result (out.new ≡ out.old ++ playlist name.now (segments self.now.least self.now.past)) }
         ensures err { OnErr result (out.new ≡ out.old) }

@@ -9,24 +9,24 @@ use crate::{Cut, CutFail};
 use std::alloc::Global;
 use std::marker::Model;
 
-/// How many segments there are at most.
+/// The largest number of segments.
 const MOST_SEGMENTS: usize = 100_000;
 
 /// The times of the first and the last unit of a segment.
-#[derive(Clone, Copy, Debug, Drop, PartialEq, Eq)]
+#[derive(Clone, Copy, Drop)]
 pub(crate) struct Ends {
     first: u32,
     last: u32,
 }
 
-// How much later a time is, modulo 2^32.
+// Gives the difference between two times, modulo 2^32.
 fn since(earlier: u32, later: u32) -> u32
     ensures { result ≡ since earlier later }
 {
     later.wrapping_sub(earlier)
 }
 
-// At least so long, and no step back.
+// Tells whether a difference is at least `least` and below 2^31, so no step back.
 fn is_long(least: u32, long: u32) -> bool
     ensures { result ≡ is_long least long }
 {
@@ -34,7 +34,7 @@ fn is_long(least: u32, long: u32) -> bool
 }
 
 impl Ends {
-    // Those of a segment of one unit.
+    // Gives the times of a segment of one unit.
     fn at(time: u32) -> Ends
         ensures { result ≡ record { first = time; last = time } }
     {
@@ -44,7 +44,7 @@ impl Ends {
         }
     }
 
-    // The span of the last segment.
+    // Gives the span of the last segment.
     fn last_span(self) -> u32
         ensures { result ≡ last_span self.first self.last }
     {
@@ -53,7 +53,7 @@ impl Ends {
     }
 }
 
-/// The spans of the segments that are followed by another, and the times of the one that is being written.
+/// The spans of the segments that another follows, and the times of the one that is being written.
 #[derive(Drop)]
 pub(crate) struct Times {
     spans: Vec<u32>,
@@ -69,7 +69,7 @@ impl Model for Times {
 }
 
 impl Times {
-    /// Those of no segment.
+    /// Gives the times of no segment.
     pub(crate) fn new(alloc: Global) -> Times
         ensures { result ≡ no_times }
     {
@@ -111,14 +111,14 @@ impl Times {
         }
     }
 
-    /// The spans of the segments that are followed by another, the oldest first.
+    /// Gives the spans of the segments that another follows, the oldest first.
     pub(crate) fn closed(&self) -> &[u32]
         ensures { result.now ≡ self.now.closed }
     {
         &self.spans
     }
 
-    /// The span of the segment that is being written.
+    /// Gives the span of the segment that is being written.
     pub(crate) fn last_span(&self) -> Option<u32>
         ensures { option_to_list result ≡ last_of self.now.current }
     {

@@ -129,8 +129,8 @@ IsThere count (stage.Joining place) = place < count
 IsThere count (stage.Telling r) = Unit {0}
 IsThere count (stage.Playing place player) = place < count
 
--- it belongs to a port of so many places: its pass was attached there, the place of its calls is there, and its calls are those
--- that were made
+-- it belongs to a port of so many places: its pass was attached there, the place of its calls is there, and
+-- its calls are those that were made
 pub record IsAt {Q : Type 0} (fits : ℕ → Q → Type 0) (count : ℕ) (c : Core) (s : SeatState Q) : Type 0 where
   pub fit : HasFit fits s.spot
   pub there : IsThere count c.stage

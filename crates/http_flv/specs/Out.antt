@@ -1,4 +1,5 @@
--- THE BYTES THAT A PLAYER IS OWED, by the bytes that came and its own calls with their replies, all at once. It knows no cutting
+-- THE BYTES THAT A PLAYER IS OWED, by the bytes that came and its own calls with their replies, all at once.
+-- It knows no cutting
 use Rattle.std.specs.Prelude.{◌≡◌, ℕ, Bool, true, false, List, [], ◌∷◌, ◌++◌, Option, Some, None}
 use Rattle.std.specs.List.{flat_map}
 use Rattle.av_unit.specs.declared.item.Item.{Item}
@@ -58,7 +59,8 @@ item_in _ = []
 abbrev pub taken : List Own → List Item
 taken calls = flat_map (λ (c : Own). item_in c.1) calls
 
--- what is owed by the reply to the Join, and the calls after it: an FLV of the items that they were sent, or that there is no place
+-- what is owed by the reply to the Join, and the calls after it: an FLV of the items that they were sent, or
+-- that there is no place
 abbrev pub owed_after : Reply → List Own → List ℕ
 owed_after (reply.Joined player from) takes = granted_text ++ flv_text (taken takes)
 owed_after _ takes = text_of ServiceUnavailable

@@ -30,8 +30,8 @@ abbrev pub IsLiving : Option HttpEnd → Core → Type 0
 IsLiving None c = IsSound c
 IsLiving (Some e) c = HasEnded c
 
--- WHAT WAS SENT AND WHAT IS PENDING IS WHAT IT IS OWED before this desk; of one that has ended, what was sent begins that, and is
--- the whole text where it was told no
+-- WHAT WAS SENT AND WHAT IS PENDING IS WHAT IT IS OWED before this desk; of one that has ended, what was sent
+-- begins that, and is the whole text where it was told no
 abbrev pub StandsBy : Option HttpEnd → (Ask → Grant) → Core → Type 0
 StandsBy None desk c = StandsBefore desk c
 StandsBy (Some e) desk c = OverBy desk c e
@@ -61,7 +61,8 @@ pub record Lasting : Type 0 where
 abbrev pub lasting_of : Core → Lasting
 lasting_of c = record { who = c.who; longest = c.longest }
 
--- HOW MANY BYTES IT HOLDS: of a head that isn't whole, and of the text or the item that is being sent, which counts whole
+-- HOW MANY BYTES IT HOLDS: of a head that isn't whole, and of the text or the item that is being sent, which
+-- counts whole
 abbrev pub held_of : Core → ℕ
 held_of c = length c.head + size_of c.out
 

@@ -85,7 +85,8 @@ pub record IsHeard (desk : Ask → Grant) (c : Core) (b : List ℕ) (d : Core) :
   pub read : IsRead d.x verdict
   pub done : IsDone (decide desk verdict) c d
 
--- its Join was answered: it plays, and the text of that and an FLV's header are to be sent, or the text that there is no place
+-- its Join was answered: it plays, and the text of that and an FLV's header are to be sent, or the text that
+-- there is no place
 pub record IsJoined (place : ℕ) (c : Core) (e : Entry) (r : Reply) (d : Core) : Type 0 where
   pub rest : d ≡ record c { calls = c.calls ++ (e, r) ∷ []; stage = after_join place r; kept = None; out = d.out }
   pub left : d.out.left ≡ owed_after r []
@@ -267,8 +268,8 @@ module _ {P S : Type 0} (asks : P → S → ℕ → Entry → Made → P → S �
       Input v l moved a w m = (came : Came) × (hears l 4096 came m × CameAs came v moved a w)
 
       module _ (says : L → List ℕ → Said → L → Type 0) where
-        -- ---- STEP 4: one send of the first 16,384 bytes pending, or of all. Where a text other than 200 was then sent whole it
-        -- ends
+        -- ---- STEP 4: one send of the first 16,384 bytes pending, or of all. Where a text other than 200 was
+        -- then sent whole it ends
         abbrev pub ToldBy : Option ℕ → Life P S → L → HttpTurn → Life P S → L → Type 0
         ToldBy None v l a w m = Input v l true a w m
         ToldBy (Some code) v l a w m = IsEnded (end.Answered code) v a w × (m ≡ l)

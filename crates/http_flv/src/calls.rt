@@ -18,7 +18,7 @@ use std::snapshot::Snapshot;
 use stream_model::{Call, Entry, Reply};
 use stream_registry::StreamPort;
 
-/// The answer of a turn that moved something, or that did nothing.
+/// Returns the answer of a turn that moved something, or that did nothing.
 pub(crate) fn answer_of(moved: bool) -> HttpTurn
     ensures { result ≡ answer moved }
 {
@@ -29,7 +29,7 @@ pub(crate) fn answer_of(moved: bool) -> HttpTurn
     }
 }
 
-// Whether a reply finds nothing for the player.
+// Returns whether a reply finds nothing for the player.
 fn finds_nothing(reply: &Reply) -> bool
     ensures { result ≡ is_not_yet reply.now }
 {
@@ -57,15 +57,15 @@ fn either(a: bool, b: bool) -> bool
     a || b
 }
 
-// A call waits.
+// Keeps a call, which waits.
 fn keep(core: &mut Core, entry: Entry)
     ensures { core.new ≡ waiting core.old entry }
 {
     core.kept = Some(entry);
 }
 
-/// Makes the Join that waited until then, and hears its reply. True where it was made, false where the port was busy: then it
-/// waits on.
+/// Makes the Join that waited until then, and takes in its reply. Returns true if it was made, and false if
+/// the port was busy: then it waits on.
 pub(crate) fn make<P: StreamPort>(
     body: &mut Body<P>,
     port: &mut P,
@@ -105,7 +105,8 @@ pub(crate) fn make<P: StreamPort>(
     }
 }
 
-/// Makes a Take as this player at this place, where it plays there and nothing is pending, and hears its reply.
+/// Makes a Take as this player at this place, if it plays there and nothing is pending, and takes in its
+/// reply.
 pub(crate) fn take<P: StreamPort>(
     body: &mut Body<P>,
     port: &mut P,

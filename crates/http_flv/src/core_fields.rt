@@ -3,9 +3,12 @@ use av_unit::Bytes;
 use past::{Flow, Pair};
 use stream_model::{Entry, Reply};
 
-/// What a player keeps of its peer's bytes and of what it owes. `longest` is how many bytes the longest unit has that it sends,
-/// `head` the bytes of a head that isn't whole, `fed` how many bytes it has read. `x`, these bytes, `later`, those that came after
-/// the head and were dropped, `calls`, its own calls with their replies, and `sent`, the bytes sent, are of no bytes.
+/// The state that a player keeps of its peer's bytes and of the bytes that it owes. `longest` is the number
+/// of bytes of the longest unit that it sends, `head` the bytes of a head that isn't whole, `fed` the number
+/// of bytes that it has read.
+///
+/// These fields take no bytes: `x`, the bytes read, `later`, those that came after the head and were dropped,
+/// `calls`, its own calls with their replies, and `sent`, the bytes sent.
 #[derive(Drop)]
 pub struct Core {
     pub who: u64,

@@ -1,4 +1,4 @@
-//! What is to be done about a request.
+//! The decision on a request.
 ghost use Rattle.std.specs.Prelude.{◌≡◌, IfOk};
 ghost use Rattle.http_request.specs.Targets.{is_get_method, plain};
 ghost use Rattle.http_request.specs.Heads.{IsRead, read_as};
@@ -11,18 +11,18 @@ use http_request::{Head, Names, Refusal, is_get, names_in, read_head};
 use relay_session::Desk;
 use std::alloc::Global;
 
-/// What is to be done about a request.
-#[derive(Debug, PartialEq, Eq, Drop)]
+/// The decision on a request.
+#[derive(Drop)]
 pub enum Decision {
     /// Nothing yet.
     Later,
-    /// It is told no.
+    /// It is refused.
     Tell(Refusal),
     /// The broadcast of that name at this place is joined.
     Join { place: u32, name: Bytes },
 }
 
-// A copy of a text.
+// Copies a text.
 fn bytes_of(alloc: Global, text: &[u8]) -> Result<Bytes, OutOfMemory>
     ensures { IfOk result (λ bytes. bytes ≡ text.now) }
 {
@@ -31,7 +31,7 @@ fn bytes_of(alloc: Global, text: &[u8]) -> Result<Bytes, OutOfMemory>
     Ok(bytes)
 }
 
-// What a play of these names asks.
+// Returns the question to the desk for a play of these names.
 fn ask_of(alloc: Global, names: &Names<'_>) -> Result<Ask, OutOfMemory>
     ensures { IfOk result (λ ask. ask ≡ out.ask_of (record { app = names.now.app.now; name = names.now.name.now; key = names.now.key.now })) }
 {
@@ -43,7 +43,7 @@ fn ask_of(alloc: Global, names: &Names<'_>) -> Result<Ask, OutOfMemory>
     })
 }
 
-// What a grant makes of the request for a broadcast of that name.
+// Returns the decision for a grant on the request for a broadcast of that name.
 fn by_grant(name: Bytes, grant: Grant) -> Decision
     ensures { decided result ≡ out.by_grant name grant }
 {
@@ -54,7 +54,7 @@ fn by_grant(name: Bytes, grant: Grant) -> Decision
     }
 }
 
-// What these names make of it.
+// Returns the decision for these names.
 fn by_names<D: Desk>(
     alloc: Global,
     desk: &D,
@@ -73,7 +73,7 @@ fn by_names<D: Desk>(
     }
 }
 
-// What a method and a target make of it.
+// Returns the decision for a method and a target.
 fn by_line<D: Desk>(
     alloc: Global,
     desk: &D,
@@ -89,7 +89,8 @@ fn by_line<D: Desk>(
     }
 }
 
-/// What is to be done about the request that these bytes begin: the first that applies of 400, 405, 404 and 403, else its Join.
+/// Returns the decision on the request that these bytes begin: the first that applies of 400, 405, 404 and
+/// 403, else its Join.
 pub(crate) fn decide<D: Desk>(
     alloc: Global,
     desk: &D,

@@ -1,9 +1,10 @@
 //! A player that speaks HTTP: from the bytes of a request to a live stream in its answer.
 //!
-//! A player joins the stream that the target of its request names, and is sent an FLV of the items that it takes. Where it may not,
-//! it is told so and ends.
+//! A player joins the stream that the target of its request names, and is sent an FLV of the items that it
+//! takes. If it may not, it is refused and ends.
 //!
-//! Read `HttpPlayer::turn` first. What it owes is `specs/Out.antt`, what it is told `specs/Deciding.antt`. It publishes nothing.
+//! Read `HttpPlayer::turn` first. `specs/Out.antt` defines the bytes that it owes, `specs/Deciding.antt` the
+//! decision on its request. It publishes nothing.
 #![tactic(auto)]
 
 mod body;

@@ -17,7 +17,7 @@ use crate::turns::kept_on;
 use crate::{HttpEnd, HttpTurn, Stage};
 use relay_base::Limits;
 use relay_outside::Link;
-use relay_session::{Desk, Leaving, Seat};
+use relay_session::{Desk, Leaving, Met, Seat};
 use std::alloc::Global;
 use std::marker::Model;
 use stream_registry::StreamPort;
@@ -39,7 +39,7 @@ impl<P: StreamPort> Model for HttpPlayer<P> {
     ghost invariant = { λ s. IsLiving s.ended s.body.core };
 }
 
-// Why a turn ended the player, if it did.
+// Returns why a turn ended the player, if it did.
 fn end_in(answer: HttpTurn) -> Option<HttpEnd>
     ensures { result ≡ ended_by answer }
 {
@@ -50,7 +50,7 @@ fn end_in(answer: HttpTurn) -> Option<HttpEnd>
     }
 }
 
-// Why a player that is closed has ended.
+// Returns why a player that is closed has ended.
 fn end_or_closed(ended: Option<HttpEnd>) -> HttpEnd
     ensures { result ≡ end_or_closed ended }
 {
@@ -61,8 +61,8 @@ fn end_or_closed(ended: Option<HttpEnd>) -> HttpEnd
 }
 
 impl<P: StreamPort> HttpPlayer<P> {
-    /// A player of this name that has received nothing and is at no stream. It sends units of at most `max_message` bytes: for a
-    /// longer one there is no memory. It takes no memory.
+    /// Makes a player of this name that has received nothing and is at no stream. It sends units of at most
+    /// `max_message` bytes: a longer one is refused as out of memory. It takes no memory.
     pub fn new(alloc: Global, who: u64, limits: Limits) -> HttpPlayer<P>
         requires { limits.max_message ≤ 4194304 }
         ensures stands { (desk : Ask → Grant) → StandsFor desk result }
@@ -81,7 +81,7 @@ impl<P: StreamPort> HttpPlayer<P> {
         }
     }
 
-    /// One turn. Each desk that is handed in is to be the same.
+    /// Takes one turn. Each desk that is handed in is to be the same.
     pub fn turn<D: Desk, L: Link>(
         &mut self,
         alloc: Global,
@@ -111,9 +111,11 @@ impl<P: StreamPort> HttpPlayer<P> {
         }
     }
 
-    /// Makes the Join that waits, if there is one, and the Leave of what it was granted, and leaves the stream where it is. It has
-    /// then ended, with `Closed` if it lived. Where the port was busy or had no memory it is still there, and is to be closed again;
-    /// the Join that waits is kept unless it was made. All else that it keeps stays.
+    /// Makes the Join that waits, if there is one, and the Leave of the play granted, and leaves its stream.
+    /// It has then ended, with `Closed` if it lived.
+    ///
+    /// If the port was busy or had no memory it is still there, and is to be closed again; the Join that
+    /// waits is kept unless it was made. All else that it keeps stays.
     pub fn close(&mut self, port: &mut P) -> Leaving
         requires { HasFit (P.fits port.old) self.old.seat.spot }
         ensures fit { HasFit (P.fits port.new) self.new.seat.spot }
@@ -140,14 +142,20 @@ impl<P: StreamPort> HttpPlayer<P> {
             .leave(port, who, fed, &mut self.body.core.kept)
     }
 
-    /// How far it is.
+    /// Returns its stage.
     pub fn stage(&self) -> Stage
         ensures { result ≡ self.now.parts.stage }
     {
         self.body.core.stage
     }
 
-    /// How many bytes it holds: of a head that isn't whole, and of the text or the item that is being sent, which counts whole.
+    /// Returns the answers that its calls have had, in numbers.
+    pub fn met(&self) -> Met {
+        self.body.seat.met()
+    }
+
+    /// Returns the number of bytes that it holds: of a head that isn't whole, and of the text or the item
+    /// that is being sent, which counts whole.
     pub fn held(&self) -> u64
         ensures holds { result ≡ held_of self.now.parts }
         ensures most { result ≤ most_held self.now.parts.longest }
@@ -157,15 +165,15 @@ impl<P: StreamPort> HttpPlayer<P> {
         head + out
     }
 
-    /// Before each desk for which it stands: what it was sent and what is pending is what it is owed; where it has ended, what it was
-    /// sent begins that.
+    /// Shows that the bytes sent, followed by the pending bytes, are those that it is owed, before each desk
+    /// for which it stands. If it has ended, the bytes sent begin those that it is owed.
     pub fn owed_law(&self)
         ensures { (desk : Ask → Grant) → StandsFor desk self.now → OwesBy self.now.ended desk self.now.parts }
     {
         let _ = &self.ended;
     }
 
-    /// Where others have made calls at the same port, a player belongs to it as before.
+    /// Shows that a player belongs to its port as before, after others have made calls at the same port.
     pub fn others_law()
         ensures { (x y : P) (s : PlayerState P.Pass) → P.rules y ≡ P.rules x → ((q : ℕ) (p : P.Pass) → P.fits x q p → P.fits y q p)
             → IsAt (P.fits x) (places (P.rules x)) s.parts s.seat → IsAt (P.fits y) (places (P.rules y)) s.parts s.seat }

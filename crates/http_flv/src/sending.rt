@@ -24,35 +24,35 @@ impl Model for Outbox {
 }
 
 impl Outbox {
-    /// These bytes.
+    /// Makes an outbox of these bytes.
     pub fn of(bytes: Bytes) -> Outbox
         ensures { result ≡ record { left = bytes; spent = 0 } }
     {
         Outbox { bytes, from: 0 }
     }
 
-    /// Those that are left.
+    /// Returns the bytes that are left.
     pub fn left(&self) -> &[u8]
         ensures { result.now ≡ self.now.left }
     {
         &self.bytes.as_slice()[self.from..]
     }
 
-    /// Whether none are left.
+    /// Returns whether none are left.
     pub fn is_empty(&self) -> bool
         ensures { result ≡ is_nil self.now.left }
     {
         matches!(self.left(), [])
     }
 
-    /// How many bytes it keeps, those among them that were sent.
+    /// Returns the number of bytes that it keeps, those among them that were sent.
     pub fn size(&self) -> usize
         ensures { result ≡ size_of self.now }
     {
         self.bytes.len()
     }
 
-    /// The first of them were sent. Where all were, none are kept.
+    /// Notes that the first `count` bytes were sent. If all were, none are kept.
     pub fn sent(&mut self, alloc: Global, count: usize)
         requires { count ≤ length self.old.left }
         ensures left { self.new.left ≡ drop count self.old.left }

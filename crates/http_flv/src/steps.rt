@@ -1,4 +1,4 @@
-//! What each step makes of what a player keeps.
+//! The effect of each step on the state that a player keeps.
 ghost use Rattle.std.specs.Prelude.{◌≡◌, ◌≤◌, ◌<◌, ◌+◌, ◌^◌, ◌++◌, ℕ, [], length, take, None, IfOk, OnOk, OnErr};
 ghost use Rattle.command_dialog.specs.declared.types.Ask.{Ask};
 ghost use Rattle.command_dialog.specs.declared.types.Grant.{Grant};
@@ -21,7 +21,7 @@ use std::alloc::Global;
 use std::snapshot::Snapshot;
 use stream_model::{Entry, Reply};
 
-/// A player of this name that has received nothing. It sends units of at most `longest` bytes.
+/// Makes a player of this name that has received nothing. It sends units of at most `longest` bytes.
 pub(crate) fn new_core(alloc: Global, who: u64, longest: u32) -> Core
     requires { longest ≤ 4194304 }
     ensures sound { IsSound result }
@@ -46,7 +46,7 @@ pub(crate) fn new_core(alloc: Global, who: u64, longest: u32) -> Core
     }
 }
 
-/// So many of the bytes that are left were sent.
+/// Notes that `count` of the bytes that are left were sent.
 pub(crate) fn note_sent(core: &mut Core, alloc: Global, count: usize)
     requires sound { IsSound core.old }
     requires within { count ≤ length core.old.out.left }
@@ -58,7 +58,7 @@ pub(crate) fn note_sent(core: &mut Core, alloc: Global, count: usize)
     core.out.sent(alloc, count);
 }
 
-/// Bytes came after the head.
+/// Drops bytes that came after the head.
 pub(crate) fn drop_bytes(core: &mut Core, bytes: &[u8])
     requires { IsSound core.old }
     ensures sound { IsSound core.new }
@@ -68,7 +68,7 @@ pub(crate) fn drop_bytes(core: &mut Core, bytes: &[u8])
     core.later.add_all(bytes);
 }
 
-// What was decided of the bytes of the head is done.
+// Carries out a decision on the bytes of the head.
 fn carry_out(core: &mut Core, alloc: Global, decision: Decision) -> Result<(), OutOfMemory>
     requires { core.old.fed ≡ length core.old.x }
     ensures done { OnOk result (IsDone (decided decision) core.old core.new) }
@@ -99,7 +99,7 @@ fn carry_out(core: &mut Core, alloc: Global, decision: Decision) -> Result<(), O
     }
 }
 
-// The bytes of the head that are kept grow.
+// Appends bytes to the head.
 fn take_in(core: &mut Core, bytes: &[u8]) -> Result<(), OutOfMemory>
     ensures ok { OnOk result (core.new ≡ record core.old { head = core.old.head ++ bytes.now }) }
     ensures err { OnErr result (core.new ≡ core.old) }
@@ -107,14 +107,14 @@ fn take_in(core: &mut Core, bytes: &[u8]) -> Result<(), OutOfMemory>
     core.head.append(bytes)
 }
 
-// No bytes of a head are kept.
+// Drops the bytes of a head.
 fn let_go(core: &mut Core, alloc: Global)
     ensures { core.new ≡ record core.old { head = [] } }
 {
     core.head = Bytes::new(alloc);
 }
 
-// So many bytes count as read.
+// Counts these bytes as read.
 fn count(core: &mut Core, bytes: &[u8])
     requires { core.old.fed + length bytes.now < 2 ^ 64 }
     ensures { core.new ≡ record core.old { fed = core.old.fed + length bytes.now; x = core.old.x ++ bytes.now } }
@@ -123,7 +123,7 @@ fn count(core: &mut Core, bytes: &[u8])
     core.x.add_all(bytes);
 }
 
-// Bytes of the head came.
+// Takes in bytes of the head, and carries out the decision on it.
 fn note_bytes<D: Desk>(
     core: &mut Core,
     alloc: Global,
@@ -160,7 +160,7 @@ fn note_bytes<D: Desk>(
     }
 }
 
-/// Bytes of the head came, while it wasn't whole.
+/// Reads bytes of the head, while it isn't whole.
 pub(crate) fn read_bytes<D: Desk>(
     core: &mut Core,
     alloc: Global,
@@ -184,7 +184,7 @@ pub(crate) fn read_bytes<D: Desk>(
     }
 }
 
-// What is to be sent after a Join was answered, and how far the player is then.
+// Returns the bytes to be sent after a Join was answered, and the stage of the player then.
 fn joined(alloc: Global, place: u32, reply: &Reply) -> Result<(Stage, Bytes), OutOfMemory>
     ensures stage { IfOk result (λ p. p.0 ≡ after_join place reply.now) }
     ensures text { IfOk result (λ p. p.1 ≡ owed_after reply.now []) }
@@ -217,7 +217,7 @@ fn joined(alloc: Global, place: u32, reply: &Reply) -> Result<(Stage, Bytes), Ou
     }
 }
 
-// The reply to its Join came, which waited until then.
+// Takes in the reply to its Join, which waited until then.
 fn note_join(
     core: &mut Core,
     alloc: Global,
@@ -240,7 +240,7 @@ fn note_join(
     Ok(())
 }
 
-/// Hears the reply to its Join, which waited until then.
+/// Takes in the reply to its Join, which waited until then.
 pub(crate) fn hear_join(
     core: &mut Core,
     alloc: Global,
@@ -263,7 +263,7 @@ pub(crate) fn hear_join(
     }
 }
 
-// What is to be sent after a Take was answered.
+// Returns the bytes to be sent after a Take was answered.
 fn taken(alloc: Global, longest: u32, reply: &Reply) -> Result<Bytes, OutOfMemory>
     ensures text { IfOk result (λ b. b ≡ reply_bytes reply.now) }
     ensures short { IfOk result (λ b. length b ≤ longest + 256) }
@@ -290,7 +290,7 @@ fn taken(alloc: Global, longest: u32, reply: &Reply) -> Result<Bytes, OutOfMemor
     }
 }
 
-// The reply to a Take came.
+// Takes in the reply to a Take.
 fn note_item(
     core: &mut Core,
     alloc: Global,
@@ -309,7 +309,7 @@ fn note_item(
     Ok(())
 }
 
-/// Hears the reply to a Take, which is made where it plays and nothing is pending.
+/// Takes in the reply to a Take, which is made if it plays and nothing is pending.
 pub(crate) fn hear_item(
     core: &mut Core,
     alloc: Global,

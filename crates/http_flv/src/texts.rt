@@ -1,4 +1,4 @@
-//! What is to be sent.
+//! The texts that are to be sent.
 ghost use Rattle.std.specs.Prelude.{◌≡◌, ◌≤◌, ◌+◌, ◌++◌, [], length, IfOk};
 ghost use Rattle.flv_tags.specs.Text.{flv_text, item_bytes};
 ghost use Rattle.http_request.specs.Texts.{granted_text, text_of};
@@ -9,7 +9,7 @@ use flv_tags::{write_header, write_item};
 use http_request::{Refusal, ok_text, refusal_text};
 use std::alloc::Global;
 
-/// The text of a refusal.
+/// Returns the text of a refusal.
 pub(crate) fn no_text(alloc: Global, refusal: Refusal) -> Result<Bytes, OutOfMemory>
     ensures text { IfOk result (λ b. b ≡ text_of refusal) }
     ensures short { IfOk result (λ b. length b ≤ 256) }
@@ -19,7 +19,7 @@ pub(crate) fn no_text(alloc: Global, refusal: Refusal) -> Result<Bytes, OutOfMem
     Ok(bytes)
 }
 
-/// The text that the request is granted, and the header of an FLV.
+/// Returns the text that the request is granted, and the header of an FLV.
 pub(crate) fn yes_text(alloc: Global) -> Result<Bytes, OutOfMemory>
     ensures text { IfOk result (λ b. b ≡ granted_text ++ flv_text []) }
     ensures short { IfOk result (λ b. length b ≤ 256) }
@@ -30,7 +30,7 @@ pub(crate) fn yes_text(alloc: Global) -> Result<Bytes, OutOfMemory>
     Ok(bytes)
 }
 
-// How many bytes the unit has that an item is.
+// Returns the number of bytes of an item's unit, or 0 for a marker.
 fn body_len(item: &Item) -> usize
     ensures value { result ≡ body_of item.now }
     ensures most { result ≤ 4194304 }
@@ -42,7 +42,8 @@ fn body_len(item: &Item) -> usize
     }
 }
 
-/// The tag of an item; a marker has none. There is no memory for a unit of more than `longest` bytes.
+/// Returns the tag of an item; a marker has none. A unit of more than `longest` bytes is refused as out of
+/// memory.
 pub(crate) fn tag_text(alloc: Global, longest: u32, item: &Item) -> Result<Bytes, OutOfMemory>
     ensures text { IfOk result (λ b. b ≡ item_bytes item.now) }
     ensures short { IfOk result (λ b. length b ≤ longest + 256) }

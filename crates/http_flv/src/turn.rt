@@ -1,7 +1,7 @@
 use crate::HttpEnd;
 
 /// The answer of a turn.
-#[derive(Clone, Copy, Debug, PartialEq, Eq)]
+#[derive(Clone, Copy)]
 pub enum HttpTurn {
     /// A byte was received or sent, or a call other than a Take that was answered NotYet was made.
     Moved,

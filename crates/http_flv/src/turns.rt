@@ -17,12 +17,12 @@ use relay_session::Desk;
 use std::alloc::Global;
 use stream_registry::StreamPort;
 
-// How many bytes are sent at once, and how many are received, at most.
+// The largest numbers of bytes that are sent at once, and received at once.
 const SEND_MOST: usize = 16_384;
 
 const RECEIVE_MOST: usize = 4_096;
 
-// The first bytes, or all.
+// Returns the first `count` bytes, or all.
 fn first(bytes: &[u8], count: usize) -> &[u8]
     ensures value { result.now ≡ take count bytes.now }
     ensures within { length result.now ≤ length bytes.now }
@@ -31,7 +31,7 @@ fn first(bytes: &[u8], count: usize) -> &[u8]
     &bytes[..count.min(bytes.len())]
 }
 
-// The place and the player for which a Take is to be made.
+// Returns the place and the player for which a Take is to be made.
 fn next_take(core: &Core) -> Option<(u32, u32)>
     ensures { result ≡ takes core.now }
 {
@@ -49,7 +49,7 @@ fn next_take(core: &Core) -> Option<(u32, u32)>
     }
 }
 
-// The status code of the text, other than 200, that was sent whole.
+// Returns the status code of the text, other than 200, that was sent whole.
 fn told_whole(core: &Core) -> Option<u16>
     ensures { result ≡ told core.now }
 {
@@ -67,7 +67,7 @@ fn told_whole(core: &Core) -> Option<u16>
     }
 }
 
-/// Step 6: one Take, where it is to be made.
+/// Does step 6: one Take, if it is to be made.
 fn take_on<P: StreamPort>(body: &mut Body<P>, port: &mut P, alloc: Global, moved: bool) -> HttpTurn
     requires at { IsAt (P.fits port.old) (places (P.rules port.old)) body.old.core body.old.seat }
     requires sound { IsSound body.old.core }
@@ -83,7 +83,7 @@ fn take_on<P: StreamPort>(body: &mut Body<P>, port: &mut P, alloc: Global, moved
     }
 }
 
-/// The Join that a head asked for, and step 6.
+/// Makes the Join that a head asked for, and does step 6.
 fn join_on<P: StreamPort>(body: &mut Body<P>, port: &mut P, alloc: Global) -> HttpTurn
     requires at { IsAt (P.fits port.old) (places (P.rules port.old)) body.old.core body.old.seat }
     requires sound { IsSound body.old.core }
@@ -102,7 +102,7 @@ fn join_on<P: StreamPort>(body: &mut Body<P>, port: &mut P, alloc: Global) -> Ht
     }
 }
 
-/// Bytes of a head are read, and what they ask for is done.
+/// Reads bytes of a head, and does what they ask for.
 fn hear_on<P: StreamPort, D: Desk>(
     body: &mut Body<P>,
     port: &mut P,
@@ -127,7 +127,7 @@ fn hear_on<P: StreamPort, D: Desk>(
     }
 }
 
-/// Bytes came: of a head, or after it.
+/// Takes in bytes: of a head, or after it.
 fn read_on<P: StreamPort, D: Desk>(
     body: &mut Body<P>,
     port: &mut P,
@@ -154,7 +154,7 @@ fn read_on<P: StreamPort, D: Desk>(
     }
 }
 
-/// Step 5 and that after it: one recv.
+/// Does step 5 and that after it: one recv.
 fn input_on<P: StreamPort, D: Desk, L: Link>(
     body: &mut Body<P>,
     port: &mut P,
@@ -181,7 +181,8 @@ fn input_on<P: StreamPort, D: Desk, L: Link>(
     }
 }
 
-/// Step 4 and those after it: one send, where anything is pending. A player that was told no ends where that was sent whole.
+/// Does step 4 and those after it: one send, if anything is pending. A player that was refused ends if the
+/// refusal was sent whole.
 fn send_on<P: StreamPort, D: Desk, L: Link>(
     body: &mut Body<P>,
     port: &mut P,
@@ -216,7 +217,7 @@ fn send_on<P: StreamPort, D: Desk, L: Link>(
     }
 }
 
-/// Step 2 and those after it: the Join that waits is made.
+/// Does step 2 and those after it: the Join that waits is made.
 pub(crate) fn kept_on<P: StreamPort, D: Desk, L: Link>(
     body: &mut Body<P>,
     port: &mut P,

@@ -1,4 +1,5 @@
--- WHAT THE BYTES THAT CAME ARE, as the beginning of a request (RFC 9112, section 3; httparse's grammar says what a head is)
+-- WHAT THE BYTES THAT CAME ARE, as the beginning of a request (RFC 9112, section 3; httparse's grammar says
+-- what a head is)
 use Rattle.std.specs.Prelude.{◌≡◌, ◌⊎◌, ℕ, ◌<◌, ◌≤◌, List, length, take}
 use Rattle.httparse.specs.Grammar.{EndsInTarget, HasNoRequest, MayBecomeRequest, NeverHasRequest, ReadsRequest, RequestHead}
 use Rattle.httparse.specs.Spans.{RequestExceeds, RequestOverflows}
@@ -65,8 +66,9 @@ read_as head.Unfinished = Unfinished
 read_as head.Refused = Refused
 read_as (head.Asks method target) = Asks method.now target.now
 
--- that two verdicts on the same bytes are one. Where httparse leaves open when it refuses, it may be both: where the bytes end in
--- a target that is no text so far, or hold more headers than are read and no empty line yet
+-- that two verdicts on the same bytes are one. Where httparse leaves open when it refuses, it may be both:
+-- where the bytes end in a target that is no text so far, or hold more headers than are read and no empty
+-- line yet
 abbrev pub IsOpen : List ℕ → Type 0
 IsOpen x = EndsInTarget (front x) ⊎ HasTooMany x
 

@@ -2,10 +2,10 @@
 ghost use Rattle.std.specs.Prelude.{◌≡◌, ◌≤◌, length};
 ghost use Rattle.http_request.specs.Texts.{code_of, granted_text, text_of};
 
-/// Why a request is told no.
-#[derive(Clone, Copy, Debug, PartialEq, Eq)]
+/// Why a request is refused.
+#[derive(Clone, Copy, PartialEq, Eq)]
 pub enum Refusal {
-    /// It is no request that is read.
+    /// It isn't a request of the form that is read.
     BadRequest,
     /// Its method isn't GET.
     MethodNotAllowed,
@@ -13,12 +13,12 @@ pub enum Refusal {
     NotFound,
     /// The key isn't allowed.
     Forbidden,
-    /// There is no place for one more player.
+    /// There is no room for one more player.
     ServiceUnavailable,
 }
 
 impl Refusal {
-    /// The status code (RFC 9110, section 15).
+    /// Gives the status code (RFC 9110, section 15).
     pub fn code(self) -> u16
         ensures { result ≡ code_of self }
     {
@@ -32,7 +32,7 @@ impl Refusal {
     }
 }
 
-/// The whole answer to a request that is refused.
+/// Gives the whole answer to a request that is refused.
 #[tactic(auto, unfolding(crate::specs::Texts::text_of))]
 pub fn refusal_text(refusal: Refusal) -> &'static [u8]
     ensures text { result.now ≡ text_of refusal }
@@ -57,7 +57,8 @@ pub fn refusal_text(refusal: Refusal) -> &'static [u8]
     }
 }
 
-/// The head of the answer to a request that is granted. An FLV follows, up to the end of the link.
+/// Gives the head of the answer to a request that is granted. An FLV follows, up to the end of the
+/// connection.
 #[tactic(auto, unfolding(crate::specs::Texts::granted_text))]
 pub fn ok_text() -> &'static [u8]
     ensures text { result.now ≡ granted_text }

@@ -1,43 +1,44 @@
-//! The head of a request, as far as it came.
+//! The head of a request, as far as its bytes have come.
 ghost use Rattle.std.specs.Prelude.{◌≡◌, take};
 ghost use Rattle.http_request.specs.Heads.{IsRead, front, read_as};
 
 use httparse::Status;
 use httparse::spans::{EMPTY_HEADER_SPAN, parse_request};
 
-/// How many bytes a head has at most.
+/// The longest head, in bytes.
 pub const HEAD_MOST: usize = 4_096;
 
-// How many headers it has at most.
+// The largest number of headers of a head.
 const HEADERS_MOST: usize = 64;
 
-/// What the bytes that came are, as the beginning of a request.
-#[derive(Clone, Copy, Debug, PartialEq, Eq)]
+/// The verdict on the bytes that came, as the beginning of a request.
+#[derive(Clone, Copy, PartialEq, Eq)]
 pub enum Head<'a> {
     /// Its head isn't whole yet.
     Unfinished,
-    /// It is no request that is read.
+    /// It isn't a request of the form that is read.
     Refused,
     /// It has this method and this target.
     Asks { method: &'a [u8], target: &'a [u8] },
 }
 
-// The first bytes, or all.
+// Gives the first `count` bytes, or all.
 fn first(bytes: &[u8], count: usize) -> &[u8]
     ensures { result.now ≡ take count bytes.now }
 {
     &bytes[..count.min(bytes.len())]
 }
 
-// As much as is looked at.
+// Gives the part of the bytes that is looked at.
 fn first_part(received: &[u8]) -> &[u8]
     ensures { result.now ≡ front received.now }
 {
     first(received, HEAD_MOST)
 }
 
-/// Reads the head of a request (3), of at most 4,096 bytes and 64 headers, from all bytes that came. It is refused where no bytes
-/// can follow that make it a head, where it has more headers, and where so many bytes hold no whole head.
+/// Reads the head of a request (3), of at most 4,096 bytes and 64 headers, from all bytes that came. It is
+/// refused in three cases: no further bytes can make it a head, it has more headers, or 4,096 bytes hold no
+/// whole head.
 pub fn read_head(received: &[u8]) -> Head<'_>
     ensures { IsRead received.now (read_as result) }
 {

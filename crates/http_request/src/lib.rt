@@ -1,8 +1,10 @@
-//! What an HTTP request asks for, and what it is told: the head of the request, its target, and the head of the answer.
+//! Reads an HTTP request and writes the head of its answer: the head of the request, its target, and the head
+//! of the answer.
 //!
 //! The section numbers are those of RFC 9112.
 //!
-//! Read [`read_head`] first. What a head is told is `specs/Heads.antt`, the names of a target `specs/Targets.antt`. It reads no bodies.
+//! Read [`read_head`] first. The result for a head is `specs/Heads.antt`, the names of a target
+//! `specs/Targets.antt`. It reads no bodies.
 #![tactic(auto)]
 
 mod answer;

@@ -2,7 +2,7 @@ use http_request::{Head, read_head};
 use std::alloc::{AllocError, Global};
 use std::test::Fail;
 
-/// One letter for what bytes are: U unfinished, R refused, A a whole head.
+/// Returns one letter for the result of reading bytes: U unfinished, R refused, A a whole head.
 fn letter(bytes: &[u8]) -> u8 {
     match read_head(bytes) {
         Head::Unfinished => b'U',
@@ -21,7 +21,7 @@ const CLIENTS: [&[u8]; 6] = [
     b"GET /live/cam.flv?key HTTP/1.1\r\nHost: 127.0.0.1:8080\r\nUser-Agent: Mozilla/5.0 (X11; Linux x86_64; rv:121.0) Gecko/20100101 Firefox/121.0\r\nAccept: */*\r\nAccept-Language: en-US,en;q=0.5\r\nAccept-Encoding: gzip, deflate\r\nConnection: keep-alive\r\nSec-Fetch-Dest: empty\r\nSec-Fetch-Mode: cors\r\nSec-Fetch-Site: same-origin\r\n\r\n",
 ];
 
-/// How many of its first bytes are more than a head that isn't whole, or all.
+/// Returns the least number of its first bytes that aren't read as unfinished, or all.
 fn decided_at(head: &[u8]) -> usize {
     for n in 0..head.len() {
         if letter(&head[..n]) != b'U' {
@@ -61,7 +61,7 @@ fn forms_of_heads(rt: HostRuntime) -> Result<(), Fail> {
     Ok(())
 }
 
-/// The letter of so many headers and of what stands behind them.
+/// Returns the letter of `count` headers, followed by the bytes `behind`.
 fn of_headers(alloc: Global, count: usize, behind: &[u8]) -> Result<u8, AllocError> {
     let mut head = Vec::from_slice(alloc, b"GET / HTTP/1.1\r\n")?;
     for _ in 0..count {
@@ -71,7 +71,7 @@ fn of_headers(alloc: Global, count: usize, behind: &[u8]) -> Result<u8, AllocErr
     Ok(letter(&head))
 }
 
-/// The letter of so many bytes of a head, 19 or more, and of what stands behind them.
+/// Returns the letter of `count` bytes of a head, 19 or more, followed by the bytes `behind`.
 fn of_bytes(alloc: Global, count: usize, behind: &[u8]) -> Result<u8, AllocError> {
     let mut head = Vec::from_slice(alloc, b"GET / HTTP/1.1\r\nA: ")?;
     for _ in 19..count {

@@ -33,7 +33,8 @@ pub record IsSeated {P Q L : Type 0} (fits : ℕ → Q → Type 0) (places had :
   pub named : IsNamed had s.player.parts.who
 
 module _ {P D Q L : Type 0} (fits : P → ℕ → Q → Type 0) (rules : P → PortRules) (doors : D → DoorTold) where
-  -- WHAT A WORKER'S BENCH KEEPS: it has at most so many players, all of which fit its port, and each has a name of its own
+  -- WHAT A WORKER'S BENCH KEEPS: it has at most so many players, all of which fit its port, and each has a
+  -- name of its own
   pub record IsSound (t : Terms) (b : Bench P D Q L) : Type 0 where
     pub short : t.limits.max_message ≤ 4194304
     pub few : b.had ≤ 2 ^ 40

@@ -59,8 +59,8 @@ pub record HasJoined (who at : ℕ) (name : List ℕ) (calls : List Own) (waited
 abbrev pub IsWaiting : ℕ → ℕ → List ℕ → List Own → Option Entry → Type 0
 IsWaiting who at name calls waited = (calls ≡ []) × (waited ≡ Some (join_entry who at name))
 
--- ITS CALLS, and the one that waits: none, or a request is granted, and they are its Join of the name that it asks for, which waits or was
--- made, and its Takes
+-- ITS CALLS, and the one that waits: none, or a request is granted, and they are its Join of the name that it
+-- asks for, which waits or was made, and its Takes
 abbrev pub AreAsked : (Ask → Grant) → ℕ → List ℕ → List Own → Option Entry → Type 0
 AreAsked desk who x calls waited =
     ((calls ≡ []) × (waited ≡ None))
@@ -86,8 +86,8 @@ SentBy end.Worn out sent = Begins sent out
 SentBy end.OutOfMemory out sent = Begins sent out
 SentBy end.Closed out sent = Begins sent out
 
--- WHY IT HAS ENDED, where its link has these counts. It isn't closed while it lives. A text that was sent is told by what was sent. A
--- full history and want of memory are no matter of the link: the books tell of them apart
+-- WHY IT HAS ENDED, where its link has these counts. It isn't closed while it lives. A text that was sent is
+-- told by what was sent. A full history and want of memory are no matter of the link: the books tell of them apart
 abbrev pub IsCause : LinkCounts → HttpEnd → Type 0
 IsCause counts end.PeerClosed = counts.ends ≢ 0
 IsCause counts end.LinkFault = counts.faults ≢ 0
@@ -96,8 +96,8 @@ IsCause counts end.Worn = Unit {0}
 IsCause counts end.OutOfMemory = Unit {0}
 IsCause counts end.Closed = ⊥
 
--- HOW A PLAYER WAS SERVED that has ended so, whose link has these counts, gave these bytes and took those: by the bytes of its head and
--- those after it, which are dropped, and by its calls
+-- HOW A PLAYER WAS SERVED that has ended so, whose link has these counts, gave these bytes and took those: by
+-- the bytes of its head and those after it, which are dropped, and by its calls
 pub record IsServed (desk : Ask → Grant) (who : ℕ) (e : HttpEnd) (counts : LinkCounts) (gave took x later : List ℕ) (calls : List Own)
     (waited : Option Entry) : Type 0 where
   pub came : CameBy e (x ++ later) gave
@@ -115,8 +115,9 @@ pub record Account : Type 0 where
   pub end : HttpEnd
   pub link : Returned
 
--- ITS PLAYER was served by the bytes that the link gave. Its calls bear its name and stand in the histories of their streams, each once
--- and in their order, answered by the rules: those that it asked for, and then those by which it left
+-- ITS PLAYER was served by the bytes that the link gave. Its calls bear its name and stand in the histories
+-- of their streams, each once and in their order, answered by the rules: those that it asked for, and then
+-- those by which it left
 pub record Accounted (desk : Ask → Grant) (limits : ℕ → Shape) (histories : Histories) (a : Account) : Type 0 where
   pub x : List ℕ
   pub later : List ℕ
@@ -131,8 +132,8 @@ pub record Accounted (desk : Ask → Grant) (limits : ℕ → Shape) (histories 
   pub calls_are : calls_of visits ≡ calls ++ left
   pub left_by : LeavesBy waited left
 
--- LINKS THAT WERE OUT AT A TIME: so many had come back when one did whose player has this name. By its name it came after
--- `who - who_of 0` others, and no more of them, and it, were out than the worker has link places
+-- LINKS THAT WERE OUT AT A TIME: so many had come back when one did whose player has this name. By its name
+-- it came after `who - who_of 0` others, and no more of them, and it, were out than the worker has link places
 abbrev pub IsBackAfter : Terms → ℕ → ℕ → Type 0
 IsBackAfter t back who = who < who_of (back + t.links)
 
@@ -189,8 +190,8 @@ LivesBy told counts desk (Some e) c visits = HasStopped told counts desk e c vis
 
 module _ {P Q L : Type 0} (rules : P → PortRules) (root : P → Histories) (seen : Q → List Step)
     (told : L → Option LinkTold) (counts : L → LinkCounts) (desk : Ask → Grant) (t : Terms) (port : P) where
-  -- it sends units of that length, it lives or has stopped so, its calls stand in what is known, it is granted what they say, where it
-  -- has a pass, and none of these accounts has its name
+  -- it sends units of that length, it lives or has stopped so, its calls stand in what is known, it is
+  -- granted what they say, where it has a pass, and none of these accounts has its name
   pub record Lives (accounts : List Account) (s : Seated P L Q) : Type 0 where
     pub longest : s.player.parts.longest ≡ t.limits.max_message
     pub by : LivesBy (told s.link) (counts s.link) desk s.player.ended s.player.parts s.player.seat.visits
@@ -203,9 +204,10 @@ module _ {P Q L : Type 0} (rules : P → PortRules) (root : P → Histories) (se
 
 module _ {P D Q L : Type 0} (rules : P → PortRules) (root : P → Histories) (seen : Q → List Step)
     (told : L → Option LinkTold) (counts : L → LinkCounts) (doors : D → DoorTold) (desk : Ask → Grant) where
-  -- THE BOOKS: the links that the door has back are those of these accounts, each of a player of its own. Where nothing was
-  -- refused for want of memory, each link that the door gave is there or back, no more were out at a time than there are link
-  -- places, and no player has ended by want of memory. Where no history was found full, no player has ended by that
+  -- THE BOOKS: the links that the door has back are those of these accounts, each of a player of its own.
+  -- Where nothing was refused for want of memory, each link that the door gave is there or back, no more were
+  -- out at a time than there are link places, and no player has ended by want of memory. Where no history was
+  -- found full, no player has ended by that
   pub record Works (t : Terms) (b : Bench P D Q L) : Type 0 where
     pub accounts : List Account
     pub back_is : (list : List Returned) → (doors b.door).back ≡ Some list → list ≡ map (λ a. a.link) accounts
@@ -226,9 +228,10 @@ module _ {P D Q L : Type 0} (rules : P → PortRules) (root : P → Histories) (
   abbrev pub HasBooks : WorkerState P D Q L → Type 0
   HasBooks w = Works w.terms w.bench
 
--- WHAT IS LEFT OF THEM, where no player lives: the links that the door has back are those of these accounts, each of a player of its
--- own. Where nothing was refused for want of memory, they are as many as the door gave, they came back in an order in which no more
--- were out at a time than there are link places, and no player ended by that. Where none found a history full, none ended by that
+-- WHAT IS LEFT OF THEM, where no player lives: the links that the door has back are those of these accounts,
+-- each of a player of its own. Where nothing was refused for want of memory, they are as many as the door
+-- gave, they came back in an order in which no more were out at a time than there are link places, and no
+-- player ended by that. Where none found a history full, none ended by that
 pub record Settled (desk : Ask → Grant) (t : Terms) (limits : ℕ → Shape) (histories : Histories)
     (door : DoorTold) (refused worn : Bool) : Type 0 where
   pub accounts : List Account

@@ -69,8 +69,8 @@ is_joining (stage.Joining place) = true
 is_joining (stage.Telling refusal) = false
 is_joining (stage.Playing place player) = false
 
--- one takes a turn in the next round whatever its link says after a turn that moved, that left it asking to join, or in which the port
--- was busy once more
+-- one takes a turn in the next round whatever its link says after a turn that moved, that left it asking to
+-- join, or in which the port was busy once more
 abbrev pub leaves_due : {Q : Type 0} → ℕ → ℕ → HttpTurn → PlayerState Q → Bool
 leaves_due before after answer s = is_moved answer || (is_joining s.parts.stage || nat_lt before after)
 

@@ -1,4 +1,4 @@
-//! What a worker has in hand: its port, its door, and its players with their links.
+//! The state of a worker during its rounds: its port, its door, and its players with their links.
 ghost use Rattle.std.specs.Prelude.{◌≡◌, ◌≢◌, true, false, None, is_some};
 ghost use Rattle.stream_registry.specs.Names.{places};
 ghost use Rattle.relay_session.specs.Places.{IsOffered};
@@ -11,7 +11,7 @@ ghost use Rattle.http_worker.specs.Benches.{IsSound};
 ghost use Rattle.http_worker.specs.Players.{Closes, TakesTurn, is_moved, is_spent, is_worn, lacks_memory, wears_out};
 ghost use Rattle.http_worker.specs.Rounds.{AdmitsIf, ClosesAt, HandsBack, TurnsAt, WalksAll, answered, asks_door, is_joining, leaves_due};
 
-use crate::telling::{NotingDesk, Request, hinted, told};
+use crate::telling::{Before, NotingDesk, Request, hinted, told};
 use http_flv::{HttpEnd, HttpPlayer, HttpTurn, Stage};
 use relay_base::Limits;
 use relay_outside::{Door, Knock, Link, Rest};
@@ -23,15 +23,16 @@ use std::cell::Cell;
 use stream_registry::StreamPort;
 
 /// How many links a worker has at most at a time, and the limits of its players.
-#[derive(Clone, Copy, Debug, PartialEq, Eq)]
+#[derive(Clone, Copy)]
 pub struct Terms {
     pub links: u32,
     pub limits: Limits,
 }
 
-/// A player with its link. `over` says that it has ended, `asked` what its request asks for, once it was read. `due` says that it takes
-/// a turn in the next round whatever its link says: it is new, or its last turn moved, or has left it asking to join, or found the port
-/// busy. `stream` is the number for hints of the stream that it plays, and `pushes` how often something was pushed to that before its
+/// A player with its link. `over` says that it has ended. `asked` is the names in its request, once it was
+/// read. `due` says that it takes a turn in the next round, whether or not its link is ready. It is due if
+/// it is new, or if its last turn moved, left it asking to join, or found the port busy. `stream` is the
+/// number for hints of the stream that it plays. `pushes` is the number of pushes to that stream before its
 /// last turn.
 #[derive(Drop)]
 pub struct Seated<P: StreamPort, L: Link> {
@@ -78,7 +79,7 @@ impl<P: StreamPort, L: Link> Seated<P, L> {
     {
         let pushes = pushes_at(rest, self.stream);
         let busies = port.busies();
-        let before = self.player.stage();
+        let before = Before::of(&self.player);
         let noting = NotingDesk {
             inner: desk,
             noted: Cell::new(self.asked),
@@ -88,7 +89,13 @@ impl<P: StreamPort, L: Link> Seated<P, L> {
         let NotingDesk { inner: _, noted } = noting;
         self.asked = noted.into_inner();
         let after = self.player.stage();
-        told(&self.link, &self.asked, before, after, answer);
+        told(
+            &self.link,
+            &self.asked,
+            before,
+            Before::of(&self.player),
+            answer,
+        );
         self.pushes = pushes;
         self.stream = hinted(port, rest, self.stream, after, &self.asked);
         self.due = leaves_due(busies, port.busies(), is_moved(answer), is_joining(after));
@@ -215,10 +222,10 @@ fn wake<R: Rest>(rest: &mut R, moved: bool) {
     }
 }
 
-/// The port of a worker, its door and its players, each under a key. `had` is how many links it has had, and `closed` says
-/// that the door has closed. `refused` says that a link was dropped, or that a player has ended, for want of memory, and `worn`
-/// that a player has ended as the history of a stream was full. `moved` and `dropped` speak of this round: something moved, or a
-/// link was dropped.
+/// The port of a worker, its door and its players, each under a key. `had` is the number of links it has
+/// had, and `closed` says that the door has closed. `refused` says that a link was dropped, or that a
+/// player has ended, for want of memory. `worn` says that a player has ended because the history of a
+/// stream was full. `moved` and `dropped` describe this round: something moved, or a link was dropped.
 #[derive(Drop)]
 pub struct Bench<P: StreamPort, D: Door> {
     pub port: P,
@@ -390,7 +397,7 @@ impl<P: StreamPort, D: Door> Bench<P, D> {
         }
     }
 
-    // What this round did.
+    // The outcome of this round.
     pub(crate) fn round(&self, terms: &Terms) -> Round
         requires { IsSound P.fits P.rules D.told terms.now self.now }
         ensures { result ≡ answered D.told self.now }

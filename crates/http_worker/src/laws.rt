@@ -1,4 +1,4 @@
-//! Laws of what a worker leaves.
+//! Laws of the remains of a worker.
 ghost use Rattle.std.specs.Prelude.{◌≢◌, ◌<◌, ◌≤◌, ◌^◌, ℕ, Bool};
 ghost use Rattle.command_dialog.specs.declared.types.Ask.{Ask};
 ghost use Rattle.command_dialog.specs.declared.types.Grant.{Grant};
@@ -11,7 +11,7 @@ ghost use Rattle.http_worker.specs.declared.bench.Terms.{Terms};
 ghost use Rattle.stream_model.specs.declared.calls.Shape.{Shape};
 ghost use Rattle.stream_registry.specs.Told.{Histories};
 
-/// What is left of a worker's books still holds once the streams' histories have gone on.
+/// The remaining books of a worker still hold once the streams' histories have gone on.
 pub fn settled_law()
     ensures { (desk : Ask → Grant) (terms : Terms) (limits : ℕ → Shape) (histories later : Histories) (door : DoorTold) (refused worn : Bool)
         → GoOn histories later → Settled desk terms limits histories door refused worn → Settled desk terms limits later door refused worn }

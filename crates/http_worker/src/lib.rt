@@ -1,7 +1,8 @@
-//! A worker of HTTP players: it has a port to the streams, a door, and its players with their links, and takes rounds of turns.
+//! A worker of HTTP players: it has a port to the streams, a door, and its players with their links, and
+//! takes rounds of turns.
 //!
-//! Read `HttpWorker::round` first. A round is `specs/Rounds.antt`, what is known of links and players `specs/Books.antt`. It has no
-//! recorders, and starts no threads.
+//! Read `HttpWorker::round` first. `specs/Rounds.antt` specifies a round, and `specs/Books.antt` the
+//! knowledge of links and players. It has no recorders, and starts no threads.
 #![tactic(auto)]
 
 mod bench;

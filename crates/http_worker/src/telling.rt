@@ -1,11 +1,11 @@
-//! What a link is told of its player, each thing once, as it changes.
+//! News of a player for its link, each thing once, as it changes.
 
 use command_dialog::{Ask, Grant};
-use http_flv::{HttpEnd, HttpTurn, Stage};
+use http_flv::{HttpEnd, HttpPlayer, HttpTurn, Stage};
 use http_request::Refusal;
 use relay_outside::{Denied, Ending, Link, News, Rest};
-use relay_session::Desk;
-use relay_worker::stream_number;
+use relay_session::{Desk, Met};
+use relay_worker::{stream_number, tell_missed};
 use std::cell::Cell;
 use stream_registry::StreamPort;
 
@@ -36,7 +36,7 @@ impl Short {
     }
 }
 
-/// What a request asks for: the first 64 bytes of the application and of the name.
+/// The names that a request asks for: the first 64 bytes of the application and of the name.
 #[derive(Clone, Copy)]
 pub struct Request {
     app: Short,
@@ -52,7 +52,7 @@ impl Request {
     }
 }
 
-// A desk that notes what it was asked last.
+// A desk that notes the last request to it.
 pub(crate) struct NotingDesk<'a, G: Desk> {
     pub(crate) inner: &'a G,
     pub(crate) noted: Cell<Option<Request>>,
@@ -67,7 +67,8 @@ impl<G: Desk> Desk for NotingDesk<'_, G> {
     }
 }
 
-// The number for hints of the stream that a player plays, which had this one and has come so far. The rest hears of a new one.
+// The number for hints of the stream that a player plays, which had this one and has come so far. The rest
+// hears of a new one.
 pub(crate) fn hinted<P: StreamPort, R: Rest>(
     port: &P,
     rest: &mut R,
@@ -87,18 +88,37 @@ pub(crate) fn hinted<P: StreamPort, R: Rest>(
     Some(number)
 }
 
-// Tells a link what a turn of its player did, which was so far before it and is so far after it, and has asked for this.
+// How far a player has come, and the answers that it has had.
+#[derive(Clone, Copy)]
+pub(crate) struct Before {
+    stage: Stage,
+    met: Met,
+}
+
+impl Before {
+    pub(crate) fn of<P: StreamPort>(player: &HttpPlayer<P>) -> Before {
+        Before {
+            stage: player.stage(),
+            met: player.met(),
+        }
+    }
+}
+
+// Tells a link the effect of a turn of its player. `before` and `after` are its states around the turn, and
+// `asked` is its request.
 pub(crate) fn told<L: Link>(
     link: &L,
     asked: &Option<Request>,
-    before: Stage,
-    after: Stage,
+    before: Before,
+    after: Before,
     answer: HttpTurn,
 ) {
     if let Some(request) = asked {
-        if before != after {
-            tell(link, request, reached(after));
+        if before.stage != after.stage {
+            tell(link, request, reached(after.stage));
         }
+        let (app, name) = (request.app.as_slice(), request.name.as_slice());
+        tell_missed(link, before.met, after.met, app, name);
     }
     if let HttpTurn::Ended(end) = answer {
         let (app, name) = names(asked);
@@ -113,7 +133,7 @@ fn tell<L: Link>(link: &L, request: &Request, news: Option<News>) {
     }
 }
 
-// The names that were asked for, empty where there are none.
+// The names of the request, empty if there is none.
 fn names(asked: &Option<Request>) -> (&[u8], &[u8]) {
     match asked {
         None => (b"", b""),
@@ -121,7 +141,7 @@ fn names(asked: &Option<Request>) -> (&[u8], &[u8]) {
     }
 }
 
-// What is told of a player that has come so far.
+// The news of a player that has reached this stage.
 fn reached(stage: Stage) -> Option<News> {
     match stage {
         Stage::Reading | Stage::Joining { .. } => None,
@@ -130,7 +150,7 @@ fn reached(stage: Stage) -> Option<News> {
     }
 }
 
-// Why it may not play, where it asks for a play.
+// The reason why a player may not play, if its request asks to play.
 fn denied(refusal: Refusal) -> Option<Denied> {
     match refusal {
         Refusal::BadRequest | Refusal::MethodNotAllowed => None,

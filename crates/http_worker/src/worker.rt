@@ -27,8 +27,9 @@ use std::marker::Model;
 use std::sync::Wait;
 use stream_registry::StreamPort;
 
-/// One thread of the relay for HTTP: it takes links from its door, gives the player of each of them its turns, and hands the
-/// links back. Its players have names of their own from 2^61 on, where no session of a worker has one.
+/// One thread of the relay for HTTP: it takes links from its door, gives the player of each link its turns,
+/// and hands the links back. Its players have names of their own from 2^61 on, which no session of a worker
+/// has.
 #[derive(Drop)]
 pub struct HttpWorker<P: StreamPort, D: Door, R: Rest> {
     alloc: Global,
@@ -47,8 +48,8 @@ impl<P: StreamPort, D: Door, R: Rest> Model for HttpWorker<P, D, R> {
     ghost invariant = { λ w. IsSound P.fits P.rules D.told w.terms w.bench };
 }
 
-/// What is left of a worker: its port, its door, and whether a link was dropped, or a player has ended, for want of memory.
-/// `worn` says that a player has ended as the history of a stream was full.
+/// The remains of a worker: its port, its door, and whether a link was dropped, or a player has ended, for
+/// want of memory. `worn` says that a player has ended because the history of a stream was full.
 #[derive(Drop)]
 pub struct HttpFinished<P: StreamPort, D: Door> {
     pub port: P,
@@ -58,8 +59,8 @@ pub struct HttpFinished<P: StreamPort, D: Door> {
 }
 
 impl<P: StreamPort, D: Door, R: Rest> HttpWorker<P, D, R> {
-    /// A worker with at most so many links at a time, whose players have these limits. All link places are taken now, and no
-    /// link needs memory when it comes. The door is a new one.
+    /// Makes a worker with at most `links` links at a time, whose players have these limits. All link
+    /// places are taken now, and no link needs memory when it comes. The door is a new one.
     pub fn new(
         alloc: Global,
         links: u32,
@@ -98,7 +99,8 @@ impl<P: StreamPort, D: Door, R: Rest> HttpWorker<P, D, R> {
         })
     }
 
-    /// What it keeps: at most so many players, each with a name of its own, and all of them fit its port.
+    /// The invariant: it has at most `links` players, each with a name of its own, and all of them fit its
+    /// port.
     pub fn law(&self)
         ensures { IsSound P.fits P.rules D.told self.now.terms self.now.bench }
     {
@@ -112,9 +114,10 @@ impl<P: StreamPort, D: Door, R: Rest> HttpWorker<P, D, R> {
         self.rest.pause();
     }
 
-    /// One round: the door is asked for a link where a place is free, each player that is due takes one turn, and each that has
-    /// ended is closed. One takes a turn for certain that is new, whose link is ready, or whose last turn moved, or left it asking to
-    /// join, or found the port busy; one that takes none stays as it is. Each desk that is handed in is to be the same.
+    /// Runs one round. The door is asked for a link if a place is free. Each player that is due takes one
+    /// turn, and each that has ended is closed. A player takes a turn for certain if it is new or its link
+    /// is ready. It also takes one if its last turn moved, left it asking to join, or found the port busy.
+    /// A player that takes none stays as it is. Each desk that is handed in is to be the same.
     pub fn round<G: Desk>(&mut self, desk: &G) -> Round
         requires offered { IsOffered (G.grants desk.now) (places (P.rules self.old.bench.port)) }
         ensures rounds { Rounds D.Link.told D.Link.counts D.told
@@ -193,7 +196,7 @@ impl<P: StreamPort, D: Door, R: Rest> HttpWorker<P, D, R> {
     }
 }
 
-// What the steps of a link mean.
+// The meaning of a link's steps.
 fn link_law<L: Link>()
     ensures heard { (l : L) (room : ℕ) (answer : Came) (m : L) → 0 < room → L.hears l room answer m
         → HearStep room (L.told l) (L.told m) (L.counts l) (L.counts m) answer }

@@ -17,8 +17,8 @@ Has (Keys keys) bytes = Contains keys bytes
 abbrev pub for_name : List ℕ → List ℕ → List ℕ
 for_name name key = name ++ 58 ∷ key
 
--- the grants are open, or have the key (Plain), or the 32 bytes of its SHA-256 (Digest; FIPS 180-4), or those of the SHA-256
--- of the key for the name that is asked for (Named)
+-- the grants are open, or have the key (Plain), or the 32 bytes of its SHA-256 (Digest; FIPS 180-4), or those
+-- of the SHA-256 of the key for the name that is asked for (Named)
 abbrev pub Allowed : Mode → Grants → List ℕ → List ℕ → Type 0
 Allowed Plain grants name key = Has grants key
 Allowed Digest grants name key = Has grants (sha256 key)

@@ -7,27 +7,29 @@ ghost use Rattle.key_guard.specs.Allowed.{Allowed, for_name, has, is_allowed};
 use av_unit::{Bytes, KeyList};
 use sha2::{Digest, Sha256};
 
-/// The keys that a stream takes: every key and none, or those of a list.
-#[derive(Debug, Drop)]
+/// The keys that a stream takes: every key, also an empty one, or those of a list.
+#[derive(Drop)]
 pub enum Grants {
     /// Every key is taken, also an empty one.
     Open,
-    /// Only these are taken. An empty list takes none.
+    /// Only these keys are taken. An empty list takes none.
     Keys(KeyList),
 }
 
-/// How the keys of a list are kept.
-#[derive(Clone, Copy, Debug, PartialEq, Eq)]
+/// The form in which a list keeps its keys.
+#[derive(Clone, Copy)]
 pub enum Mode {
     /// The list has the keys themselves.
     Plain,
     /// The list has the 32 bytes of each key's SHA-256 digest.
     Digest,
-    /// The list has the 32 bytes of the SHA-256 digest of a name, the byte `:` and a key: that key for that name alone.
+    /// The list has the 32 bytes of the SHA-256 digest of a name, the byte `:` and a key: that key for that
+    /// name alone.
     Named,
 }
 
-// Whether the two are the same bytes. Where they are as many, all are compared, whichever differ.
+// Tells whether the two are the same bytes. If their lengths are equal, all bytes are compared, even after a
+// difference.
 fn is_same(kept: &[u8], asked: &[u8]) -> bool
     ensures { IsTrue result ↔ (asked.now ≡ kept.now) }
 {
@@ -41,7 +43,7 @@ fn is_same(kept: &[u8], asked: &[u8]) -> bool
     same
 }
 
-// Whether one of the keys is these bytes. All keys are compared, whichever is the one.
+// Tells whether one of the keys is these bytes. All keys are compared, even after a match.
 fn is_among(asked: &[u8], keys: &[Bytes]) -> bool
     ensures { result ≡ list_any (pointwise nat_eq asked.now) keys.now }
 {
@@ -52,7 +54,7 @@ fn is_among(asked: &[u8], keys: &[Bytes]) -> bool
     found
 }
 
-// Whether the grants are open or have these bytes.
+// Tells whether the grants are open or have these bytes.
 fn have(grants: &Grants, bytes: &[u8]) -> bool
     ensures { result ≡ has grants.now bytes.now }
 {
@@ -62,9 +64,10 @@ fn have(grants: &Grants, bytes: &[u8]) -> bool
     }
 }
 
-/// Whether the grants are open or have the key: what is allowed in mode `Plain`.
+/// Tells whether mode `Plain` allows the key: the grants are open or have the key.
 ///
-/// The key is compared with every key of the list, and in full with each of its length. The name isn't looked at.
+/// The key is compared with every key of the list, and in full with each of its length. The name isn't looked
+/// at.
 pub fn by_name(grants: &Grants, name: &[u8], key: &[u8]) -> bool
     ensures test { result ≡ is_allowed Mode.Plain grants.now name.now key.now }
     ensures allowed { IsTrue result ↔ Allowed Mode.Plain grants.now name.now key.now }
@@ -72,8 +75,8 @@ pub fn by_name(grants: &Grants, name: &[u8], key: &[u8]) -> bool
     have(grants, key)
 }
 
-/// Whether the grants are open or have the 32 bytes of the key's SHA-256 (FIPS 180-4): what is allowed in mode
-/// `Digest`.
+/// Tells whether mode `Digest` allows the key: the grants are open or have the 32 bytes of the key's SHA-256
+/// (FIPS 180-4).
 ///
 /// The digest is compared as `by_name` compares a key. The name isn't looked at.
 pub fn by_digest(grants: &Grants, name: &[u8], key: &[u8]) -> bool
@@ -83,7 +86,7 @@ pub fn by_digest(grants: &Grants, name: &[u8], key: &[u8]) -> bool
     have(grants, &Sha256::digest(key))
 }
 
-// The digest of a key for a name.
+// Returns the digest of a key for a name.
 fn digest_for(name: &[u8], key: &[u8]) -> [u8; 32]
     ensures { result ≡ sha256 (for_name name.now key.now) }
 {
@@ -93,8 +96,9 @@ fn digest_for(name: &[u8], key: &[u8]) -> [u8; 32]
     hasher.finalize()
 }
 
-/// Whether the grants are open or have the 32 bytes of the SHA-256 (FIPS 180-4) of the name, the byte `:` and the key:
-/// what is allowed in mode `Named`. A key that is so kept for a name is taken for no other name.
+/// Tells whether mode `Named` allows the key: the grants are open or have the 32 bytes of a SHA-256
+/// (FIPS 180-4). It is that of the name, the byte `:` and the key. A key that is kept for a name in this way
+/// is taken for no other name.
 ///
 /// The digest is compared as `by_name` compares a key.
 pub fn by_named(grants: &Grants, name: &[u8], key: &[u8]) -> bool

@@ -4,14 +4,14 @@ ghost use Rattle.key_guard.specs.declared.check.Mode.TheVariants.{Plain, Digest,
 
 use crate::{Grants, Mode};
 
-/// A function that says whether grants allow a key, by the grants, the name that is asked for and the key.
+/// A function that tells whether grants allow a key: it takes the grants, the requested name and the key.
 pub type Check = Box<dyn Fn(&Grants, &[u8], &[u8]) -> bool + Send + Sync>;
 
-/// A function with the fact that it may be called on everything, and that it answers what is allowed in the
-/// guard's mode.
+/// A function with two facts: it may be called on all arguments, and it answers whether the key is allowed in
+/// the guard's mode.
 #[derive(Drop)]
 pub struct Guard {
-    /// The mode in which it answers.
+    /// The mode by which it answers.
     pub mode: Mode,
     check: Check,
     ghost callable: { Check.IsAlwaysCallable check },
@@ -30,7 +30,7 @@ pub struct Guards {
 }
 
 impl Guards {
-    /// The three guards, each of its mode.
+    /// Makes a set of the three guards, each of its mode.
     pub fn new(plain: Guard, digest: Guard, named: Guard) -> Guards
         requires plain_is { plain.mode ≡ Mode.Plain }
         requires digest_is { digest.mode ≡ Mode.Digest }
@@ -46,7 +46,7 @@ impl Guards {
         }
     }
 
-    /// Whether the grants allow the key for the name in that mode.
+    /// Tells whether the grants allow the key for the name in that mode.
     pub fn allows(&self, mode: Mode, grants: &Grants, name: &[u8], key: &[u8]) -> bool
         ensures test { result ≡ is_allowed mode grants.now name.now key.now }
         ensures allowed { IsTrue result ↔ Allowed mode grants.now name.now key.now }
@@ -60,7 +60,7 @@ impl Guards {
 }
 
 impl Guard {
-    /// The guard of a function.
+    /// Makes a guard from a function that answers by `mode`.
     pub fn new(mode: Mode, check: Check) -> Guard
         requires callable { Check.IsAlwaysCallable check }
         requires answers { (grants : _) (name : _) (key : _) (r : _) → Check.post check grants name key r → r ≡ is_allowed mode grants.now name.now key.now }
@@ -69,7 +69,7 @@ impl Guard {
         Guard { mode, check }
     }
 
-    /// Whether the grants allow the key for the name in the guard's mode.
+    /// Tells whether the grants allow the key for the name in the guard's mode.
     pub fn allows(&self, grants: &Grants, name: &[u8], key: &[u8]) -> bool
         ensures test { result ≡ is_allowed self.now.mode grants.now name.now key.now }
         ensures allowed { IsTrue result ↔ Allowed self.now.mode grants.now name.now key.now }

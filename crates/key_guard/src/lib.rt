@@ -1,9 +1,9 @@
-//! Which stream keys a stream takes, and guards that keep the fact that they answer so.
+//! The stream keys that a stream takes, and guards that carry the fact that they answer by this rule.
 //!
-//! A key is what a publisher or a player writes after `?` in the name of a stream. The grants of a stream name
-//! the keys that it takes, either as they are or by their SHA-256 digests (FIPS 180-4), so that a file of grants
-//! tells nobody a key. Where many names share one list, a digest is that of a name and a key, so that a key is
-//! good for one name alone. No call takes memory.
+//! Read [`by_name`] first. A key is the text that a client writes after `?` in the name of a stream. The
+//! grants of a stream list the keys that it takes, either as they are or by their SHA-256 digests
+//! (FIPS 180-4). A file of digests holds no key itself. If many names share one list, a digest is that of a name
+//! and a key, so that a key is valid for one name alone. No call takes memory.
 #![tactic(auto)]
 
 mod check;

@@ -201,7 +201,8 @@ sent_in (c ∷ C) = length (item_in c.1) + sent_in C
 abbrev pub has_told : Run → Bool
 has_told r = nat_le (sent_in (journal_at r.port.books 0)) r.told
 
--- the stream is over for the client that plays, the other has sent all, which its session has read, and nothing is to be sent
+-- the stream is over for the client that plays, the other has sent all, which its session has read, and
+-- nothing is to be sent
 abbrev pub is_quiet : Run → Bool
 is_quiet r =
     r.over

@@ -27,8 +27,8 @@ use Rattle.client_command.specs.Turned.{IsLive, gifts_of}
 use Rattle.loop_command.specs.Desk.{granted, max_message, window}
 use Rattle.loop_command.specs.declared.line.Line.{Line}
 
--- what a link gave are the bytes fed and those to be fed, and what it took was sent; so much was handed over before, and these are all
--- the bytes that it was given
+-- what a link gave are the bytes fed and those to be fed, and what it took was sent; so much was handed over
+-- before, and these are all the bytes that it was given
 pub record Tied (h z : List ℕ) (m : MemLinkState) (x input sent : List ℕ) : Type 0 where
   pub gave : m.gave ≡ x ++ input
   pub took : m.handed ++ m.sent ≡ sent
@@ -51,8 +51,8 @@ pub record ClientRuns (k : Asked) (c : ClientState) (m : MemLinkState) : Type 0 
   pub took : m.handed ++ m.sent ≡ c.parts.sent
   pub friendly : AreFriendly c.parts.reader.given
 
--- a client was fed the bytes y of those that its link gave, was given T and told these gifts, and what the link took is what it owes
--- for them, but for these bytes more
+-- a client was fed the bytes y of those that its link gave, was given T and told these gifts, and what the
+-- link took is what it owes for them, but for these bytes more
 pub record ClientSide (k : Asked) (m : MemLinkState) (T : List Gave) (gifts : List Gift) (more : List ℕ) : Type 0 where
   pub y : List ℕ
   pub rest : List ℕ

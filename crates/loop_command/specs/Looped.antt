@@ -27,8 +27,9 @@ units_of tags = units (map gave_tag tags)
 abbrev pub StandIn : List Own → List Step → Type 0
 StandIn calls history = Stand shape (reverse calls) history
 
--- A STREAM HAD THIS HISTORY, by its rules, so that what each player was sent keeps the viewer's law. A publisher pushed the units of
--- the tags, in order, and no other unit; and a player was sent items of which the last is an End, and whose text this is
+-- A STREAM HAD THIS HISTORY, by its rules, so that what each player was sent keeps the viewer's law. A
+-- publisher pushed the units of the tags, in order, and no other unit; and a player was sent items of which
+-- the last is an End, and whose text this is
 pub record IsLooped (tags : List Tag) (text : List ℕ) : Type 0 where
   pub history : List Step
   pub keeps : Keeps shape history

@@ -10,7 +10,8 @@ use Rattle.loop_command.specs.Course.{CameBack, CameNot}
 use Rattle.loop_command.specs.Films.{IsRefused, WasWhole}
 use Rattle.loop_command.specs.Looped.{IsLooped}
 
--- the film came back, it is refused, its source or the sink fails, memory is refused, or its run doesn't come to its end
+-- the film came back, it is refused, its source or the sink fails, memory is refused, or its run doesn't come
+-- to its end
 pub data How : Type 0 where
   Whole : How
   ByFilm : ℕ → How

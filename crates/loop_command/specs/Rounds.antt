@@ -261,8 +261,8 @@ pub record IsSettled (run : Run) : Type 0 where
   pub pulls : length run.pull.client.parts.outgoing.pending ≡ 0
   pub told : sent_in (journal_at run.port.books 0) ≤ run.told
 
--- ---- what each step of a round came to, where `Made` says what it did and `Fails` what ended in it. Where memory is refused, or the
--- sink fails, nothing is said
+-- ---- what each step of a round came to, where `Made` says what it did and `Fails` what ended in it. Where
+-- memory is refused, or the sink fails, nothing is said
 abbrev pub StepBy : Result (Unit {0}) Stop → Type 0 → Type 0 → Type 0
 StepBy (Ok x) Made Fails = Made
 StepBy (Err Unfinished) Made Fails = Fails

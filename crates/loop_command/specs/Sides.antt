@@ -12,8 +12,9 @@ use Rattle.stream_registry.specs.Told.{Step}
 use Rattle.loop_command.specs.Desk.{dialogue, max_message}
 use Rattle.loop_command.specs.Looped.{StandIn}
 
--- a session was fed the bytes x of those that its link gave, and made these calls, which stand in this history. What its link took is
--- all that it owes for them, no call of its waits, and its Pushes are the units of its messages
+-- a session was fed the bytes x of those that its link gave, and made these calls, which stand in this
+-- history. What its link took is all that it owes for them, no call of its waits, and its Pushes are the
+-- units of its messages
 pub record SessionSide (who : ℕ) (m : MemLinkState) (x : List ℕ) (calls : List Own) (history : List Step) : Type 0 where
   pub rest : List ℕ
   pub ms : List (ℕ × Message)

@@ -1,4 +1,4 @@
-//! How a run comes to its end, and what it has left then.
+//! The end of a run, and its remains.
 ghost use Rattle.std.specs.Prelude.{◌≡◌, ◌<◌, ◌^◌, ℕ, List, true, nat_eq, nat_le, if◌then◌else◌, length, IfErr, OnOk};
 ghost use Rattle.std.specs.declared.option.Option.{Option};
 ghost use Rattle.client_law.specs.Pull.{item_in};
@@ -28,7 +28,7 @@ use std::alloc::Global;
 use stream_core::{Call, Entry, Reply};
 use stream_registry::{Sole, StreamPort};
 
-/// Who asks for the counts of the stream.
+/// The caller that asks for the counts of the stream.
 const COUNTER: u64 = 3;
 
 // ---- whether it has
@@ -103,7 +103,8 @@ fn has_told(run: &Run) -> bool
     are_told(run.port.journal(0), run.told)
 }
 
-// Whether the stream is over for the client that plays, the other has sent all, which its session has read, and nothing is to be sent.
+// Whether the stream is over for the client that plays, the other has sent all, which its session has read,
+// and nothing is to be sent.
 fn is_quiet(run: &Run) -> bool
     ensures { result ≡ is_quiet run.now }
 {
@@ -123,7 +124,7 @@ pub(crate) fn is_settled(run: &Run) -> bool
     is_quiet(run) && has_told(run)
 }
 
-/// What a run is then.
+/// A run for which `is_settled` is true has the state `IsSettled`.
 pub(crate) fn settled_law(run: &Run)
     ensures { is_settled run.now ≡ true → IsSettled run.now }
 {
@@ -131,7 +132,7 @@ pub(crate) fn settled_law(run: &Run)
     still_law(&run.pull.session);
 }
 
-// ---- what it has left
+// ---- its remains
 
 fn time_of(unit: &UnitArc) -> u32
     ensures same { result ≡ unit.now.time }
@@ -228,7 +229,8 @@ fn count(port: &mut Sole) -> Result<(), Stop>
     }
 }
 
-/// Ends a run that is settled: the stream tells its counts, the sessions end, and the stream's history is looked through.
+/// Ends a run that is settled: the stream tells its counts, the sessions end, and the stream's history is
+/// looked through.
 pub(crate) fn finish(alloc: Global, run: &mut Run) -> Result<(), Stop>
     requires sound { IsSound run.old }
     requires settled { IsSettled run.old }

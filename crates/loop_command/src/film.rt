@@ -39,7 +39,7 @@ pub(crate) struct Reading {
     pub(crate) bytes: u64,
 }
 
-// Adds a tag, where the film has not too many bytes with it.
+// Adds a tag, if the film has not too many bytes with it.
 fn add_tag(reading: &mut Reading, tag: Tag) -> Result<(), Stop>
     requires counted { IsCounted reading.old }
     requires fits { IsWritable tag }
@@ -57,8 +57,8 @@ fn add_tag(reading: &mut Reading, tag: Tag) -> Result<(), Stop>
     Ok(())
 }
 
-/// The tags of a film of at most 2^28 bytes, and how many bytes it has. More bytes are refused at the first behind them, where nothing
-/// before it is.
+/// Returns the tags of a film of at most 2^28 bytes, and its number of bytes. More bytes are refused at the
+/// first behind them, if nothing before it is.
 pub(crate) fn read_film<S: Source>(alloc: Global, input: &mut S) -> Result<Reading, Stop>
     ensures { MatchResult result
         (λ r. ReadsWhole r (S.left input.old) (S.left input.new) (S.faults input.old) (S.faults input.new))

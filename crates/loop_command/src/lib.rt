@@ -1,8 +1,9 @@
-//! A film through the relay and back, on one thread: [`loop_run`] publishes it by a client at one session, and plays it by another
-//! client at a second, over one stream.
+//! A film through the relay and back, on one thread: [`loop_run`] publishes it by a client at one session,
+//! and plays it by another client at a second, over one stream.
 //!
-//! Read [`loop_run`] first. What it says is `specs/Outcome.antt`; what a film becomes that comes back is `specs/Looped.antt`, and its run,
-//! turn for turn, `specs/Course.antt`. It opens no connection, and never waits.
+//! Read [`loop_run`] first. The command's outcome is specified in `specs/Outcome.antt`, the film that comes
+//! back in `specs/Looped.antt`, and its run, turn for turn, in `specs/Course.antt`. It opens no connection,
+//! and never waits.
 #![tactic(auto)]
 
 mod desk;

@@ -97,7 +97,8 @@ fn size_of(piece: &[u8]) -> u64
     piece.len() as u64
 }
 
-// Hands on what a link took, as one piece, where so many bytes were handed on before. How many these are then.
+// Hands on the bytes that a link took, as one piece, after `total` bytes that were handed on before.
+// Returns the number of bytes handed on then.
 fn pass(from: &mut MemLink, to: &mut MemLink, total: u64) -> Result<u64, Stop>
     requires { total ≤ 2 ^ 61 }
     ensures passed { OnOk result (Passes from.old to.old from.new to.new) }
@@ -141,7 +142,8 @@ fn lives_after(answer: ClientTurn, client: &Client) -> Result<bool, Stop>
     }
 }
 
-/// A turn of the client. What its link took comes to the session. Whether it lives; else it has sent all that it owed.
+/// Takes a turn of the client. The bytes that its link took come to the session. Returns whether it lives;
+/// else it has sent all that it owed.
 pub(crate) fn turn_client(alloc: Global, line: &mut Line) -> Result<bool, Stop>
     requires few { AreFew line.old }
     ensures few { OnOk result (AreFew line.new) }
@@ -181,7 +183,7 @@ fn lasts_after(answer: Turn) -> Result<(), Stop>
     }
 }
 
-/// A turn of the session. What its link took comes to the client.
+/// Takes a turn of the session. The bytes that its link took come to the client.
 pub(crate) fn turn_session(alloc: Global, line: &mut Line, port: &mut Sole) -> Result<(), Stop>
     requires few { AreFew line.old }
     requires one { places (sole_rules port.old.rules) ≡ 1 }

@@ -62,7 +62,7 @@ fn give_one(alloc: Global, run: &mut Run) -> Result<(), Stop>
     }
 }
 
-// The same where it can be given anything, and has more to be given.
+// The same if it can be given anything, and has more to be given.
 fn give_next(alloc: Global, run: &mut Run) -> Result<(), Stop>
     requires sound { IsSound run.old }
     ensures sound { OnOk result (IsSound run.new) }

@@ -34,7 +34,7 @@ pub enum Stage {
     Done,
 }
 
-/// A run: the stream, both lines, the tags that are still to be given, and what has come back.
+/// A run: the stream, both lines, the tags that are still to be given, and the tags that have come back.
 #[derive(Drop)]
 pub struct Run {
     pub port: Sole,
@@ -150,7 +150,7 @@ pub(crate) fn new_run(alloc: Global, tags: VecDeque<Tag>) -> Result<Run, Stop>
     }
 }
 
-/// A round: a turn of each, and what the client that plays was told is written.
+/// Runs a round: a turn of each, and the gifts of the client that plays are written.
 pub(crate) fn round<K: Sink>(alloc: Global, run: &mut Run, out: &mut K) -> Result<(), Stop>
     requires sound { IsSound run.old }
     ensures sound { OnOk result (IsSound run.new) }

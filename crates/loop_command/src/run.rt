@@ -20,7 +20,7 @@ use std::alloc::Global;
 /// The rounds of a film without bytes.
 const FIRST_ROUNDS: u64 = 4_096;
 
-// How many rounds a film of so many bytes has.
+// The number of rounds of a film with that number of bytes.
 fn rounds_of(bytes: u64) -> u64
     requires { bytes ≤ 2 ^ 28 }
     ensures { result ≡ rounds_of bytes }
@@ -103,21 +103,23 @@ fn status_of(run: Result<(), Stop>) -> Status
     }
 }
 
-/// Sends a film of FLV (annex E of Adobe's FLV 10.1) through the relay, and writes what comes back, as FLV.
+/// Sends a film of FLV (annex E of Adobe's FLV 10.1) through the relay, and writes the film that comes
+/// back, as FLV.
 ///
-/// The word is `loop`. The film has at most 2^28 bytes, and is read first. Then one client publishes it at a session of the relay, and
-/// another plays it at a second session, over one stream; they take turns on this thread until the stream is over. The output is
-/// written as it comes. The answer's code tells how it ended:
+/// The word is `loop`. The film has at most 2^28 bytes, and is read first. Then one client publishes it at
+/// a session of the relay, and another plays it at a second session, over one stream; they take turns on
+/// this thread until the stream is over. The output is written as it comes. The answer's code tells how it
+/// ended:
 ///
 /// | Code | Comes | Written |
 /// |---|---|---|
 /// | 0 | the film came back: its units were pushed, and the player was told that the stream is over | the header, and the tags that the player was sent |
-/// | 2 | exactly where the words are others; nothing is read | nothing |
-/// | 3 | only where the source's faults rose | nothing |
-/// | 4 | the film is refused at `place`: at that of [`flv_tags::FlvFail`], or at 2^28 where it has more bytes | nothing |
-/// | 5 | only where the sink's faults rose | a first part |
+/// | 2 | exactly if the words are others; nothing is read | nothing |
+/// | 3 | only if the source's faults rose | nothing |
+/// | 4 | the film is refused at `place`: at that of [`flv_tags::FlvFail`], or at 2^28 if it has more bytes | nothing |
+/// | 5 | only if the sink's faults rose | a first part |
 /// | 6 | for want of memory | a first part |
-/// | 9 | the run hasn't come to its end within 4,096 rounds and two for each byte of the film | what came |
+/// | 9 | the run hasn't come to its end within 4,096 rounds and two for each byte of the film | the tags that came |
 ///
 /// `place` is 0 but for code 4.
 pub fn loop_run<S: Source, K: Sink>(

@@ -30,7 +30,8 @@ impl From<OutOfMemory> for Stop {
     }
 }
 
-/// Why a run ends, by why a step of a client's command did: a place beyond the bytes that may be read is that of the first behind them.
+/// Why a run ends, by why a step of a client's command did: a place beyond the bytes that may be read is
+/// that of the first behind them.
 pub(crate) fn within(stop: client_command::Stop) -> Stop
     ensures { result ≡ stop_within stop }
 {

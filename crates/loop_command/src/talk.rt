@@ -1,4 +1,4 @@
-//! What the sessions of a run have said, when a client has ended.
+//! The bytes that the sessions of a run have sent, when a client has ended.
 ghost use Rattle.std.specs.Prelude.{◌≡◌};
 ghost use Rattle.client_law.specs.Room.{HaveRoom};
 ghost use Rattle.loop_command.specs.Desk.{granted, rules};
@@ -8,7 +8,8 @@ ghost use Rattle.stream_registry.specs.Books.{journal_at, sole_rules};
 use crate::ending::have_room;
 use crate::rounds::Run;
 
-/// What each session sent begins what it owes, and each item of the stream has room in a message. It goes through the stream's history.
+/// The bytes that each session sent begin the bytes that it owes, and each item of the stream has room in a
+/// message. It goes through the stream's history.
 pub(crate) fn talk_law(run: &Run)
     requires { sole_rules run.now.port.rules ≡ rules }
     ensures plays { StandsFor granted run.now.pull.session → IsWhole granted run.now.pull.session.parts }

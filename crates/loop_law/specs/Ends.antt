@@ -6,7 +6,8 @@ use Rattle.file_commands.specs.Outcome.{Seen}
 use Rattle.flv_tags.specs.declared.tag.Tag.{Tag}
 use Rattle.loop_command.specs.Course.{CameBack, CameNot}
 
--- a run of the film of these tags, which has so many bytes: whether it has come back within its rounds, and the text that came
+-- a run of the film of these tags, which has so many bytes: whether it has come back within its rounds, and
+-- the text that came
 abbrev pub ComesTo : List Tag → ℕ → Bool → List ℕ → Type 0
 ComesTo tags bytes true text = CameBack tags bytes text
 ComesTo tags bytes false text = CameNot tags bytes text
@@ -16,7 +17,8 @@ pub record SameEnd (back : Bool) (text : List ℕ) (back' : Bool) (text' : List 
   pub back_same : back' ≡ back
   pub text_same : text' ≡ text
 
--- by its code neither want of memory nor its source or sink ended it: the film has come back, it is refused, or it hasn't come back
+-- by its code neither want of memory nor its source or sink ended it: the film has come back, it is refused,
+-- or it hasn't come back
 abbrev pub WasDecided : Status → Type 0
 WasDecided s = (s.code ≡ 0) ⊎ ((s.code ≡ 4) ⊎ (s.code ≡ 9))
 

@@ -37,8 +37,8 @@ ReachesIf seen limits root (Some p) = Reaches limits root (seen p)
 
 module _ {P Q : Type 0} (rules : P → PortRules) (adds : List Step → List Step → List Step → Type 0) (root : P → Histories) (seen : Q → List Step)
     (kin : P → Kin) (branches : Q → List Branch) where
-  -- ONE CALL, AND NO OTHER: where it was answered it alone came to the history of its place, by the rules, and no pass was split off but
-  -- the caller's and the one that the call took in
+  -- ONE CALL, AND NO OTHER: where it was answered it alone came to the history of its place, by the rules,
+  -- and no pass was split off but the caller's and the one that the call took in
   pub record AsksAlone (port port' : P) (s : SeatState Q) (call : Call) (answer : Result Reply PortFail) (s' : SeatState Q) : Type 0 where
     pub calls : s'.calls ≡ calls_after s.calls (entry_of s.who call) answer
     pub history : adds (root port s.place) (answered (entry_of s.who call) answer) (root port' s.place)

@@ -9,8 +9,8 @@ abbrev pub RiseFrom : ℕ → List ℕ → Type 0
 RiseFrom n [] = Unit {0}
 RiseFrom n (m ∷ ms) = (n ≤ m) × RiseFrom (m + 1) ms
 
--- THE CALLS that a caller made, the oldest first, where its pass has seen this of the history and made calls at these numbers:
--- they are all that stand at these numbers, and they are its own
+-- THE CALLS that a caller made, the oldest first, where its pass has seen this of the history and made calls
+-- at these numbers: they are all that stand at these numbers, and they are its own
 pub record Stand (limits : Shape) (who : ℕ) (seen : List Step) (mine : List ℕ) (calls : List Step) : Type 0 where
   -- what it had seen when the last of them was answered
   pub known : List Step

@@ -23,7 +23,8 @@ abbrev pub from_at : Call → Reply → Option ℕ
 from_at Join r = from_in r
 from_at _ r = None
 
--- WHERE WHAT A CALLER IS SENT BEGINS: the number of the item from which the first of these calls joined that did, the oldest call first
+-- WHERE WHAT A CALLER IS SENT BEGINS: the number of the item from which the first of these calls joined that
+-- did, the oldest call first
 abbrev pub joined_from : List Step → Option ℕ
 joined_from [] = None
 joined_from (step ∷ later) = option_or (from_at step.0.call step.1) (joined_from later)

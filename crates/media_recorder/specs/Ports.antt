@@ -4,8 +4,8 @@ use Rattle.turn_gate.specs.Histories.{Begins}
 use Rattle.stream_registry.specs.Names.{PortRules}
 use Rattle.stream_registry.specs.Told.{Step, Histories}
 
--- a port after something at one place: what never changes stays, nothing is forgotten, the roots at other places are as before,
--- and passes that fitted it still do
+-- a port after something at one place: what never changes stays, nothing is forgotten, the roots at other
+-- places are as before, and passes that fitted it still do
 pub record Serves {P Q : Type 0} (rules : P → PortRules) (root : P → Histories) (busies : P → ℕ) (fits : P → ℕ → Q → Type 0)
     (place : ℕ) (port port' : P) : Type 0 where
   pub fixed : rules port' ≡ rules port

@@ -19,9 +19,9 @@ abbrev pub HasSeen : {Q : Type 0} → (Q → ℕ) → ℕ → Option Q → Type 
 HasSeen count n None = ⊥
 HasSeen count n (Some p) = count p ≡ n
 
--- WHAT A FILE HOLDS, where it tells that, is what the recorder sent to it. One that ended by a fault of its file has a file
--- with faults; one that ended as all places were taken was turned away; one that ended as the history was full has a pass
--- that has seen all the calls that a history can have
+-- WHAT A FILE HOLDS, where it tells that, is what the recorder sent to it. One that ended by a fault of its
+-- file has a file with faults; one that ended as all places were taken was turned away; one that ended as the
+-- history was full has a pass that has seen all the calls that a history can have
 pub record Tallied {Q : Type 0} (count : Q → ℕ) (held : Option (List ℕ)) (faults : ℕ) (r : RecorderState Q) : Type 0 where
   pub told : (bytes : List ℕ) → held ≡ Some bytes → bytes ≡ r.tape.sent
   pub blamed : r.end ≡ Some SinkFault → faults ≢ 0

@@ -76,8 +76,8 @@ impl Medium for FlvMedium {
 }
 
 impl<P: StreamPort> Recorder<P, FlvMedium> {
-    /// What the sink took and what is pending are the FLV text of the items that the recorder's Takes were sent, or a
-    /// beginning of it where there was no memory.
+    /// Shows that the bytes that the sink took, followed by the pending bytes, are the FLV text of the items
+    /// that the recorder's Takes were sent. If memory was refused, they are a beginning of that text.
     pub fn flv_law(&self)
         ensures whole { self.now.end ≢ Some RecEnd.OutOfMemory → self.now.tape.sent ++ self.now.tape.pending ≡ flv_text (taken self.now.seat.calls) }
         ensures prefix { Begins (self.now.tape.sent ++ self.now.tape.pending) (flv_text (taken self.now.seat.calls)) }

@@ -1,7 +1,9 @@
-//! Recorders: players that write what they take.
+//! Recorders: players that write the items that they take.
 //!
-//! A recorder joins a stream, takes its items as any player does, and writes them by a [`Medium`] to a sink. An
-//! [`FlvRecorder`] writes FLV, a [`TsRecorder`] a transport stream.
+//! A recorder joins a stream, takes its items as any player does, and writes them by a [`Medium`] to a sink.
+//! An [`FlvRecorder`] writes FLV, a [`TsRecorder`] a transport stream.
+//!
+//! Read `Recorder::turn` first. The crate opens no file: a recorder is handed its sink.
 #![tactic(auto)]
 
 mod flv;

@@ -6,7 +6,7 @@ ghost use Rattle.media_recorder.specs.Mediums.{Adds, Begun};
 use av_unit::{Bytes, Item, OutOfMemory};
 use std::alloc::Global;
 
-/// How items are written: their text, and what has to be kept from one item to the next.
+/// The format of a recording: the text of items, and the state that is kept from one item to the next.
 pub trait Medium: Drop {
     // THE TEXT of items that were taken in this order.
     ghost text: { List Item → List ℕ };
@@ -14,7 +14,7 @@ pub trait Medium: Drop {
     // The items that it has written.
     ghost written: { Self → List Item };
 
-    // How many bytes it keeps, beside those that it appended.
+    // The number of bytes that it keeps, besides those that it appended.
     ghost kept: { Self → ℕ };
 
     /// Appends the text of no items. A refusal appends nothing.
@@ -22,12 +22,12 @@ pub trait Medium: Drop {
         ensures ok { IfOk result (λ m. Begun text out.old out.new (written m) (kept m)) }
         ensures err { OnErr result (out.new ≡ out.old) };
 
-    /// Appends what the text grows by with this item. A refusal appends nothing.
+    /// Appends the bytes that this item adds to the text. A refusal appends nothing.
     fn write(&mut self, item: &Item, out: &mut Bytes) -> Result<(), OutOfMemory>
         ensures ok { OnOk result (Adds text (written self.old) item.now (written self.new) out.old out.new (kept self.new)) }
         ensures err { OnErr result ((written self.new ≡ written self.old) × (out.new ≡ out.old) × (kept self.new ≤ kept self.old)) };
 
-    /// How many bytes it keeps.
+    /// Returns the number of bytes that it keeps.
     fn held(&self) -> u64
         ensures { result ≡ kept self.now };
 

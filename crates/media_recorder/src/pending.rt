@@ -6,7 +6,7 @@ use av_unit::{Bytes, Item, OutOfMemory};
 use std::alloc::Global;
 use std::marker::Model;
 
-/// Bytes that a sink is yet to take.
+/// Bytes that the sink has not yet taken.
 #[derive(Drop)]
 pub(crate) struct Pending {
     bytes: Bytes,
@@ -24,21 +24,21 @@ impl Model for Pending {
 }
 
 impl Pending {
-    /// The bytes of a `Bytes`.
+    /// Makes the bytes of a `Bytes` pending.
     pub(crate) fn of(bytes: Bytes) -> Pending
         ensures { result ≡ bytes }
     {
         Pending { bytes, from: 0 }
     }
 
-    /// How many there are.
+    /// Returns the number of pending bytes.
     pub(crate) fn len(&self) -> usize
         ensures { result ≡ length self.now }
     {
         self.bytes.len() - self.from
     }
 
-    /// The bytes.
+    /// Returns the pending bytes.
     pub(crate) fn as_slice(&self) -> &[u8]
         ensures { result.now ≡ self.now }
     {
@@ -46,7 +46,8 @@ impl Pending {
         &self.bytes.as_slice()[from..]
     }
 
-    /// The first of them were taken. Where all were, their memory serves what comes next.
+    /// Removes the first `count` bytes, which the sink took. If it took all, their memory is used again for
+    /// the bytes that come next.
     pub(crate) fn took(&mut self, count: usize)
         requires { count ≤ length self.old }
         ensures { self.new ≡ drop count self.old }

@@ -47,8 +47,9 @@ impl<P: StreamPort, M: Medium> Model for Recorder<P, M> {
 }
 
 impl<P: StreamPort, M: Medium> Recorder<P, M> {
-    /// A recorder at that place, with that name, which has made no call. The text of no items is pending. It writes units of at
-    /// most `longest` bytes: the first longer one that it is sent ends it by `OutOfMemory`.
+    /// Makes a recorder at this place with this name, which has made no call. The text of no items is
+    /// pending. It writes units of at most `longest` bytes: the first longer one that it is sent ends it with
+    /// `OutOfMemory`.
     pub fn new(
         alloc: Global,
         place: u32,
@@ -71,14 +72,14 @@ impl<P: StreamPort, M: Medium> Recorder<P, M> {
         })
     }
 
-    /// The place of its stream.
+    /// Returns the place of its stream.
     pub fn place(&self) -> u32
         ensures { result ≡ self.now.seat.place }
     {
         self.seat.place()
     }
 
-    /// The number of the item from which it joined, if it has joined.
+    /// Returns the number of the item from which it joined, if it has joined.
     pub fn joined_from(&self) -> Option<u64>
         ensures { result ≡ joined_from self.now.seat.calls }
     {
@@ -86,8 +87,9 @@ impl<P: StreamPort, M: Medium> Recorder<P, M> {
         self.from
     }
 
-    /// What the sink took and what is pending are the text of the items that the recorder's Takes were sent, or a
-    /// beginning of it where there was no memory. Its calls stand in the stream's history.
+    /// Shows that the bytes that the sink took, followed by the pending bytes, are the text of the items that
+    /// the recorder's Takes were sent. If memory was refused, they are a beginning of that text. The
+    /// recorder's calls stand in the stream's history.
     pub fn law(&self)
         ensures whole { self.now.end ≢ Some RecEnd.OutOfMemory → self.now.tape.sent ++ self.now.tape.pending ≡ M.text (taken self.now.seat.calls) }
         ensures prefix { Begins (self.now.tape.sent ++ self.now.tape.pending) (M.text (taken self.now.seat.calls)) }
@@ -97,7 +99,7 @@ impl<P: StreamPort, M: Medium> Recorder<P, M> {
         self.seat.law();
     }
 
-    /// The medium, which has written what was taken, but where there was no memory.
+    /// Returns the medium, which has written the items that were taken, unless memory was refused.
     pub(crate) fn medium(&self) -> &M
         ensures written { M.written result.now ≡ self.now.tape.items }
         ensures taken { AreWritten self.now.end self.now.tape.items (taken self.now.seat.calls) }
@@ -105,7 +107,8 @@ impl<P: StreamPort, M: Medium> Recorder<P, M> {
         self.tape.medium()
     }
 
-    /// One turn: a put of all that is pending, else a call. That is its Join where it hasn't joined, else one Take.
+    /// Takes one turn: puts all pending bytes if there are any, and else makes one call. The call is its Join
+    /// if it hasn't joined, else a Take.
     pub fn turn<K: Sink>(&mut self, port: &mut P, sink: &mut K) -> RecTurn
         requires place { self.old.seat.place < length (P.rules port.old).names }
         requires fits { FitsIf (P.fits port.old self.old.seat.place) self.old.seat.pass }
@@ -211,8 +214,8 @@ impl<P: StreamPort, M: Medium> Recorder<P, M> {
         take_ends(answer, &mut self.tape, &mut self.end)
     }
 
-    /// Makes its Leave, if it has joined, and detaches its pass. Where the port is busy or has no memory for the call,
-    /// the recorder comes back, as it was. Where the history is full, no call is made any more.
+    /// Makes its Leave, if it has joined, and detaches its pass. If the port is busy or has no memory for the
+    /// call, the recorder comes back as it was. If the history is full, no further call is made.
     pub fn leave(mut self, port: &mut P) -> Leaving<Recorder<P, M>>
         requires place { self.seat.place < length (P.rules port.old).names }
         requires fits { FitsIf (P.fits port.old self.seat.place) self.seat.pass }
@@ -242,8 +245,9 @@ impl<P: StreamPort, M: Medium> Recorder<P, M> {
         }
     }
 
-    /// How many bytes are pending, or kept by the medium. Where no item that it took has a body of more than m bytes,
-    /// they are at most 4 m + 262,144; and so they are where m is the longest that it writes.
+    /// Returns the number of bytes that are pending or kept by the medium. If no item that it took has a body
+    /// of more than m bytes, this is at most 4 m + 262,144. The same bound holds if m is the longest body
+    /// that it writes.
     pub fn held(&self) -> u64
         ensures sum { result ≡ length self.now.tape.pending + self.now.tape.kept }
         ensures most { (m : ℕ) → AreWithin m (taken self.now.seat.calls) → result ≤ most_held m }
@@ -253,7 +257,7 @@ impl<P: StreamPort, M: Medium> Recorder<P, M> {
     }
 }
 
-// What a put's answer makes of a recorder.
+// Does what the answer of a put requires.
 fn put_ends<M: Medium>(put: Put, tape: &mut Tape<M>, end: &mut Option<RecEnd>) -> RecTurn
     requires count { PutCount tape.old.pending put }
     requires live { end.old ≡ None }
@@ -275,7 +279,7 @@ fn put_ends<M: Medium>(put: Put, tape: &mut Tape<M>, end: &mut Option<RecEnd>) -
     }
 }
 
-// What a call that wasn't made makes of it.
+// Does what a call that wasn't made requires.
 fn unmade(fail: PortFail, end: &mut Option<RecEnd>) -> RecTurn
     requires { end.old ≡ None }
     ensures { Unmade fail result end.new }
@@ -293,7 +297,7 @@ fn unmade(fail: PortFail, end: &mut Option<RecEnd>) -> RecTurn
     }
 }
 
-// The number of the item from which a Join that was answered so joined.
+// Returns the number of the item from which a Join with this answer joined.
 fn from_in(answer: &Result<Reply, PortFail>) -> Option<u64>
     ensures { result ≡ from_answered answer.now }
 {
@@ -304,7 +308,7 @@ fn from_in(answer: &Result<Reply, PortFail>) -> Option<u64>
     }
 }
 
-// What the answer to its Join makes of it.
+// Does what the answer to its Join requires.
 fn join_ends(
     answer: Result<Reply, PortFail>,
     player: &mut Option<u32>,
@@ -333,7 +337,7 @@ fn join_ends(
     }
 }
 
-// What the answer to its Take makes of it.
+// Does what the answer to its Take requires.
 fn take_ends<M: Medium>(
     answer: Result<Reply, PortFail>,
     tape: &mut Tape<M>,

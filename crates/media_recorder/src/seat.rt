@@ -29,7 +29,7 @@ impl<P: StreamPort> Model for Seat<P> {
     ghost invariant = { λ s. StandIf P.limits P.seen P.mine s.who s.pass s.calls };
 }
 
-// The pass that is there, or a new one.
+// Returns the given pass, or a new one of the port if there is none.
 fn entered<P: StreamPort>(port: &mut P, place: u32, pass: Option<P::Pass>) -> P::Pass
     requires place { place < length (P.rules port.old).names }
     requires fits { FitsIf (P.fits port.old place) pass }
@@ -48,7 +48,7 @@ fn entered<P: StreamPort>(port: &mut P, place: u32, pass: Option<P::Pass>) -> P:
 }
 
 impl<P: StreamPort> Seat<P> {
-    /// A caller that has made no call.
+    /// Makes a caller that has made no call.
     pub(crate) fn new(place: u32, who: u64) -> Seat<P>
         ensures { result ≡ record { who = who; place = place; pass = None; calls = [] } }
     {
@@ -60,14 +60,14 @@ impl<P: StreamPort> Seat<P> {
         }
     }
 
-    /// Its place.
+    /// Returns its place.
     pub(crate) fn place(&self) -> u32
         ensures { result ≡ self.now.place }
     {
         self.place
     }
 
-    /// Its calls stand in what its pass has seen.
+    /// Shows that its calls stand in the history that its pass has seen.
     pub(crate) fn law(&self)
         ensures { StandIf P.limits P.seen P.mine self.now.who self.now.pass self.now.calls }
     {

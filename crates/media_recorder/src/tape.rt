@@ -10,8 +10,8 @@ use past::Flow;
 use std::alloc::Global;
 use std::marker::Model;
 
-/// Items on their way to a sink: what a medium makes of them, of which the sink took the first bytes. None of them is a unit of
-/// more than `longest` bytes.
+/// Items on their way to a sink: the bytes that a medium makes of them, of which the sink took the first.
+/// None of them is a unit of more than `longest` bytes.
 #[derive(Drop)]
 pub struct Tape<M: Medium> {
     medium: M,
@@ -30,7 +30,7 @@ impl<M: Medium> Model for Tape<M> {
     ghost invariant = { λ t. IsTape M.text (M.written t.medium) t.sent t.pending (M.kept t.medium) t.longest };
 }
 
-// How many bytes the unit has that an item is.
+// Returns the number of bytes of an item's unit, or 0 for a marker.
 fn body_len(item: &Item) -> usize
     ensures { result ≡ body_of item.now }
 {
@@ -42,7 +42,7 @@ fn body_len(item: &Item) -> usize
 }
 
 impl<M: Medium> Tape<M> {
-    /// The text of no items, of which nothing was sent.
+    /// Makes the text of no items, of which nothing was sent.
     pub(crate) fn new(alloc: Global, longest: u32) -> Result<Tape<M>, OutOfMemory>
         ensures begun { IfOk result (λ t. (t.items ≡ []) × (t.sent ≡ []) × (t.pending ≡ M.text [])) }
         ensures longest { IfOk result (λ t. t.longest ≡ longest) }
@@ -57,7 +57,7 @@ impl<M: Medium> Tape<M> {
         })
     }
 
-    /// What it keeps.
+    /// Shows the properties that it keeps.
     pub(crate) fn law(&self)
         ensures text { self.now.sent ++ self.now.pending ≡ M.text self.now.items }
         ensures room { (m : ℕ) → AreWithin m self.now.items → length self.now.pending + self.now.kept ≤ most_held m }
@@ -65,28 +65,28 @@ impl<M: Medium> Tape<M> {
         let _ = &self.pending;
     }
 
-    /// The medium, which has written the items.
+    /// Returns the medium, which has written the items.
     pub(crate) fn medium(&self) -> &M
         ensures { M.written result.now ≡ self.now.items }
     {
         &self.medium
     }
 
-    /// The bytes that the sink is yet to take.
+    /// Returns the bytes that the sink has not yet taken.
     pub(crate) fn pending(&self) -> &[u8]
         ensures { result.now ≡ self.now.pending }
     {
         self.pending.as_slice()
     }
 
-    /// Whether the sink took all.
+    /// Returns whether the sink took all bytes.
     pub(crate) fn is_drained(&self) -> bool
         ensures { result ≡ is_empty self.now.pending }
     {
         matches!(self.pending.as_slice(), [])
     }
 
-    /// The sink took so many bytes.
+    /// Notes that the sink took `count` bytes.
     pub(crate) fn took(&mut self, count: usize)
         requires { count ≤ length self.old.pending }
         ensures { self.new ≡ sent_more self.old count }
@@ -95,7 +95,8 @@ impl<M: Medium> Tape<M> {
         self.pending.took(count);
     }
 
-    /// Writes an item where nothing is pending. There is no memory for a unit of more than `longest` bytes.
+    /// Writes an item, if nothing is pending. A unit of more than `longest` bytes is refused as out of
+    /// memory.
     #[tactic(auto, using(crate::proofs::Texts::within_more))]
     pub(crate) fn write(&mut self, item: &Item) -> Result<(), OutOfMemory>
         requires { self.old.pending ≡ [] }
@@ -108,7 +109,7 @@ impl<M: Medium> Tape<M> {
         self.pending.write(&mut self.medium, item)
     }
 
-    /// How many bytes are pending or kept by the medium.
+    /// Returns the number of bytes that are pending or kept by the medium.
     pub(crate) fn held(&self) -> u64
         ensures sum { result ≡ length self.now.pending + self.now.kept }
         ensures most { (m : ℕ) → AreWithin m self.now.items → result ≤ most_held m }

@@ -1,11 +1,12 @@
-//! What a sink is told of what is written to it.
+//! Reports the changes of a stream to the sink of its recording.
 
 use av_unit::Item;
 use relay_outside::{Sink, SinkNews};
 use stream_core::Reply;
 use stream_registry::PortFail;
 
-// Tells a sink what its recorder's Take was answered: that a broadcast begins or has ended, or how many items are skipped.
+// Reports the answer of its recorder's Take to a sink: that a broadcast begins or has ended, or the number of
+// items skipped.
 pub(crate) fn tell<K: Sink>(sink: &K, answer: &Result<Reply, PortFail>) {
     match answer {
         Ok(

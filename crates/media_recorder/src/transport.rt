@@ -20,7 +20,7 @@ pub type TsRecorder<P> = Recorder<P, TsMedium>;
 
 /// A transport stream as a medium. It keeps the parameter sets in force.
 ///
-/// Once it has wanted memory it keeps nothing, and writes no more.
+/// Once memory was refused it keeps nothing, and writes no more.
 #[derive(Drop)]
 pub struct TsMedium {
     writer: Option<TsWriter>,
@@ -64,7 +64,8 @@ fn count_of(wrote: Wrote) -> u64
 }
 
 impl TsMedium {
-    /// How many of the items that it has written are left out of the text. The count stands still at the last value of a u64.
+    /// Returns the number of the items written that are left out of the text. The count stops at the last
+    /// value of a u64.
     pub fn left_out(&self) -> u64
         ensures { result ≡ left_out self.now.items }
     {
@@ -84,7 +85,7 @@ impl Medium for TsMedium {
 
     ghost kept = { kept_of };
 
-    /// As the trait says. The medium writes; only want of memory ends that.
+    /// As the trait says. The medium writes until memory is refused.
     fn begin(alloc: Global, out: &mut Bytes) -> Result<TsMedium, OutOfMemory>
         ensures ok { IfOk result (λ m. Begun recorded_text out.old out.new m.items (kept_of m)) }
         ensures err { OnErr result (out.new ≡ out.old) }
@@ -130,8 +131,8 @@ impl Medium for TsMedium {
 }
 
 impl<P: StreamPort> Recorder<P, TsMedium> {
-    /// What the sink took and what is pending are the transport stream of the items that the recorder's Takes were sent, or a
-    /// beginning of it where there was no memory.
+    /// Shows that the bytes that the sink took, followed by the pending bytes, are the transport stream of
+    /// the items that the recorder's Takes were sent. If memory was refused, they are a beginning of it.
     pub fn ts_law(&self)
         ensures whole { self.now.end ≢ Some RecEnd.OutOfMemory → self.now.tape.sent ++ self.now.tape.pending ≡ recorded_text (taken self.now.seat.calls) }
         ensures prefix { Begins (self.now.tape.sent ++ self.now.tape.pending) (recorded_text (taken self.now.seat.calls)) }
@@ -139,8 +140,8 @@ impl<P: StreamPort> Recorder<P, TsMedium> {
         self.law();
     }
 
-    /// How many of the items that its Takes were sent are left out of the text. Where there was no memory, those that weren't
-    /// written aren't counted. The count stands still at the last value of a u64.
+    /// Returns the number of items sent to its Takes that are left out of the text. If memory was refused,
+    /// items that weren't written aren't counted. The count stops at the last value of a u64.
     pub fn left_out(&self) -> u64
         ensures written { result ≡ left_out self.now.tape.items }
         ensures whole { self.now.end ≢ Some RecEnd.OutOfMemory → result ≡ left_out (taken self.now.seat.calls) }

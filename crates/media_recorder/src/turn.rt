@@ -1,5 +1,5 @@
-/// What a recorder's turn did.
-#[derive(Clone, Copy, Debug, PartialEq, Eq)]
+/// The result of a recorder's turn.
+#[derive(Clone, Copy)]
 pub enum RecTurn {
     /// The sink took bytes, or a call was made.
     Moved,
@@ -12,7 +12,7 @@ pub enum RecTurn {
 }
 
 /// Why a recorder has ended.
-#[derive(Clone, Copy, Debug, PartialEq, Eq)]
+#[derive(Clone, Copy)]
 pub enum RecEnd {
     /// A put failed.
     SinkFault,
@@ -24,7 +24,7 @@ pub enum RecEnd {
     OutOfMemory,
 }
 
-/// What became of a recorder that was to leave.
+/// The result of a recorder's leave.
 #[derive(Drop)]
 pub enum Leaving<R: Drop> {
     /// It has left.

@@ -4,15 +4,16 @@ use av_unit::{Bytes, OutOfMemory};
 use std::alloc::Global;
 use std::test::Fail;
 
-// A row is `c` with a configuration, or `f` with a frame. Of a configuration of AAC LC at 44,100 samples a second in stereo each
-// number is then one that isn't read; a frame of three raw bytes is cut off, and each byte of its header altered.
+// A row is `c` with a configuration, or `f` with a frame. The first configuration is AAC LC at 44,100 samples
+// a second in stereo. In each that follows, one number is a value that isn't read. Likewise a frame of three
+// raw bytes is cut off, and each byte of its header altered.
 const ROWS: &[u8] = b"c\x12\x10|c\x12|c\x02\x10|c\x2A\x10|c\x16\x90|c\x12\x00|c\x12\x40|\
 f\xff\xf1\x50\x80\x01\x5f\xfc\x07\x07\x07|f|f\xff|f\xff\xf1|f\xff\xf1\x50|f\xff\xf1\x50\x80\x01\x5f\xfc\x07\x07|\
 f\xfd\xf1\x50\x80\x01\x5f\xfc\x07\x07\x07|f\xff\xf3\x50\x80\x01\x5f\xfc\x07\x07\x07|f\xff\xf1\x52\x80\x01\x5f\xfc\x07\x07\x07|\
 f\xff\xf1\x50\x82\x01\x5f\xfc\x07\x07\x07|f\xff\xf1\x50\x80\x03\x5f\xfc\x07\x07\x07|f\xff\xf1\x50\x80\x01\x5d\xfc\x07\x07\x07|\
 f\xff\xf1\x50\x80\x01\x5f\xfe\x07\x07\x07|";
 
-// What a configuration is refused for, or its numbers.
+// Appends the reason for which a configuration is refused, or its numbers.
 fn add_configuration(bytes: &[u8], out: &mut Bytes) -> Result<(), OutOfMemory> {
     match Asc::read(bytes) {
         Ok(asc) => out.append(&[b'=', asc.object, asc.index, asc.channels]),
@@ -24,7 +25,7 @@ fn add_configuration(bytes: &[u8], out: &mut Bytes) -> Result<(), OutOfMemory> {
     }
 }
 
-// Where a frame is refused, or its numbers and how many raw bytes it has.
+// Appends the place at which a frame is refused, or its numbers and the number of its raw bytes.
 fn add_frame(bytes: &[u8], out: &mut Bytes) -> Result<(), OutOfMemory> {
     match read_adts(bytes) {
         Ok((asc, raw)) => out.append(&[b'=', asc.object, asc.index, asc.channels, digit(raw)]),

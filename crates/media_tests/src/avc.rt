@@ -4,7 +4,8 @@ use avc_annexb::*;
 use std::alloc::Global;
 use std::test::Fail;
 
-// A row is a letter with bytes: `n` for units behind lengths of one byte, `s` for a byte stream, `r` for a configuration record.
+// A row is a letter with bytes: `n` for units behind lengths of one byte, `s` for a byte stream, `r` for a
+// configuration record.
 const ROWS: &[u8] =
     b"n|n\x00|n\x01\x65\x00|n\x01\x65\x02\x41|n\x01\x65\x05\x41\x00\x00\x01\x02|n\x05\x41\x00\x00\x03\x02|\
 n\x04\x41\x00\x00\x00|n\x02\x41\x00|\
@@ -13,7 +14,7 @@ r\x01\x64\x00\x1f\xff\xe1\x00\x02\x67\x64\x01\x00\x02\x68\xee|r\x01\x64\x00\x1f\
 r\x01\x64\x00\x1f\xff\xe1\x00\x02\x67\x64|r\x01\x64\x00\x1f\xff|r\x02\x64\x00\x1f\xff\xe1|r\x01\x64\x00\x1f\xfe\xe1|\
 r\x01\x64\x00\x1f\xff\xe1\x00\x02\x67\x00\x00|r\x01\x64\x00\x1f\xff\xe0\x01\x00\x00|";
 
-// A refusal as its letter, and its numbers.
+// Returns a refusal as its letter, and its numbers.
 fn code(fail: AvcFail) -> [u8; 3] {
     let (letter, first, second) = match fail {
         AvcFail::Short { at } => (b's', at, 0),
@@ -27,7 +28,7 @@ fn code(fail: AvcFail) -> [u8; 3] {
     [letter, digit(first), digit(second)]
 }
 
-// What units behind lengths are refused for.
+// Returns the reason for which units behind lengths are refused.
 fn refused(alloc: Global, bytes: &[u8]) -> Option<AvcFail> {
     match nals(alloc, bytes, 1) {
         Ok(_) => None,
@@ -49,7 +50,7 @@ fn no_record(alloc: Global, bytes: &[u8]) -> Option<AvcFail> {
     }
 }
 
-// What a row is refused for.
+// Returns the reason for which a row is refused.
 fn refusal(alloc: Global, row: &[u8]) -> Option<AvcFail> {
     match row {
         [b'n', bytes @ ..] => refused(alloc, bytes),
@@ -82,7 +83,7 @@ fn bytes_are_refused_at_the_first_place(rt: HostRuntime) -> Result<(), Fail> {
     Ok(())
 }
 
-// The units of a byte stream, in a byte stream.
+// Returns the units of a byte stream, written again as a byte stream.
 fn again(alloc: Global, bytes: &[u8]) -> Result<Bytes, AvcFail> {
     let list = split_annexb(alloc, bytes)?;
     let mut out = Bytes::new(alloc);
@@ -113,7 +114,7 @@ fn add_sets(sets: &NalList, out: &mut Bytes) -> Result<(), OutOfMemory> {
     Ok(())
 }
 
-// The parameter sets of a record, with `|` behind each, and the size of its lengths.
+// Appends the parameter sets of a record, each followed by `|`, and the size of its lengths.
 fn add_record(avcc: &Avcc, out: &mut Bytes) -> Result<(), OutOfMemory> {
     add_sets(&avcc.sps, out)?;
     add_sets(&avcc.pps, out)?;

@@ -9,7 +9,8 @@ const SOUND: &[u8] = b"FLV\x01\x05\x00\x00\x00\x09\x00\x00\x00\x00\
     \x08\x00\x00\x04\x00\x00\x00\x00\x00\x00\x00\xaf\x00\x12\x10\x00\x00\x00\x0f\
     \x08\x00\x00\x0b\x00\x00\x00\x00\x00\x00\x00\xaf\x01123456789\x00\x00\x00\x16";
 
-// How `remux` of the sound ends where there is memory for so many puts, and how much it wrote.
+// Returns how `remux` of the audio ends if there is memory for `puts` puts, and the number of bytes that it
+// wrote.
 fn starved(alloc: Global, puts: u64) -> Result<Vec<u8>, Fail> {
     let words = vec![in alloc; b"remux".to_vec(alloc)?]?;
     let mut input = MemSource::new(vec![in alloc; SOUND.to_vec(alloc)?]?, Vec::new(alloc));

@@ -6,7 +6,8 @@ use flv_tags::*;
 use std::alloc::{AllocError, Global};
 use std::test::Fail;
 
-// What FFmpeg 5.1 wrote of three pictures and twelve samples: metadata, a key frame, sound, and two inter frames.
+// The output of FFmpeg 5.1 for three video frames and twelve samples: metadata, a keyframe, audio, and two
+// inter frames.
 const PICTURES: &[u8; 402] = b"FLV\x01\x05\x00\x00\x00\x09\x00\x00\x00\x00\
 \x12\x00\x01\x0c\x00\x00\x00\x00\x00\x00\x00\x02\x00\x0aonMetaData\x08\x00\x00\x00\x0c\
 \x00\x08duration\x00?\xe3333333\x00\x05width\x00@0\x00\x00\x00\x00\x00\x00\
@@ -21,16 +22,17 @@ const PICTURES: &[u8; 402] = b"FLV\x01\x05\x00\x00\x00\x09\x00\x00\x00\x00\
 \x09\x00\x00\x09\x00\x00\xc8\x00\x00\x00\x00\x22\x00\x00\x84\x18\x08\x081 \x00\x00\x00\x14\
 \x09\x00\x00\x09\x00\x01\x90\x00\x00\x00\x00\x22\x00\x00\x840\x08\x081 \x00\x00\x00\x14";
 
-// What it wrote of twelve samples at 20,000 seconds, with the flags of audio alone.
+// Its output for twelve samples at 20,000 seconds, with the flags of audio alone.
 const LATE: &[u8; 41] = b"FLV\x01\x04\x00\x00\x00\x09\x00\x00\x00\x00\
 \x08\x00\x00\x0d\x31\x2d\x00\x01\x00\x00\x00\x04\x80\x83\x87\x8a\x8d\x8f\x8f\x8f\x8e\x8c\x89\x85\x00\x00\x00\x18";
 
-// A refusal as text.
+// Returns a refusal as text.
 fn refusal(alloc: Global, fail: FlvFail) -> Result<String, AllocError> {
     format!(in alloc; "{fail:?}")
 }
 
-// What one call answers to a piece, and how many bytes it used. The tag that it gives is written to `again`.
+// Returns the answer of one call to a piece, and the number of bytes that it used. The tag that it gives is
+// written to `again`.
 fn answer(
     reader: &mut TagReader,
     alloc: Global,
@@ -57,7 +59,7 @@ fn answer(
     }
 }
 
-// Feeds a piece to its end, and tells each tag, or the refusal.
+// Feeds a piece to its end, and prints each tag, or the refusal.
 fn feed_all(
     reader: &mut TagReader,
     alloc: Global,
@@ -80,7 +82,7 @@ fn feed_all(
     Ok(())
 }
 
-// What the end gives.
+// Returns the text of the reader's answer at the end.
 fn end_text(reader: &TagReader, alloc: Global) -> Result<String, AllocError> {
     match reader.finish() {
         Ok(()) => format!(in alloc; "end"),
@@ -88,7 +90,8 @@ fn end_text(reader: &TagReader, alloc: Global) -> Result<String, AllocError> {
     }
 }
 
-// What a reader gives of a file: type, time and size of each tag, or the refusal, and then what it says at the end.
+// Returns the text that a reader gives of a file: type, time and size of each tag, or the refusal, and then
+// its answer at the end.
 fn given(alloc: Global, file: &[u8], again: &mut Bytes) -> Result<String, AllocError> {
     if file.len() > 1_000_000 {
         return Err(AllocError);
@@ -119,8 +122,9 @@ fn files_are_read_and_written_again(rt: HostRuntime) -> Result<(), Fail> {
     Ok(())
 }
 
-// Files that end within their header and within a tag, and those that are refused: by a wrong byte of the header, its length,
-// a tag's type, its highest byte, and what is stored behind it.
+// Files that end within their header and within a tag, and those that are refused. The causes are a wrong
+// byte of the header, the header's length, a tag's type, the highest byte of a tag's length, and the size
+// stored behind a tag.
 const REFUSED: &[u8] =
     b"|FLV\x01\x05\x00\x00\x00|FLV\x01\x05\x00\x00\x00\x09\x00\x00|FLV\x01\x05\x00\x00\x00\x09\x00\x00\x00\x00|\
 FLV\x01\x05\x00\x00\x00\x09\x00\x00\x00\x00\x08\x00\x00\x01\x00\x00\x00\x00\x00\x00\x00\xaf\x00\x00\x00|\
@@ -128,7 +132,7 @@ FLW\x01|FLV\x01\xff\x00\x00\x00\x0a|FLV\x01\x05\x00\x00\x00\x09\x01\x02\x03\x04\
 FLV\x01\x05\x00\x00\x00\x09\x00\x00\x00\x00\x09\x40\x00\x01|\
 FLV\x01\x05\x00\x00\x00\x09\x00\x00\x00\x00\x09\x00\x00\x01\x00\x00\x00\x00\x00\x00\x00\x17\x00\x00\x00\x0d|";
 
-// What a reader gives of each row.
+// Returns the text that a reader gives of each row.
 fn told(alloc: Global, rows: &[u8]) -> Result<String, AllocError> {
     let mut text = String::new(alloc);
     let mut again = Bytes::new(alloc);

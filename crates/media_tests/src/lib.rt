@@ -1,4 +1,8 @@
-//! Tests of recordings: FLV, transport streams, their readers, writers and recorders, and the commands over files.
+//! Tests of recordings: FLV, transport streams, their readers, writers and recorders, and the commands over
+//! files.
+//!
+//! Read `flv` first: it feeds a file to a reader and compares the text of the tags. The crate proves no law,
+//! and opens no file.
 #![tactic(auto)]
 
 #[cfg(test)]

@@ -30,7 +30,7 @@ fn times_at_the_wrap(rt: HostRuntime) -> Result<(), Fail> {
     Ok(())
 }
 
-/// The last packet of so many zeros.
+/// Returns the last packet of `len` zeros.
 fn last(alloc: Global, len: usize, flags: PesFlags) -> Result<Bytes, Fail>
     requires { AreFlags flags }
 {

@@ -23,7 +23,7 @@ fn bytes(alloc: Global, text: &[u8]) -> Result<Bytes, OutOfMemory>
     Ok(bytes)
 }
 
-// A port to one stream.
+// Makes a port to one stream.
 fn port(alloc: Global, players: u32) -> Result<Sole, OutOfMemory>
     ensures { IfOk result (λ s. length s.rules.names ≡ 1) }
 {
@@ -47,7 +47,7 @@ fn push(alloc: Global, kind: Kind, time: u32, body: &[u8]) -> Result<Call, OutOf
     Ok(Call::Push(UnitArc::new(alloc, Unit { kind, time, body })?))
 }
 
-// What the publisher asks at a letter.
+// Returns the publisher's call for a letter.
 fn asked(alloc: Global, letter: u8) -> Result<Call, OutOfMemory> {
     match letter {
         b'b' => Ok(Call::Begin),
@@ -71,7 +71,7 @@ fn turned(turn: RecTurn) -> u8 {
     }
 }
 
-// One call of the publisher.
+// Makes one call of the publisher.
 fn publish<P: StreamPort>(
     alloc: Global,
     letter: u8,
@@ -98,7 +98,7 @@ fn publish<P: StreamPort>(
     }
 }
 
-// One turn of the recorder, or one call of the publisher.
+// Makes one turn of the recorder, or one call of the publisher.
 fn step<P: StreamPort>(
     alloc: Global,
     letter: u8,
@@ -123,7 +123,7 @@ fn step<P: StreamPort>(
     publish(alloc, letter, port, pass)
 }
 
-// The letters in turn, and the answers.
+// Makes the steps of the letters in turn, and returns the answers.
 fn run<P: StreamPort>(
     alloc: Global,
     letters: &[u8],
@@ -156,7 +156,7 @@ struct Recorded {
     file: Vec<u8>,
 }
 
-// A recorder at that port, which is given so many puts, and puts of one byte each where it is slow.
+// Runs a recorder at that port. Its sink takes `puts` puts, and one byte of each if it is slow.
 fn told_at(
     alloc: Global,
     letters: &[u8],
@@ -182,7 +182,8 @@ fn told_at(
     })
 }
 
-// A recorder of a stream with so many players, which is given so many puts, and puts of one byte each where it is slow.
+// Runs a recorder of a stream with room for `players` players. Its sink takes `puts` puts, and one byte of
+// each if it is slow.
 fn told(
     alloc: Global,
     letters: &[u8],
@@ -196,7 +197,8 @@ fn told(
     told
 }
 
-// Whether the answers are these where there is memory for so many puts, and the file has so many of the first bytes.
+// Returns whether these are the answers if there is memory for `puts` puts, and whether the file has the
+// first `len` bytes.
 fn is_told(alloc: Global, puts: u64, answers: &[u8], len: usize) -> Result<bool, OutOfMemory> {
     let told = told(alloc, b"ttbckaetttttttttt", 4, puts, false)?;
     let file = told.file.as_slice();

@@ -1,10 +1,10 @@
-/// The first row of a text whose rows have `|` behind them, and what is behind it.
+/// Splits a text whose rows each end in `|`: returns the first row and the text behind it.
 pub fn first_row(text: &[u8]) -> Option<(&[u8], &[u8])> {
     let end = text.iter().position(|b| *b == b'|')?;
     Some((&text[..end], &text[end + 1..]))
 }
 
-/// A number as a digit, where it is below 10.
+/// Returns a number as a digit, if it is below 10.
 pub fn digit(number: usize) -> u8 {
     b'0'.wrapping_add((number % 256) as u8)
 }

@@ -1,7 +1,8 @@
 //! A sink that runs out of memory.
 use relay_outside::{Put, Sink, SinkNews};
 
-/// Takes whole pieces, or one byte of each where it is slow, and has no memory once it has taken so many more.
+/// Takes whole pieces, or one byte of each if it is slow, and has no memory after a given number of further
+/// puts.
 #[derive(Drop)]
 pub struct Starved {
     pub list: Vec<u8>,

@@ -21,7 +21,8 @@ const NO_FRAME: &[u8] =
 const PICTURE: &[u8] =
     b"\x00\x00\x01\xe0\x00\x00\x80\xc0\x0a\x3f\xff\xff\xfe\x99\x1f\xff\xff\xff\x4d\x00\x00\x00\x01\x09\xf0\x00\x00\x00\x01\x65\x88";
 
-// One without a delimiter, one that ends in a zero byte, and one whose times are the same though both are there.
+// An access unit without a delimiter, one that ends in a zero byte, and one whose times are the same though
+// both are there.
 const BARE_PICTURE: &[u8] =
     b"\x00\x00\x01\xe0\x00\x00\x80\xc0\x0a\x3f\xff\xff\xfe\x99\x1f\xff\xff\xff\x4d\x00\x00\x00\x01\x65\x88";
 
@@ -31,11 +32,12 @@ const ENDED_PICTURE: &[u8] =
 const SAME_TIMES: &[u8] =
     b"\x00\x00\x01\xe0\x00\x00\x80\xc0\x0a\x31\x00\x01\x00\x01\x11\x00\x01\x00\x01\x00\x00\x00\x01\x09\xf0\x00\x00\x00\x01\x65\x88";
 
-// What stands at the front and at the end of the packet of a letter, which 0xFF fills between. Its counter is 0. The checks of
-// sections were computed outside.
+// Returns the first and the last bytes of a letter's packet; 0xFF fills the space between. Its counter is 0.
+// The checks of sections were computed outside.
 fn packet(letter: u8) -> (&'static [u8], &'static [u8]) {
     match letter {
-        // Tables: the association, both streams, sound alone, pictures alone, none, and each where the other belongs.
+        // Tables: the association, both streams, audio alone, video alone, none, and each in the place of the
+        // other.
         b'A' => (
             b"\x47\x40\x00\x10\x00\x00\xb0\x0d\x00\x01\xc1\x00\x00\x00\x01\xf0\x00\x2a\xb1\x04\xb2",
             b"",
@@ -64,12 +66,12 @@ fn packet(letter: u8) -> (&'static [u8], &'static [u8]) {
             b"\x47\x50\x00\x10\x00\x00\xb0\x0d\x00\x01\xc1\x00\x00\x00\x01\xf0\x00\x2a\xb1\x04\xb2",
             b"",
         ),
-        // Sound, with a clock reference and without.
+        // Audio, with a clock reference and without.
         b'c' => (b"\x47\x41\x01\x30\x99\x10\xff\xff\xa8\x1c\x7e\x00", FRAME),
         b'f' => (b"\x47\x41\x01\x30\x99\x00", FRAME),
         b'l' => (b"\x47\x41\x01\x30\x99\x00", LONG_FRAME),
         b'n' => (b"\x47\x41\x01\x30\x99\x00", NO_FRAME),
-        // Pictures, with a clock reference but for one, and one of a stream that no table names.
+        // Video, with a clock reference but for one, and one of a stream that no table names.
         b'p' => (b"\x47\x41\x00\x30\x98\x10\xff\xff\xa8\x1c\x7e\x00", PICTURE),
         b'q' => (b"\x47\x41\x00\x30\x98\x00", PICTURE),
         b'b' => (
@@ -85,7 +87,7 @@ fn packet(letter: u8) -> (&'static [u8], &'static [u8]) {
             SAME_TIMES,
         ),
         b'o' => (b"\x47\x41\x02\x30\x98\x10\xff\xff\xa8\x1c\x7e\x00", PICTURE),
-        // A picture of 431 bytes in three packets, and the first packet without a clock reference.
+        // A video frame of 431 bytes in three packets, and the first packet without a clock reference.
         b'x' => (
             b"\x47\x41\x00\x30\x07\x10\xff\xff\xa8\x1c\x7e\x00\x00\x00\x01\xe0\x00\x00\x80\xc0\x0a\x3f\xff\xff\xfe\x99\x1f\xff\xff\xff\x4d\
 \x00\x00\x00\x01\x09\xf0\x00\x00\x00\x01\x65\x88",
@@ -117,19 +119,19 @@ fn put(letter: u8, counter: u8, out: &mut Bytes) -> Result<(), OutOfMemory> {
     out.append(end)
 }
 
-// A refusal as text.
+// Returns a refusal as text.
 fn refusal(alloc: Global, fail: TsFail) -> Result<String, AllocError> {
     format!(in alloc; "{fail:?}")
 }
 
-// A unit as text: its stream, its times, and how many bytes it has.
+// Returns a unit as text: its stream, its times, and its number of bytes.
 fn unit_text(alloc: Global, unit: &TsUnit) -> Result<String, AllocError> {
     let stream = if unit.video { "video" } else { "audio" };
     let (pts, dts, size) = (unit.pts, unit.dts, unit.payload.len());
     format!(in alloc; "{stream} {pts} {dts} {size}, ")
 }
 
-// What one call answers to a piece, and how many bytes it used.
+// Returns the answer of one call to a piece, and the number of bytes that it used.
 fn answer(reader: &mut TsReader, alloc: Global, piece: &[u8]) -> Result<(String, usize), AllocError>
     requires { length reader.old.fed + length piece.now < 2 ^ 63 }
     ensures { IfOk result (λ a. (a.1 ≤ length piece.now) × (length reader.new.fed ≤ length reader.old.fed + a.1)) }
@@ -146,7 +148,7 @@ fn answer(reader: &mut TsReader, alloc: Global, piece: &[u8]) -> Result<(String,
     }
 }
 
-// Feeds a piece to its end, and tells each unit, or the refusal.
+// Feeds a piece to its end, and prints each unit, or the refusal.
 fn feed_all(
     reader: &mut TsReader,
     alloc: Global,
@@ -168,7 +170,7 @@ fn feed_all(
     Ok(())
 }
 
-// What the end gives.
+// Returns the text of the reader's answer at the end.
 fn end_text(reader: &mut TsReader, alloc: Global) -> Result<String, AllocError> {
     match reader.finish(alloc) {
         Err(fail) => refusal(alloc, fail),
@@ -181,7 +183,7 @@ fn end_text(reader: &mut TsReader, alloc: Global) -> Result<String, AllocError> 
     }
 }
 
-// What a reader gives of a stream.
+// Returns the text that a reader gives of a stream.
 fn given(alloc: Global, stream: &[u8]) -> Result<String, AllocError> {
     if stream.len() > 1_000_000 {
         return Err(AllocError);
@@ -196,7 +198,7 @@ fn given(alloc: Global, stream: &[u8]) -> Result<String, AllocError> {
     Ok(text)
 }
 
-// The stream of a line: letters with their counters.
+// Returns the stream of a line: letters with their counters.
 fn stream(alloc: Global, line: &[u8]) -> Result<Bytes, OutOfMemory> {
     let mut out = Bytes::new(alloc);
     for pair in line.chunks(2) {
@@ -207,7 +209,7 @@ fn stream(alloc: Global, line: &[u8]) -> Result<Bytes, OutOfMemory> {
     Ok(out)
 }
 
-// What a reader gives of each row's stream.
+// Returns the text that a reader gives of each row's stream.
 fn told(alloc: Global, rows: &[u8]) -> Result<String, Fail> {
     let mut text = String::new(alloc);
     let mut left = rows;

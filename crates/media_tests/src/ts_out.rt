@@ -9,7 +9,7 @@ use std::alloc::Global;
 use std::test::Fail;
 use ts_writer::*;
 
-/// An answer in one letter, for causes that are numbered with the number's letter.
+/// Returns an answer as one letter. A cause that has a number is the letter of that number.
 fn letter(wrote: Wrote) -> u8 {
     match wrote {
         Wrote::Unit => b'u',
@@ -27,7 +27,7 @@ fn letter(wrote: Wrote) -> u8 {
     }
 }
 
-/// The kind that a letter stands for.
+/// Returns the kind for a letter.
 fn kind_of(letter: u8) -> Kind {
     match letter {
         b'C' => Kind::AConfig,
@@ -41,7 +41,7 @@ fn kind_of(letter: u8) -> Kind {
     }
 }
 
-/// A unit.
+/// Makes a unit.
 fn unit(alloc: Global, kind: Kind, time: u32, body: &[u8]) -> Result<Item, OutOfMemory>
     requires { length body.now ≤ most_bytes kind }
 {
@@ -49,7 +49,7 @@ fn unit(alloc: Global, kind: Kind, time: u32, body: &[u8]) -> Result<Item, OutOf
     Ok(Item::Unit(UnitArc::new(alloc, Unit { kind, time, body })?))
 }
 
-/// A unit of that letter; an end where it has too long a body.
+/// Makes a unit of that letter, or an end if its body is too long.
 fn unit_of(alloc: Global, letter: u8, time: u32, body: &[u8]) -> Result<Item, OutOfMemory> {
     let kind = kind_of(letter);
     if body.len() > kind.most_bytes() {
@@ -58,7 +58,8 @@ fn unit_of(alloc: Global, letter: u8, time: u32, body: &[u8]) -> Result<Item, Ou
     unit(alloc, kind, time, body)
 }
 
-/// The item of a row: `(` begins and `)` ends a broadcast; else a unit's letter, four bytes of its time and its body.
+/// Returns the item of a row: `(` begins and `)` ends a broadcast. Any other row is a unit's letter, four
+/// bytes of its time and its body.
 fn item(alloc: Global, row: &[u8]) -> Result<Item, OutOfMemory> {
     match row {
         [b'('] => Ok(Item::Begin),
@@ -69,7 +70,7 @@ fn item(alloc: Global, row: &[u8]) -> Result<Item, OutOfMemory> {
     }
 }
 
-/// A writer's answers to the items of rows, as letters, and what it wrote.
+/// A writer's answers to the items of rows, as letters, and the bytes that it wrote.
 #[derive(Drop)]
 struct Written {
     said: Bytes,
@@ -136,8 +137,8 @@ fn a_frame_of_sound_behind_both_tables(rt: HostRuntime) -> Result<(), Fail> {
     Ok(())
 }
 
-/// The three bytes behind the first of each packet: start and PID, control and counter; and its adaptation field's flags, or
-/// zero where it has none.
+/// Returns the three bytes after the first of each packet: start and PID, control and counter. The flags of
+/// its adaptation field follow, or zero if it has none.
 fn heads(alloc: Global, out: &Bytes) -> Result<Bytes, Fail> {
     let mut heads = Bytes::new(alloc);
     for packet in out.as_slice().chunks(188) {
@@ -190,7 +191,7 @@ I\xff\xff\xff\xff\x27\x01\xff\xff\xff\x00\x00\x00\x01\x41|S\x00\x00\x00\x00\x27\
     Ok(())
 }
 
-/// How many bytes are written of so many frames of sound.
+/// Returns the number of bytes written for `frames` frames of audio.
 fn sound(alloc: Global, frames: u32) -> Result<usize, OutOfMemory> {
     let mut rows = Bytes::new(alloc);
     rows.append(b"C\x00\x00\x00\x00\xaf\x00\x12\x10|")?;

@@ -9,8 +9,8 @@ use Rattle.stream_model.specs.declared.calls.Entry.{Entry}
 use Rattle.client_owed.specs.declared.types.Gift.{Gift}
 use Rattle.client_owed.specs.declared.types.Gift.TheVariants as gift
 
--- the unit that a tag is, if it is one. No picture is told apart as one that no other needs: where the origin skips, its player may not be
--- told of a new broadcast, whose lengths of NAL units may be others
+-- the unit that a tag is, if it is one. No picture is told apart as one that no other needs: where the origin
+-- skips, its player may not be told of a new broadcast, whose lengths of NAL units may be others
 abbrev pub unit_in : Tag → Option Media
 unit_in t = unit_from t.kind t.time t.body 0
 

@@ -47,8 +47,8 @@ abbrev pub AreGranted : ℕ → History → Type 0
 AreGranted who [] = Unit {0}
 AreGranted who (s ∷ past) = (s.0.who ≡ who → is_granted s.0.call s.1 ≡ true) × AreGranted who past
 
--- AN EDGE OF THIS NAME SERVES A PLACE: in its lawful history the calls of the name are the first of those of an edge that was told this, and
--- nobody else publishes there
+-- AN EDGE OF THIS NAME SERVES A PLACE: in its lawful history the calls of the name are the first of those of
+-- an edge that was told this, and nobody else publishes there
 pub record Serves (who : ℕ) (gs : List Gift) (limits : StreamLimits) (past : History) : Type 0 where
   pub lawful : IsLawful limits past
   pub more : List Call
@@ -67,8 +67,8 @@ items_for (c ∷ cs) = item_for c ∷ items_for cs
 
 -- ---- what comes from where
 
--- A UNIT COMES FROM AN ITEM: it was pushed for the item of this number, which the player of the origin was sent, and is the unit in the tag
--- of that
+-- A UNIT COMES FROM AN ITEM: it was pushed for the item of this number, which the player of the origin was
+-- sent, and is the unit in the tag of that
 pub record ComesFrom (origin : History) (player n : ℕ) (v : Media) (from : ℕ) : Type 0 where
   pub made : IsMadeFor origin player n (call.Push v) from
   pub unit : Media
@@ -86,8 +86,8 @@ pub record IsSentOn (origin : History) (player : ℕ) (past : History) (place k 
 abbrev pub IsFrame : List Item → ℕ → Type 0
 IsFrame items k = (at_kind Key (slice_get items k) ≡ true) ⊎ (at_kind Inter (slice_get items k) ≡ true)
 
--- AN INTER FRAME HAS ITS CHAIN: it comes from the origin, and each frame from the last key frame before it there was sent to its player here
--- too, before it
+-- AN INTER FRAME HAS ITS CHAIN: it comes from the origin, and each frame from the last key frame before it
+-- there was sent to its player here too, before it
 pub record HasItsChain (origin : History) (player : ℕ) (past : History) (place n : ℕ) : Type 0 where
   pub unit : Media
   pub here : slice_get (items_of past) n ≡ Some (item.Unit unit)

@@ -15,21 +15,24 @@ ghost use Rattle.origin_calls.specs.Calls.{edge_calls};
 ghost use Rattle.origin_calls.specs.Origin.{Hears, IsMadeFor, all_told, numbered_calls, plain};
 ghost use Rattle.origin_calls.specs.Relayed.{AreGranted, ComesFrom, HasItsChain, Serves, calls_by, items_for};
 
-/// The calls of an edge with the numbers of its origin's items are the calls of an edge that was told these items. Their Pushes have
-/// strictly rising numbers.
+/// Shows that the calls of an edge with the numbers of its origin's items are the calls of an edge that was
+/// told these items. Their Pushes have strictly rising numbers.
 pub fn numbers_law()
     ensures calls { (live : Bool) (ps : List (ℕ × Item)) → plain (numbered_calls live ps) ≡ edge_calls live (all_told ps) }
     ensures order { (far : StreamLimits) (origin : History) (player m n o p : ℕ) (u v : Media) → IsLawful far origin → m < n
         → IsMadeFor origin player m (Push u) o → IsMadeFor origin player n (Push v) p → o < p }
 {}
 
-/// Lawful after lawful is lawful: an edge serves a place where nobody else publishes, and its client was told what a player of a lawful
-/// stream was sent, or the first of it.
+/// Shows that lawful after lawful is lawful. An edge serves a place at which nobody else publishes, and its
+/// client was told the items that a player of a lawful stream was sent, or the first of them.
 ///
-/// Each of the edge's calls is granted, and what is published here is their items. Each unit of them is one that the player there was sent, later ones with
-/// higher numbers there (`numbers_law`); so the players here, who are sent published items with rising numbers, are sent those of the
-/// origin in its order, each once. An inter frame that a player here is sent has its chain: each frame from the last key frame before it
-/// there was sent to this player too, before it.
+/// Each of the edge's calls is granted, and the items published here are those of its calls. Each unit of
+/// them is one that the player there was sent; later units have higher numbers there (`numbers_law`). The
+/// players here are sent published items with rising numbers. So they are sent those of the origin in its
+/// order, each once.
+///
+/// An inter frame that a player here is sent has its chain. Each frame from the last keyframe before it there
+/// was sent to this player too, before it.
 pub fn relayed_law()
     ensures items { (who : ℕ) (gs : List Gift) (limits : StreamLimits) (past : History) → Serves who gs limits past
         → items_of past ≡ items_for (calls_by who past) }

@@ -23,11 +23,13 @@ ghost use Rattle.origin_law.specs.Played.{PlaysAt};
 
 use client_law::pull_bytes_law;
 
-/// Lawful after lawful is lawful, over bytes. A session of the origin plays, and an edge's client has read the first of the bytes that it owes;
-/// the edge serves a place where nobody else publishes, with the calls for what its client was told by them.
+/// Shows that lawful after lawful is lawful, over bytes. A session of the origin plays, and an edge's client
+/// has read the first of the bytes that it owes. The edge serves a place at which nobody else publishes, with
+/// the calls for the gifts that its client was told by these bytes.
 ///
-/// Then each unit that is published there is one that the session was sent, and an inter frame that a player there is sent has its chain: each
-/// frame from the last key frame before it at the origin was sent to this player too.
+/// Then each unit that is published there is one that the session was sent, and an inter frame that a player
+/// there is sent has its chain. Each frame from the last keyframe before it at the origin was sent to this
+/// player too.
 pub fn relayed_bytes_law()
     ensures units { (k : Asked) (who window max edge : ℕ) (desk : Ask → Grant) (x y : List ℕ) (ms ns : List (ℕ × Message)) (T : List Gave) (C : List Own)
         (limits far : StreamLimits) (past origin : History) (player : ℕ) → k.wish ≡ Pull → HavePlayed k (session who window desk) max x y ms ns T C

@@ -50,7 +50,8 @@ pub record IsNew (k : ClientState) : Type 0 where
   pub lives : k.ended ≡ None
   pub stands : client.StandsFor k
 
--- THE CALLS OF AN EDGE THAT LIVES, with the kept call and those due, ARE THOSE OF THE BYTES that its client was fed, and the client lives
+-- THE CALLS OF AN EDGE THAT LIVES, with the kept call and those due, ARE THOSE OF THE BYTES that its client
+-- was fed, and the client lives
 pub record Stands (c : Core) (k : ClientState) : Type 0 where
   pub client : client.StandsFor k
   pub lives : k.ended ≡ None

@@ -157,8 +157,8 @@ abbrev pub AreHere : ℕ → List Visit → Type 0
 AreHere place [] = Unit {0}
 AreHere place (v ∷ vs) = (v.0 ≡ place) × AreHere place vs
 
--- it belongs to a port of so many places: its pass was attached there, its place is there, and it is nowhere else; its calls are those that
--- were made, all at its place, and it is granted what they were answered
+-- it belongs to a port of so many places: its pass was attached there, its place is there, and it is nowhere
+-- else; its calls are those that were made, all at its place, and it is granted what they were answered
 pub record IsAt {Q : Type 0} (fits : ℕ → Q → Type 0) (count : ℕ) (c : Core) (s : SeatState Q) : Type 0 where
   pub fit : HasFit fits s.spot
   pub there : c.place < count

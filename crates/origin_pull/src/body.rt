@@ -3,7 +3,7 @@ use relay_session::Seat;
 use rtmp_client::Client;
 use stream_registry::StreamPort;
 
-/// An edge that lives: what it keeps, where it stands at the streams, and its client.
+/// An edge that lives: its state, its seat at the streams, and its client.
 #[derive(Drop)]
 pub(crate) struct Body<P: StreamPort> {
     pub(crate) core: Core,

@@ -15,14 +15,14 @@ use std::snapshot::Snapshot;
 use stream_model::{Call, Entry, Reply};
 use stream_registry::StreamPort;
 
-// A call of this name.
+// Makes an entry of this name for a call.
 fn entry_of(who: u64, call: Call) -> Entry
     ensures { result ≡ entry_of who call }
 {
     Entry { who, at: 0, call }
 }
 
-// The first call that is due, where none is kept.
+// Takes the first call that is due, if none is kept.
 fn first_due(core: &mut Core) -> Option<Entry>
     requires { core.old.kept ≡ None }
     ensures rest { core.new ≡ record core.old { due = core.new.due } }
@@ -39,7 +39,7 @@ fn first_due(core: &mut Core) -> Option<Entry>
     }
 }
 
-/// The call that is to be made next: the kept one, else the first that is due.
+/// Takes the call that is to be made next: the kept one, else the first that is due.
 pub(crate) fn next_call(core: &mut Core) -> Option<Entry>
     ensures rest { core.new ≡ record core.old { kept = None; due = core.new.due } }
     ensures order { listed result ++ waiting core.new ≡ waiting core.old }
@@ -51,7 +51,7 @@ pub(crate) fn next_call(core: &mut Core) -> Option<Entry>
     }
 }
 
-// Whether a call begins a broadcast.
+// Returns whether a call begins a broadcast.
 fn is_begin(call: &Call) -> bool
     ensures { result ≡ is_begin call.now }
 {
@@ -68,7 +68,7 @@ fn is_begin(call: &Call) -> bool
     }
 }
 
-// What follows the reply to a Begin.
+// Returns the answer of a turn after the reply to a Begin.
 fn after_begin(reply: &Reply) -> EdgeTurn
     ensures { result ≡ after_begin reply.now }
 {
@@ -90,7 +90,7 @@ fn after_begin(reply: &Reply) -> EdgeTurn
     }
 }
 
-// What follows the reply to a call.
+// Returns the answer of a turn after the reply to a call.
 fn after(begins: bool, reply: &Reply) -> EdgeTurn
     ensures { result ≡ after begins reply.now }
 {
@@ -101,21 +101,21 @@ fn after(begins: bool, reply: &Reply) -> EdgeTurn
     }
 }
 
-// A call is kept.
+// Keeps a call.
 fn keep(core: &mut Core, entry: Entry)
     ensures { core.new ≡ record core.old { kept = Some entry } }
 {
     core.kept = Some(entry);
 }
 
-// A call was answered.
+// Notes that a call was answered.
 fn note(core: &mut Core, asked: Snapshot<Entry>, reply: &Reply)
     ensures { core.new ≡ record core.old { calls = core.old.calls ++ (asked.value, reply.now) ∷ [] } }
 {
     core.calls.add(&Pair::of(asked, reply));
 }
 
-/// Makes a call, where none is kept. One that finds the port busy is kept.
+/// Makes a call, if none is kept. A call that finds the port busy is kept.
 pub(crate) fn make<P: StreamPort>(body: &mut Body<P>, port: &mut P, entry: Entry) -> EdgeTurn
     requires at { IsAt (P.fits port.old) (places (P.rules port.old)) body.old.core body.old.seat }
     requires free { body.old.core.kept ≡ None }

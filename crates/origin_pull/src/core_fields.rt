@@ -2,9 +2,9 @@ use crate::Due;
 use past::{Flow, Pair};
 use stream_model::{Entry, Reply};
 
-/// What an edge keeps of its place. `live` says whether its calls, with those that wait and are due, leave a broadcast begun, `kept` is a
-/// call that found the port busy. `calls`, its own calls with their replies, is of no bytes. An entry's `at` is 0: an edge counts no
-/// input.
+/// The state that an edge keeps of its place. `live` says whether its calls, with those that wait and are
+/// due, leave a broadcast begun. `kept` is a call that found the port busy. `calls`, its own calls with their
+/// replies, takes no bytes. An entry's `at` is 0: an edge counts no input.
 #[derive(Drop)]
 pub struct Core {
     pub who: u64,

@@ -1,7 +1,7 @@
 use stream_model::Call;
 
 /// The calls that are due, the first of which is made first.
-#[derive(Debug, Drop)]
+#[derive(Drop)]
 pub enum Due {
     /// None.
     Nothing,

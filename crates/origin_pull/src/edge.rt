@@ -24,9 +24,10 @@ use std::alloc::Global;
 use std::marker::Model;
 use stream_registry::StreamPort;
 
-/// What publishes at one place the stream that its client pulls.
+/// A publisher at one place, of the stream that its client pulls.
 ///
-/// Contracts see what it keeps of its place, its client, where it stands at the streams, and why it has ended, if it has.
+/// Contracts see its state at its place, its client, its seat at the streams, and why it has ended, if it
+/// has.
 #[derive(Drop)]
 pub struct Edge<P: StreamPort> {
     body: Body<P>,
@@ -43,7 +44,7 @@ impl<P: StreamPort> Model for Edge<P> {
     ghost invariant = { λ s. IsLiving s.ended s.body.core s.body.client };
 }
 
-// Why a turn ended the edge, if it did.
+// Returns why a turn ended the edge, if it did.
 fn end_in(answer: EdgeTurn) -> Option<EdgeEnd>
     ensures { result ≡ ended_by answer }
 {
@@ -54,7 +55,7 @@ fn end_in(answer: EdgeTurn) -> Option<EdgeEnd>
     }
 }
 
-// Why an edge that is closed has ended.
+// Returns why an edge that is closed has ended.
 fn end_or_closed(ended: Option<EdgeEnd>) -> EdgeEnd
     ensures { result ≡ end_or_closed ended }
 {
@@ -65,7 +66,8 @@ fn end_or_closed(ended: Option<EdgeEnd>) -> EdgeEnd
 }
 
 impl<P: StreamPort> Edge<P> {
-    /// An edge of this name that publishes at this place what a client plays that has had no turn. It takes no memory.
+    /// Makes an edge of this name that publishes at this place the stream that a client plays. The client has
+    /// had no turn. It takes no memory.
     pub fn new(who: u64, place: u32, client: Client) -> Edge<P>
         requires { IsNew client }
         ensures stands { StandsFor result }
@@ -92,8 +94,8 @@ impl<P: StreamPort> Edge<P> {
         }
     }
 
-    /// One turn: the call that found the port busy is made, else the next call that is due, else the client takes a turn, and what it
-    /// is then told of the stream is taken.
+    /// Takes one turn. It makes the call that found the port busy, else the next call that is due. If there
+    /// is none, the client takes a turn, and the gift that it is then told of the stream is taken.
     pub fn turn<L: Link>(&mut self, alloc: Global, port: &mut P, link: &mut L) -> EdgeTurn
         requires at { IsAt (P.fits port.old) (places (P.rules port.old)) self.old.parts self.old.seat }
         ensures at { IsAt (P.fits port.new) (places (P.rules port.new)) self.new.parts self.new.seat }
@@ -116,30 +118,39 @@ impl<P: StreamPort> Edge<P> {
         }
     }
 
-    /// Why it has ended, if it has.
+    /// Returns why it has ended, if it has.
     pub fn end(&self) -> Option<EdgeEnd>
         ensures { result ≡ self.now.ended }
     {
         self.ended
     }
 
-    /// Why its client has ended, if it has.
+    /// Returns why its client has ended, if it has.
     pub fn client_end(&self) -> &Option<ClientEnd>
         ensures { result.now ≡ self.now.client.ended }
     {
         self.body.client.end()
     }
 
-    /// Whether its origin has said that the stream is played.
+    /// Returns whether its origin has said that the stream is played.
     pub fn started(&self) -> bool
         ensures { result ≡ has_started self.now.client.parts.phase }
     {
         self.body.client.started()
     }
 
-    /// Makes the kept call, if there is one, and the End of what is live then, and leaves the stream. It has then ended, with `Closed`
-    /// if it lived. Where the port was busy or had no memory it is still there, and is to be closed again; the kept call is kept unless
-    /// it was made. Calls that were due and not kept aren't made. All else that it keeps stays.
+    /// Returns whether a broadcast is live, by the gifts of its client.
+    pub fn is_live(&self) -> bool
+        ensures { result ≡ self.now.parts.live }
+    {
+        self.body.core.live
+    }
+
+    /// Makes the kept call, if there is one, and the End of a broadcast that is live then, and leaves the
+    /// stream. It has then ended, with `Closed` if it lived.
+    ///
+    /// If the port was busy or had no memory it is still there, and is to be closed again; the kept call is
+    /// kept unless it was made. Calls that were due and not kept aren't made. All else that it keeps stays.
     pub fn close(&mut self, port: &mut P) -> Leaving
         requires { HasFit (P.fits port.old) self.old.seat.spot }
         ensures fit { HasFit (P.fits port.new) self.new.seat.spot }
@@ -165,8 +176,8 @@ impl<P: StreamPort> Edge<P> {
         self.body.seat.leave(port, who, 0, &mut self.body.core.kept)
     }
 
-    /// How many bytes it holds: those of its client, and the units of the kept call and of those due. That is no more than a client
-    /// alone may hold.
+    /// Returns the number of bytes that it holds: those of its client, and the units of the kept call and of
+    /// those due. That is at most the number that a client alone may hold.
     pub fn held(&self) -> u64
         ensures holds { Holds self.now.parts self.now.client result }
         ensures most { IsWithin self.now.client.parts.reader.max result }
@@ -174,14 +185,14 @@ impl<P: StreamPort> Edge<P> {
         self.body.client.held() + waiting_len(&self.body.core)
     }
 
-    /// Its calls are those of its client's bytes; of one that has ended they begin them.
+    /// Shows that its calls are those of its client's bytes. If it has ended, they begin them.
     pub fn calls_law(&self)
         ensures { StandsFor self.now }
     {
         let _ = &self.ended;
     }
 
-    /// Where others have made calls at the same port, an edge belongs to it as before.
+    /// Shows that an edge belongs to its port as before, after others have made calls at the same port.
     pub fn others_law()
         ensures { (x y : P) (s : EdgeState P.Pass) → P.rules y ≡ P.rules x → ((q : ℕ) (p : P.Pass) → P.fits x q p → P.fits y q p)
             → IsAt (P.fits x) (places (P.rules x)) s.parts s.seat → IsAt (P.fits y) (places (P.rules y)) s.parts s.seat }

@@ -1,6 +1,6 @@
 use thiserror::Error;
 
-/// Why an edge ends.
+/// The reason why an edge ends.
 #[derive(Clone, Copy, Debug, PartialEq, Eq, Error)]
 pub enum EdgeEnd {
     /// Its client has ended: `Edge::client_end` says why.
@@ -9,13 +9,13 @@ pub enum EdgeEnd {
     /// Somebody else publishes at its place.
     #[error("session {by} publishes at its place")]
     InUse { by: u64 },
-    /// The stream has had as many calls as it can count.
+    /// The stream has had the largest number of calls that it can count.
     #[error("the stream has had as many calls as can be counted")]
     Worn,
-    /// Want of memory, of the edge or of its client.
+    /// Memory was refused, to the edge or to its client.
     #[error("out of memory")]
     OutOfMemory,
-    /// Its place is an open table that has no room for a broadcast more.
+    /// Its place is an open table that has no room for another broadcast.
     #[error("its place has no room for a broadcast more")]
     NoSlot,
     /// It was closed before it had ended.

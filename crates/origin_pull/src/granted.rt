@@ -5,8 +5,9 @@ ghost use Rattle.relay_session.specs.declared.seat_answers.Active.TheVariants.{N
 ghost use Rattle.origin_calls.specs.Calls.{edge_calls, entries, live_after};
 ghost use Rattle.origin_pull.specs.Keeping.{AllGranted, active_if, granted_by, made};
 
-/// An edge whose calls are all those for what it was told, and were granted, publishes exactly where they leave a broadcast live. So when
-/// it is closed End is its last call where one is live, and else it makes none.
+/// Shows that an edge publishes exactly if its calls leave a broadcast live. The conditions are that its
+/// calls are all those for the gifts that it was told, and were granted. So when it is closed, End is its
+/// last call if a broadcast is live, and else it makes none.
 pub fn granted_law()
     ensures { (who : ℕ) (gs : List Gift) (C : List Own) → made C ≡ entries who (edge_calls false gs) → AllGranted C
         → granted_by Nothing C ≡ active_if (live_after false gs) }

@@ -5,7 +5,7 @@ ghost use Rattle.origin_pull.specs.Keeping.{due_bytes, waiting_bytes};
 use crate::{Core, Due};
 use stream_model::{Call, Entry};
 
-// How many bytes the unit has that a call pushes.
+// Returns the number of bytes of the unit that a call pushes, or 0.
 fn call_len(call: &Call) -> u64
     ensures value { result ≡ call_bytes call.now }
     ensures most { result ≤ 4194304 }
@@ -44,7 +44,7 @@ fn due_len(due: &Due) -> u64
     }
 }
 
-/// How many bytes the units have of the kept call and of those due.
+/// Returns the number of bytes of the units of the kept call and of those due.
 #[tactic(auto, using(crate::proofs::Tags::bytes_wait))]
 pub(crate) fn waiting_len(core: &Core) -> u64
     ensures value { result ≡ waiting_bytes core.now }

@@ -1,10 +1,11 @@
-//! An edge: what publishes here the stream that a client pulls from another relay, its origin.
+//! An edge: it publishes here the stream that a client pulls from another relay, its origin.
 //!
-//! An edge stands between a client and one place of this relay. What its origin tells of the stream begins and ends broadcasts there, and
-//! each unit that comes is pushed.
+//! An edge stands between a client and one place of this relay. The news of its origin begin and end
+//! broadcasts there, and each unit that comes is pushed.
 //!
-//! Read `Edge::turn` first. Which calls it makes is `origin_calls`, where their laws stand too; the rules of a turn are `specs/Turns.antt`. It
-//! plays nothing, and it connects nothing: it is handed a client, a port and a link.
+//! Read `Edge::turn` first. `origin_calls` defines the calls that it makes, with their laws; the rules of a
+//! turn are `specs/Turns.antt`. It plays nothing, and it connects nothing: it is handed a client, a port and
+//! a link.
 #![tactic(auto)]
 
 mod body;

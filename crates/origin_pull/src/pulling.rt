@@ -1,4 +1,4 @@
-//! What an edge's client is told, and the calls that are due for it.
+//! The gifts of an edge's client, and the calls that are due for them.
 ghost use Rattle.std.specs.Prelude.{◌≡◌, ◌≤◌, length, None, Some, IfOk, OnOk, OnErr};
 ghost use Rattle.client_owed.specs.declared.types.Gift.TheVariants as gift;
 ghost use Rattle.rtmp_client.specs.Bounds.{gift_bytes};
@@ -20,7 +20,7 @@ use rtmp_client::{Client, ClientEnd, ClientTurn};
 use std::alloc::Global;
 use stream_model::Call;
 
-// The calls by which a broadcast is begun.
+// Returns the calls by which a broadcast is begun.
 fn to_begin(live: bool) -> Due
     ensures calls { calls_due result ≡ calls_for live gift.Published }
 {
@@ -31,7 +31,7 @@ fn to_begin(live: bool) -> Due
     }
 }
 
-// The calls by which one is ended.
+// Returns the calls by which a broadcast is ended.
 fn to_end(live: bool) -> Due
     ensures calls { calls_due result ≡ calls_for live gift.Unpublished }
 {
@@ -42,7 +42,7 @@ fn to_end(live: bool) -> Due
     }
 }
 
-// The calls by which a unit is published.
+// Returns the calls by which a unit is published.
 fn to_push(alloc: Global, live: bool, unit: Unit) -> Result<Due, OutOfMemory>
     ensures calls { IfOk result (λ due. calls_due due ≡ pushes live (Some unit)) }
 {
@@ -54,7 +54,7 @@ fn to_push(alloc: Global, live: bool, unit: Unit) -> Result<Due, OutOfMemory>
     }
 }
 
-// The calls for a tag are due, where none were.
+// Makes the calls for a tag due, if none were.
 fn take_tag(core: &mut Core, alloc: Global, tag: Tag) -> Result<(), OutOfMemory>
     requires short { length tag.body ≤ 4194304 }
     requires nothing { core.old.due ≡ Nothing }
@@ -72,7 +72,7 @@ fn take_tag(core: &mut Core, alloc: Global, tag: Tag) -> Result<(), OutOfMemory>
     }
 }
 
-// The calls for a gift are due, where none were.
+// Makes the calls for a gift due, if none were.
 fn take_gift(core: &mut Core, alloc: Global, gift: Gift) -> Result<(), OutOfMemory>
     requires short { gift_bytes (Some gift) ≤ 4194304 }
     requires nothing { core.old.due ≡ Nothing }
@@ -114,7 +114,7 @@ fn receive(core: &mut Core, client: &mut Client, alloc: Global, answer: EdgeTurn
     }
 }
 
-// Why the edge ends where its client has.
+// Returns why the edge ends if its client has.
 fn end_of(end: &Option<ClientEnd>) -> EdgeEnd
     ensures { result ≡ end_as end.now }
 {
@@ -132,7 +132,7 @@ fn end_of(end: &Option<ClientEnd>) -> EdgeEnd
     }
 }
 
-/// One turn of the client, where no call waits or is due, and the gift that then waits is taken.
+/// Takes one turn of the client, if no call waits or is due, and takes the gift that then waits.
 pub(crate) fn pull<L: Link>(
     core: &mut Core,
     client: &mut Client,

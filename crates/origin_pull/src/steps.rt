@@ -16,7 +16,7 @@ use relay_outside::Link;
 use std::alloc::Global;
 use stream_registry::StreamPort;
 
-/// The kept call, else the first that is due, else one turn of the client.
+/// Makes the kept call, else the first that is due, else takes one turn of the client.
 pub(crate) fn turn_on<P: StreamPort, L: Link>(
     body: &mut Body<P>,
     port: &mut P,

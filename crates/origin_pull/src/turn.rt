@@ -1,7 +1,7 @@
 use crate::EdgeEnd;
 
 /// The answer of a turn.
-#[derive(Clone, Copy, Debug, PartialEq, Eq)]
+#[derive(Clone, Copy)]
 pub enum EdgeTurn {
     /// A call was made, or the client received, sent or was fed a byte.
     Moved,

@@ -22,7 +22,7 @@ fn cause_text(cause: ReadCause) -> &'static str
     }
 }
 
-// A word and a place.
+// Returns a word and a place.
 fn at_text(alloc: Global, word: &str, at: u64) -> Result<String, OutOfMemory>
     ensures { IfOk result (λ text. string_bytes text ≡ at_text word.now at) }
 {
@@ -36,7 +36,7 @@ fn bad_chunk_text(alloc: Global, cause: ReadCause, at: u64) -> Result<String, Ou
     Ok(format!(in alloc; "badchunk {cause} {at}")?)
 }
 
-// Why a client has ended.
+// Returns why a client has ended.
 fn client_text(alloc: Global, end: &Option<ClientEnd>) -> Result<String, OutOfMemory>
     ensures { IfOk result (λ text. string_bytes text ≡ client_text end.now) }
 {
@@ -54,8 +54,8 @@ fn client_text(alloc: Global, end: &Option<ClientEnd>) -> Result<String, OutOfMe
     }
 }
 
-/// Why an edge has ended, whose client has ended so, as a report says it: a word, and the place behind one that has a place, as
-/// `badchunk toolong 3120`.
+/// Returns the text of a report for an edge that has ended, with its client's end: a word, followed by the
+/// place if it has one, as `badchunk toolong 3120`.
 pub fn end_text(
     alloc: Global,
     end: EdgeEnd,

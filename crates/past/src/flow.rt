@@ -3,7 +3,7 @@ ghost use Rattle.std.specs.Prelude.{◌≡◌, [], ◌∷◌, ◌++◌};
 use crate::History;
 use std::marker::Model;
 
-/// A history in the order in which it came, of no bytes.
+/// A history in the order in which its members came. It takes no bytes.
 #[derive(Drop)]
 pub struct Flow<E> {
     at: History<E>,
@@ -24,14 +24,14 @@ impl<E> Flow<E> {
         Flow { at: History::new() }
     }
 
-    /// One member more at the end, which nothing keeps.
+    /// Adds a member at the end. Nothing keeps it when the program runs.
     pub fn add(&mut self, x: &E)
         ensures { self.new ≡ self.old ++ x.now ∷ [] }
     {
         self.at.add(x);
     }
 
-    /// More members at the end, which nothing keeps.
+    /// Adds members at the end. Nothing keeps them when the program runs.
     pub fn add_all(&mut self, xs: &[E])
         ensures { self.new ≡ self.old ++ xs.now }
     {

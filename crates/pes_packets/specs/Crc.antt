@@ -1,4 +1,5 @@
--- The check of a section (ISO/IEC 13818-1, annex A): a register of 32 bits, into which the bits go with the highest first
+-- The check of a section (ISO/IEC 13818-1, annex A): a register of 32 bits, into which the bits go with the
+-- highest first
 use Rattle.std.specs.Prelude.{ℕ, zero, suc, ◌-◌, ◌*◌, ◌^◌, nat_lt, if◌then◌else◌, List, [], ◌∷◌, bit_xor}
 
 -- the polynomial, but for its highest term

@@ -88,8 +88,8 @@ cuts zero first b = []
 cuts (suc most) first [] = []
 cuts (suc most) first (x ∷ xs) = take first (x ∷ xs) ∷ cuts most 184 (drop first (x ∷ xs))
 
--- packets with these payloads: the first starts a unit and tells the flags, and each counter is one more than that before
--- it, modulo 16
+-- packets with these payloads: the first starts a unit and tells the flags, and each counter is one more than
+-- that before it, modulo 16
 unfoldable pub packets : ℕ → ℕ → Bool → PesFlags → List (List ℕ) → List ℕ
 packets pid counter start f [] = []
 packets pid counter start f (run ∷ runs) = packet pid counter start f run ++ packets pid ((counter + 1) % 16) false silent runs

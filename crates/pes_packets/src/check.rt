@@ -1,10 +1,10 @@
 ghost use Rattle.std.specs.Prelude.{◌≡◌, ◌*◌, ◌^◌, bit_xor};
 ghost use Rattle.pes_packets.specs.Crc.{shifted, shifted_by, crc_of};
 
-// The polynomial of a section's check, but for its highest term.
+// The polynomial of a section's check, without its highest term.
 const POLYNOMIAL: u32 = 0x04C1_1DB7;
 
-/// The register one bit on.
+/// Shifts the register by one bit.
 #[tactic(auto, using(std::proofs::lemmas::Bool::Decides::nat_tests), unfolding(crate::specs::Crc::shifted))]
 fn shift(register: u32) -> u32
     ensures { result ≡ shifted register }
@@ -16,7 +16,7 @@ fn shift(register: u32) -> u32
     }
 }
 
-/// The register after a byte.
+/// Returns the register after a byte.
 fn step(register: u32, byte: u8) -> u32
     ensures { result ≡ shifted_by 8 (bit_xor register (byte * 2 ^ 24)) }
 {
@@ -27,7 +27,7 @@ fn step(register: u32, byte: u8) -> u32
     register
 }
 
-/// The check of a section's bytes (ISO/IEC 13818-1, annex A): 0 over a section with its check.
+/// Returns the check of a section's bytes (ISO/IEC 13818-1, annex A). It is 0 over a section with its check.
 pub fn crc(bytes: &[u8]) -> u32
     ensures { result ≡ crc_of bytes.now }
 {

@@ -17,9 +17,10 @@ fn put_time(prefix: u64, time: u64, out: &mut Bytes) -> Result<(), OutOfMemory>
     out.append(&[a, b, c, d, e])
 }
 
-/// Appends the header of a PES packet (ISO/IEC 13818-1, 2.4.3.6): its stream id, its times in units of 1/90,000 second,
-/// below 2^33, and its length, which is 0 or the number of bytes behind the length. The decoding time is written where it
-/// isn't the presentation time. A refusal leaves what `out` held as the beginning of what it holds.
+/// Appends the header of a PES packet (ISO/IEC 13818-1, 2.4.3.6). It has the stream id and the times, in
+/// units of 1/90,000 second, below 2^33. Its length is 0 or the number of bytes behind the length. The
+/// decoding time is written if it isn't the presentation time. After a refusal, `out` begins with the bytes
+/// that it held before.
 #[tactic(auto, using(std::proofs::lemmas::Bool::Decides::nat_tests), unfolding(crate::specs::Header::header))]
 pub fn pes_header(
     id: u8,

@@ -1,8 +1,8 @@
-//! The packets of a transport stream (ISO/IEC 13818-1): those of a section and of a PES packet, the header of a PES packet,
-//! the sections of the two tables, and the check of a section.
+//! The packets of a transport stream (ISO/IEC 13818-1): those of a section and of a PES packet. The crate has
+//! also the header of a PES packet, the sections of the two tables, and the check of a section.
 //!
-//! Read [`put_pes`] first. The packets are `specs/Packet.antt`, the tables' sections `specs/Tables.antt`. Which packets follow each
-//! other is the writer's.
+//! Read [`put_pes`] first. The packets are defined in `specs/Packet.antt`, the tables' sections in
+//! `specs/Tables.antt`. This crate doesn't order the packets: the writer does.
 #![tactic(auto)]
 
 mod check;

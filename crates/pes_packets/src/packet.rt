@@ -5,12 +5,12 @@ ghost use Rattle.pes_packets.specs.Packet.{IsCounter, IsPid, IsTime, AreFlags, b
 use crate::PesFlags;
 use av_unit::{Bytes, OutOfMemory};
 
-// How many bytes of a packet are adaptation field and payload.
+// The number of bytes of a packet for adaptation field and payload.
 const BODY: usize = 184;
 
 const STUFFING: [u8; 184] = [0xFF; 184];
 
-/// Appends bytes FF.
+/// Appends `count` bytes FF.
 pub(crate) fn put_stuffing(count: usize, out: &mut Bytes) -> Result<(), OutOfMemory>
     requires { count ≤ 184 }
     ensures ok { OnOk result (out.new ≡ out.old ++ replicate count 255) }
@@ -19,7 +19,7 @@ pub(crate) fn put_stuffing(count: usize, out: &mut Bytes) -> Result<(), OutOfMem
     out.append(&STUFFING[..count])
 }
 
-/// A flag's bit in a byte.
+/// Returns a flag's bit in a byte.
 fn flag(set: bool, value: u8) -> u8
     ensures { result ≡ bit set * value }
 {
@@ -55,7 +55,7 @@ fn put_pcr(base: u64, out: &mut Bytes) -> Result<(), OutOfMemory>
     out.append(&[a, b, c, d, e, f])
 }
 
-/// How many bytes an adaptation field has behind its length, without stuffing.
+/// Returns the number of bytes of an adaptation field behind its length, without stuffing.
 #[tactic(auto, using(crate::proofs::Bits::told_length))]
 fn told_len(flags: PesFlags) -> usize
     ensures value { result ≡ length (told flags) }
@@ -67,7 +67,7 @@ fn told_len(flags: PesFlags) -> usize
     }
 }
 
-/// How many bytes of payload a packet has room for.
+/// Returns the number of bytes of payload that a packet has room for.
 #[tactic(auto, using(std::proofs::lemmas::Bool::Decides::nat_tests), unfolding(crate::specs::Packet::room))]
 pub(crate) fn room_for(flags: PesFlags) -> usize
     ensures value { result ≡ room flags }
@@ -81,7 +81,7 @@ pub(crate) fn room_for(flags: PesFlags) -> usize
     }
 }
 
-/// Appends what an adaptation field tells.
+/// Appends the content of an adaptation field.
 fn put_told(flags: PesFlags, out: &mut Bytes) -> Result<(), OutOfMemory>
     requires { AreFlags flags }
     ensures ok { OnOk result (out.new ≡ out.old ++ told flags) }
@@ -98,7 +98,7 @@ fn put_told(flags: PesFlags, out: &mut Bytes) -> Result<(), OutOfMemory>
     }
 }
 
-/// Appends an adaptation field of so many bytes.
+/// Appends an adaptation field of `size` bytes.
 #[tactic(auto, using(std::proofs::lemmas::Bool::Decides::nat_tests), unfolding(crate::specs::Packet::adaptation))]
 fn put_adaptation(flags: PesFlags, size: usize, out: &mut Bytes) -> Result<(), OutOfMemory>
     requires flags { AreFlags flags }

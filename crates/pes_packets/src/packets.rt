@@ -5,29 +5,29 @@ use crate::PesFlags;
 use crate::packet::{put_head, put_packet, put_stuffing, room_for};
 use av_unit::{Bytes, OutOfMemory};
 
-// The adaptation field of a packet that isn't its PES packet's first tells nothing.
+// The flags of a packet that isn't its PES packet's first: none.
 const SILENT: PesFlags = PesFlags {
     pcr: None,
     random: false,
     jump: false,
 };
 
-/// The first bytes, so many or all.
+/// Returns the first `count` bytes, or all if there are fewer.
 fn first(bytes: &[u8], count: usize) -> &[u8]
     ensures { result.now ≡ take count bytes.now }
 {
     &bytes[..count.min(bytes.len())]
 }
 
-/// The bytes behind them.
+/// Returns the bytes after the first `count`.
 fn after(bytes: &[u8], count: usize) -> &[u8]
     ensures { result.now ≡ drop count bytes.now }
 {
     &bytes[count.min(bytes.len())..]
 }
 
-/// Appends the packet of a section that fits one (ISO/IEC 13818-1, 2.4.4.1), and gives the next counter of its PID. A
-/// refusal leaves what `out` held as the beginning of what it holds.
+/// Appends the packet of a section that fits one (ISO/IEC 13818-1, 2.4.4.1), and returns the next counter of
+/// its PID. After a refusal, `out` begins with the bytes that it held before.
 #[tactic(auto, unfolding(crate::specs::Packet::section_text))]
 pub fn put_section(
     pid: u16,
@@ -49,9 +49,9 @@ pub fn put_section(
     Ok((counter + 1) % 16)
 }
 
-/// Appends the packets of a PES packet (2.4.3), and gives the next counter of its PID. The first packet's adaptation field
-/// tells the flags; a packet that the rest doesn't fill has one for its stuffing. Bytes are copied in runs of up to 184. A
-/// refusal leaves what `out` held as the beginning of what it holds.
+/// Appends the packets of a PES packet (2.4.3), and returns the next counter of its PID. The first packet's
+/// adaptation field has the flags; a packet that the rest doesn't fill has one for its stuffing. Bytes are
+/// copied in runs of up to 184. After a refusal, `out` begins with the bytes that it held before.
 pub fn put_pes(
     pid: u16,
     counter: u8,
@@ -72,7 +72,7 @@ pub fn put_pes(
     put_rest(pid, (counter + 1) % 16, after(pes, room), out)
 }
 
-/// Appends the packets of what is left of a PES packet.
+/// Appends the packets of the rest of a PES packet.
 fn put_rest(pid: u16, counter: u8, rest: &[u8], out: &mut Bytes) -> Result<u8, OutOfMemory>
     requires pid { IsPid pid }
     requires counter { IsCounter counter }

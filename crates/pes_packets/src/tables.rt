@@ -9,13 +9,13 @@ use std::alloc::Global;
 /// The PID of the association table (2.4.3.3).
 pub const PAT_PID: u16 = 0;
 
-/// The PID of the map, which is this multiplex's own choice, as are those of pictures and of sound.
+/// The PID of the map. It is this multiplex's own choice, as are those of video and of audio.
 pub const PMT_PID: u16 = 0x1000;
 
-/// The PID of pictures.
+/// The PID of video.
 pub const VIDEO_PID: u16 = 0x100;
 
-/// The PID of sound.
+/// The PID of audio.
 pub const AUDIO_PID: u16 = 0x101;
 
 // The association table: program 1, by the map on PID 1000 hex (ISO/IEC 13818-1, 2.4.4.3).
@@ -28,7 +28,7 @@ const VIDEO: [u8; 5] = [0x1B, 0xE1, 0x00, 0xF0, 0x00];
 
 const AUDIO: [u8; 5] = [0x0F, 0xE1, 0x01, 0xF0, 0x00];
 
-/// The association table's section, with its check.
+/// Returns the association table's section, with its check.
 pub fn pat_section() -> &'static [u8]
     ensures section { result.now ≡ pat }
     ensures short { length result.now ≤ 183 }
@@ -36,14 +36,14 @@ pub fn pat_section() -> &'static [u8]
     &PAT
 }
 
-/// A number where something is so, else another.
+/// Returns `number` if `so` holds, else `other`.
 fn choice(so: bool, number: u8, other: u8) -> u8
     ensures { result ≡ (if so then number else other) }
 {
     if so { number } else { other }
 }
 
-/// Appends an entry where the stream is listed.
+/// Appends an entry if the stream is listed.
 fn put_entry(listed: bool, entry: &[u8], section: &mut Bytes) -> Result<(), OutOfMemory>
     ensures ok { OnOk result (section.new ≡ section.old ++ (if listed then entry.now else [])) }
     ensures err { OnErr result (section.new ≡ section.old) }
@@ -55,7 +55,8 @@ fn put_entry(listed: bool, entry: &[u8], section: &mut Bytes) -> Result<(), OutO
     }
 }
 
-/// The map's section, with its check (2.4.4.8): whether it lists pictures and sound, and its version, 0 to 31.
+/// Makes the map's section, with its check (2.4.4.8). `video` and `audio` tell whether it lists them;
+/// `version` is 0 to 31.
 pub fn pmt_section(
     alloc: Global,
     video: bool,

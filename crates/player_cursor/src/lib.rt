@@ -1,10 +1,10 @@
-//! A player's cursor: where the player stands among the items of a stream, and what it must know of
-//! what it was sent.
+//! A player's cursor: the player's position among the items of a stream, and the facts it needs about the
+//! items that it was sent.
 //!
-//! A [`Cursor`] keeps the number of the next item, the last number of each configuration that was
-//! sent, and whether each frame since the last keyframe was sent. That is all that the answer to a
-//! Take asks of what the player was sent before, so a cursor takes no memory. Contracts say for
-//! which items and numbers sent a cursor stands, and what each call makes of that.
+//! Read [`Cursor`] first. It keeps the number of the next item, the last number of each configuration that
+//! was sent, and whether each frame since the last keyframe was sent. The answer to a Take depends on nothing
+//! else of the items sent before, so a cursor takes no memory. Contracts say for which items and numbers sent
+//! a cursor stands, and how each call changes them. It holds no items.
 #![tactic(auto)]
 
 mod cursor;

@@ -1,6 +1,7 @@
-//! Texts to a sink: all of a text, or a first part of it where the sink fails.
+//! Texts to a sink: all of a text, or a first part of it if the sink fails.
 //!
-//! Read [`put_all`] first; what is written of a text stands in `specs/Written.antt`. It makes no text and opens no sink.
+//! Read [`put_all`] first; `specs/Written.antt` defines the part of a text that is written. This crate makes
+//! no text and opens no sink.
 #![tactic(auto)]
 
 mod put;

@@ -5,7 +5,7 @@ ghost use Rattle.put_text.specs.Written.{SinkCause, WritesPart};
 use relay_outside::{Put, Sink};
 
 /// Why a text wasn't put.
-#[derive(Clone, Copy, Debug, PartialEq, Eq)]
+#[derive(Clone, Copy)]
 pub enum PutFail {
     /// The sink failed, and its faults rose.
     SinkFault,
@@ -13,7 +13,7 @@ pub enum PutFail {
     OutOfMemory,
 }
 
-/// Puts all of the text. Where it fails a first part is put.
+/// Puts all of the text. If it fails, a first part of the text is put.
 pub fn put_all<K: Sink>(out: &mut K, text: &[u8]) -> Result<(), PutFail>
     ensures text { MatchResult result (λ _. K.holds out.new ≡ append_known (K.holds out.old) text.now)
         (λ _. WritesPart text.now (K.holds out.old) (K.holds out.new)) }

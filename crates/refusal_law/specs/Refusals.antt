@@ -31,8 +31,9 @@ use Rattle.stream_model.specs.declared.replies.Reply.TheVariants as reply
 abbrev pub Begins : List ℕ → List ℕ → Type 0
 Begins more rest = (later : List ℕ) × (more ++ later ≡ rest)
 
--- THEY HAVE READ EACH OTHER SO FAR: the session the bytes x, as the messages ms, of those that the client owes, and the client the bytes
--- y, as ns, of those that the session owes for its calls C. Both take messages of up to max bytes. The client was given T
+-- THEY HAVE READ EACH OTHER SO FAR: the session the bytes x, as the messages ms, of those that the client
+-- owes, and the client the bytes y, as ns, of those that the session owes for its calls C. Both take messages
+-- of up to max bytes. The client was given T
 pub record HaveTalked (k : Asked) (d : Dialogue State) (max : ℕ) (x y : List ℕ) (ms ns : List (ℕ × Message)) (T : List Gave) (C : List Own) : Type 0 where
   pub named : IsNamed k
   pub least : 4096 ≤ max

@@ -18,15 +18,16 @@ ghost use Rattle.session_owed.specs.Talks.{entries_of};
 use client_law::session_readable_law;
 use command_dialog::laws::the_least_free_id_is_given;
 
-/// No byte of those that a client owes ends the session that reads them.
+/// Shows that no byte of those that a client owes ends the session that reads them.
 pub fn a_session_is_ended_by_no_byte()
     ensures { (k : Asked) (who window max n : ℕ) (desk : Ask → Grant) (x y more : List ℕ) (ms ns : List (ℕ × Message)) (T : List Gave) (C : List Own) (e : End)
         → (h : HaveTalked k (session who window desk) max x y ms ns T C) → Begins more h.rest → length (x ++ more) ≤ 2 ^ 61
         → IsDecided who window desk ms C max (x ++ more) n e → IsWant e }
 {}
 
-/// No byte of those that a session owes ends the client that reads them, but the last of an error that tells it that it is refused; where
-/// each item that the session was sent has room in a message.
+/// Shows that no byte of those that a session owes ends the client that reads them, except the last of an
+/// error by which it is refused. The condition is that each item that the session was sent has room in a
+/// message.
 pub fn a_client_is_ended_by_a_refusal_alone()
     ensures { (k : Asked) (who window max n : ℕ) (desk : Ask → Grant) (x y more : List ℕ) (ms ns : List (ℕ × Message)) (T : List Gave) (C : List Own)
         (e : ClientEnd) → (h : HaveTalked k (session who window desk) max x y ms ns T C) → HaveRoom max C → Begins more h.left → length (y ++ more) ≤ 2 ^ 61
@@ -36,8 +37,8 @@ pub fn a_client_is_ended_by_a_refusal_alone()
     the_least_free_id_is_given();
 }
 
-/// Where its desk grants what a client asks, a session begins that by the first of the calls that messages make, if it makes one, and
-/// begins nothing else.
+/// Shows that a session begins the publish or play that a client asks for, if its desk grants it, by the
+/// first of the calls that messages make, if it makes one. It begins nothing else.
 pub fn a_session_begins_once()
     ensures { (k : Asked) (who window max place : ℕ) (desk : Ask → Grant) (x y : List ℕ) (ms ns : List (ℕ × Message)) (T : List Gave) (C : List Own)
         → (h : HaveTalked k (session who window desk) max x y ms ns T C) → HaveRoom max C → desk (asking_of k) ≡ Place place
@@ -47,7 +48,8 @@ pub fn a_session_begins_once()
     the_least_free_id_is_given();
 }
 
-/// And where the calls by which something would begin have begun it, no byte of those that a session owes ends the client that reads them.
+/// Shows the same for a client that is granted: no byte of those that a session owes ends the client that
+/// reads them. The condition is that the calls by which a publish or play would begin have begun it.
 pub fn a_client_that_is_granted_is_ended_by_no_byte()
     ensures { (k : Asked) (who window max n place : ℕ) (desk : Ask → Grant) (x y more : List ℕ) (ms ns : List (ℕ × Message)) (T : List Gave)
         (C : List Own) (e : ClientEnd) → (h : HaveTalked k (session who window desk) max x y ms ns T C) → HaveRoom max C

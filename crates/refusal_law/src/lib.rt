@@ -1,7 +1,7 @@
-//! A client and a session that read what the other owes never refuse a byte of it.
+//! A client and a session that read the bytes that the other owes never refuse a byte of them.
 //!
-//! Read [`a_session_is_ended_by_no_byte`] and [`a_client_is_ended_by_a_refusal_alone`] first; their words are `specs/Refusals.antt`. It has
-//! no code that runs.
+//! Read [`a_session_is_ended_by_no_byte`] and [`a_client_is_ended_by_a_refusal_alone`] first; their words are
+//! `specs/Refusals.antt`. The crate has no code that runs.
 #![tactic(auto)]
 
 mod laws;

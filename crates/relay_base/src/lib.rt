@@ -1,7 +1,7 @@
 //! Limits, statuses, and numbers read from bytes.
 //!
-//! Read [`be24`] first. [`Limits`] and [`Status`] are what nearly every crate is told and answers. The numbers' definitions stand
-//! in `specs/Numbers.antt`. It reads no texts.
+//! Read [`be24`] first. Nearly every crate takes [`Limits`] or answers with a [`Status`]. The definitions of
+//! the numbers are in `specs/Numbers.antt`. This crate reads no texts.
 #![tactic(auto)]
 
 mod limits;

@@ -1,9 +1,9 @@
-/// What a relay takes at most.
+/// The limits of a relay.
 ///
-/// `max_message` is the longest message that a reader takes, in bytes. `ring_bytes` and `ring_items` bound what a
-/// stream keeps, and `players` how many it serves at once. `window` is the number of bytes after which a peer is
-/// sent an acknowledgement.
-#[derive(Clone, Copy, Debug, PartialEq, Eq)]
+/// `max_message` is the longest message that a reader takes, in bytes. `ring_bytes` and `ring_items` bound
+/// the window of a stream, and `players` bounds its players at a time. `window` is the number of bytes after
+/// which a peer is sent an acknowledgement.
+#[derive(Clone, Copy)]
 pub struct Limits {
     pub max_message: u32,
     pub ring_bytes: u64,
@@ -12,8 +12,8 @@ pub struct Limits {
     pub window: u32,
 }
 
-/// How a program ended: its exit status, and the place in its input that decided this, or 0.
-#[derive(Clone, Copy, Debug, PartialEq, Eq)]
+/// The end of a program: its exit status, and the place in its input that decided this, or 0.
+#[derive(Clone, Copy)]
 pub struct Status {
     pub code: u8,
     pub place: u64,

@@ -3,7 +3,7 @@ ghost use Rattle.relay_base.specs.Numbers.{be16_of, be24_of, be32_of, le32_of};
 
 use byteorder::{BigEndian, ByteOrder, LittleEndian};
 
-/// The number in the first two bytes, the highest first.
+/// Reads the number in the first two bytes, the highest byte first.
 pub fn be16(b: &[u8]) -> u16
     requires { 2 ≤ length b.now }
     ensures { result ≡ be16_of b.now }
@@ -11,7 +11,7 @@ pub fn be16(b: &[u8]) -> u16
     BigEndian::read_u16(b)
 }
 
-/// The number in the first three bytes, the highest first.
+/// Reads the number in the first three bytes, the highest byte first.
 pub fn be24(b: &[u8]) -> u32
     requires { 3 ≤ length b.now }
     ensures value { result ≡ be24_of b.now }
@@ -20,7 +20,7 @@ pub fn be24(b: &[u8]) -> u32
     BigEndian::read_u24(b)
 }
 
-/// The number in the first four bytes, the highest first.
+/// Reads the number in the first four bytes, the highest byte first.
 pub fn be32(b: &[u8]) -> u32
     requires { 4 ≤ length b.now }
     ensures { result ≡ be32_of b.now }
@@ -28,7 +28,7 @@ pub fn be32(b: &[u8]) -> u32
     BigEndian::read_u32(b)
 }
 
-/// The number in the first four bytes, the lowest first.
+/// Reads the number in the first four bytes, the lowest byte first.
 pub fn le32(b: &[u8]) -> u32
     requires { 4 ≤ length b.now }
     ensures { result ≡ le32_of b.now }

@@ -66,7 +66,7 @@ fn read(alloc: Global, bytes: &[u8]) -> u64 {
     ended
 }
 
-// Copies so many bytes as a message has at once, into a list that is used again.
+// Copies a message's number of bytes at once, into a list that is used again.
 fn copy(alloc: Global, bytes: &[u8]) -> Result<u64, AllocError> {
     let mut list = Vec::new(alloc);
     let mut lists = 0u64;

@@ -90,7 +90,7 @@ fn read(alloc: Global, bytes: &[u8]) -> u64
     ended
 }
 
-// Copies so many bytes as a body has at once, into bytes that are used again.
+// Copies a body's number of bytes at once, into bytes that are used again.
 fn copy(alloc: Global, bytes: &[u8]) -> Result<u64, AllocError> {
     let mut out = Bytes::new(alloc);
     let mut made = 0u64;

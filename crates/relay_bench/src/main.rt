@@ -1,4 +1,6 @@
-//! Measurements. Each word names one that is run; without words nothing is done.
+//! Measurements. Each word names a measurement, which is run; without words nothing is done.
+//!
+//! Read `measure` first: it maps each word to its module.
 #![tactic(auto)]
 
 mod chunks;

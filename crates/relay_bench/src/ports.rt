@@ -104,7 +104,7 @@ impl<P: StreamPort> AtPort<P> {
     }
 }
 
-/// What lies under a mutex, and is called there.
+/// A value under a mutex, which is called there.
 trait Called {
     fn call_once(&mut self);
 }
@@ -265,8 +265,8 @@ fn measure_mutex<R: Threads + Wait + Clock + Print + Sync>(
     println!(rt; "mutex: {threads} threads, {places}, {rate} calls a second")
 }
 
-/// Prints the calls a second through a port of one thread, and by 1, 2 and 4 threads through shared ports and under mutexes
-/// of std: all at one place, and each at a place of its own.
+/// Prints the calls a second through a port of one thread, and by 1, 2 and 4 threads through shared ports
+/// and under mutexes of std: all at one place, and each at a place of its own.
 pub fn measure<R: Threads + Wait + Clock + Print + Sync>(rt: &R, alloc: Global) -> io::Result<()> {
     measure_sole(rt, alloc)?;
     for spread in [false, true] {

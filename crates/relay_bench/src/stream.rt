@@ -23,7 +23,7 @@ const BOTH: Want = Want {
     video: true,
 };
 
-/// A stream or a pool that has had so many calls.
+/// A stream or a pool after a number of calls.
 #[derive(Drop)]
 pub(crate) struct Busy {
     table: Table,
@@ -98,7 +98,7 @@ impl Busy {
         Ok(sent)
     }
 
-    // So many rounds of a push and of a Take of each player.
+    // Makes `count` rounds of a push and of a Take of each player.
     fn rounds(&mut self, unit: &UnitArc, players: u32, count: u64) -> Result<u64, OutOfMemory> {
         let mut sent = 0_u64;
         for _ in 0..count {
@@ -124,7 +124,7 @@ fn refused(_: OutOfMemory) -> AllocError {
     AllocError
 }
 
-// The nanoseconds of one of so many.
+// The nanoseconds of one of `count` calls.
 fn each(nanos: u128, count: u64) -> u128 {
     nanos.checked_div(u128::from(count)).unwrap_or(0)
 }
@@ -137,7 +137,8 @@ fn push_nanos<R: Clock>(rt: &R, unit: &UnitArc, busy: &mut Busy, items: u32) -> 
     Ok(start.elapsed(rt)?.as_nanos())
 }
 
-// Rounds of a push and of a Take of each player, which stands at the base of a full window; with how many items were sent.
+// Rounds of a push and of a Take of each player, which stands at the base of a full window; with how many
+// items were sent.
 fn round_nanos<R: Clock>(
     rt: &R,
     unit: &UnitArc,
@@ -218,8 +219,8 @@ fn measure_one<R: Clock + Print>(
     )
 }
 
-/// Prints the time of a push and of a Take at a stream and at a pool of one slot, with windows of 16, 1,024 and 65,536 items and
-/// with 1, 16 and 256 players.
+/// Prints the time of a push and of a Take at a stream and at a pool of one slot. The windows have 16,
+/// 1,024 and 65,536 items, and there are 1, 16 and 256 players.
 pub fn measure<R: Clock + Print>(rt: &R, alloc: Global) -> io::Result<()> {
     for items in [16, 1_024, 65_536] {
         for players in [1, 16, 256] {

@@ -9,7 +9,8 @@ use ts_writer::TsWriter;
 // How many units are written: some 100 MB.
 const UNITS: usize = 6_400;
 
-// The bytes of a unit's one NAL unit, and what stands before it: the head of a picture, and the length in four bytes.
+// The bytes of a unit's one NAL unit, and the bytes before it: the head of a picture, and the length in
+// four bytes.
 const NAL: usize = 16_384;
 
 const HEAD: &[u8; 9] = b"\x27\x01\x00\x00\x00\x00\x00\x40\x00";
@@ -61,7 +62,7 @@ fn write(alloc: Global, config: &Item, picture: &Item) -> Result<u64, AllocError
     Ok(made)
 }
 
-// Copies so many bytes as a unit has as often, into bytes that are used again.
+// Copies the bytes of a unit `UNITS` times, into bytes that are used again.
 fn copy(alloc: Global) -> Result<u64, AllocError> {
     let body = vec![in alloc; 0x5Au8; NAL]?;
     let mut out = Bytes::new(alloc);

@@ -36,9 +36,10 @@ has_names p = is_name p.app && is_name p.name
 abbrev pub has_room : OpenRule → Bool
 has_room o = is_name o.app && is_within 1 64 o.names
 
--- what is known of a configuration that is accepted: its numbers are in their ranges; its HTTP players have an address of their own;
--- it has a stream or an open table, each as above, and at most 64 streams and names together; no two streams have the same names, no
--- two open tables the same app; and the sum is within the bound
+-- what is known of a configuration that is accepted: its numbers are in their ranges; its HTTP players have
+-- an address of their own; it has a stream or an open table, each as above, and at most 64 streams and names
+-- together; no two streams have the same names, no two open tables the same app; and the sum is within the
+-- bound
 
 pub record Lawful (config : Config) : Type 0 where
   pub numbers : InRange config

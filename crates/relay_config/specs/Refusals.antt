@@ -121,8 +121,8 @@ repeats same xs i = option_map_or (λ x. list_any (same x) (take i xs)) (slice_g
 abbrev pub twice_in : {X : Type 0} → (X → X → Bool) → List X → Option ℕ
 twice_in same xs = find (repeats same xs) (range_with_len 0 (length xs))
 
--- the least place of a stream that has the names of an earlier one, else that of an open table that has the app of an earlier
--- one; the places of open tables are counted on behind those of the streams
+-- the least place of a stream that has the names of an earlier one, else that of an open table that has the
+-- app of an earlier one; the places of open tables are counted on behind those of the streams
 abbrev pub twice_of : Config → Option ℕ
 twice_of config = option_or (twice_in same_names config.places) (option_map (λ i. length config.places + i) (twice_in same_app config.opens))
 

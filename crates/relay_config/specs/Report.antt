@@ -9,8 +9,8 @@ use Rattle.relay_config.specs.Names.{name_of}
 abbrev pub shown : ℕ → ℕ
 shown b = if nat_lt b 32 || b == 127 then 63 else b
 
--- what a byte shows behind the byte before it: in UTF-8 0xC2 begins U+0080 to U+00BF, and is shown with the byte behind it;
--- U+0080 to U+009F are control characters, too
+-- what a byte shows behind the byte before it: in UTF-8 0xC2 begins U+0080 to U+00BF, and is shown with the
+-- byte behind it; U+0080 to U+009F are control characters, too
 abbrev pub piece : ℕ → ℕ → List ℕ
 piece before b = if b == 194 then [] else (if before == 194 then (if nat_lt b 160 then 63 ∷ [] else 194 ∷ b ∷ []) else shown b ∷ [])
 

@@ -65,8 +65,8 @@ fn outside_key(rows: &[Row], table: &Value) -> Option<Key>
     }
 }
 
-/// The tests of one table: that it has no key but those of the rows, then that it has the required ones, then that
-/// each value has its form.
+/// Tests one table: it has no key but those of the rows, it has the required ones, and each value has its
+/// form, in this order.
 pub(crate) fn check_table(alloc: Global, rows: &[Row], table: &Value) -> Result<(), ConfigFail>
     ensures { Tells result (table_refusal rows.now (view table.now)) }
 {
@@ -82,7 +82,7 @@ pub(crate) fn check_table(alloc: Global, rows: &[Row], table: &Value) -> Result<
     Ok(())
 }
 
-// The refusal of a key, or of the memory to name it.
+// Makes the refusal of a key, or `OutOfMemory` if memory to name it is refused.
 fn unknown(alloc: Global, key: &str) -> ConfigFail
     ensures { (result ≡ ConfigFail.OutOfMemory) ⊎ (result ≡ ConfigFail.Unknown key.now) }
 {

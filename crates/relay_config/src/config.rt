@@ -4,20 +4,21 @@ use key_guard::{Grants, Mode};
 use relay_base::Limits;
 use thiserror::Error;
 
-/// What a relay is told.
-#[derive(Debug, Drop)]
+/// The configuration of a relay.
+#[derive(Drop)]
 pub struct Config {
     /// The address at which it listens, as it was written.
     pub listen: Bytes,
-    /// The address at which it listens for players that speak HTTP, as it was written: another text than `listen`.
+    /// The address at which it listens for players that speak HTTP, as it was written. Its text isn't that of
+    /// `listen`.
     pub http: Option<Bytes>,
-    /// How many workers serve the links of `listen`; one more serves those of `http`.
+    /// The number of workers that serve the links of `listen`; one more serves those of `http`.
     pub workers: u32,
-    /// How many links each worker has at most.
+    /// The largest number of links of each worker.
     pub links: u32,
-    /// After how many links it accepts no more; 0: it always accepts.
+    /// The number of links after which it accepts no more; 0: it always accepts.
     pub accept: u32,
-    /// What its readers take and its streams keep.
+    /// The limits of its readers and its streams.
     pub limits: Limits,
     /// Its streams, each at its place.
     pub places: PlaceList,
@@ -25,14 +26,15 @@ pub struct Config {
     pub opens: OpenRules,
 }
 
-/// One stream: the pair of names by which it is asked for, who may publish and play it, and where it is recorded.
-#[derive(Debug, Drop)]
+/// One stream: the pair of names by which it is requested, the keys to publish and play it, and its
+/// recordings.
+#[derive(Drop)]
 pub struct PlaceRule {
     pub app: Bytes,
     pub name: Bytes,
     pub publish: Grants,
     pub play: Grants,
-    /// How the keys of both lists are kept.
+    /// The form in which both lists keep their keys.
     pub mode: Mode,
     /// The file of an FLV recording.
     pub flv: Option<Bytes>,
@@ -43,15 +45,16 @@ pub struct PlaceRule {
 /// Streams, in order.
 pub type PlaceList = Listed<PlaceRule>;
 
-/// An open table: an application whose streams nobody listed. Who publishes in it gives the stream its name.
-#[derive(Debug, Drop)]
+/// An open table: an application whose streams aren't listed. A client that publishes in it gives the stream
+/// its name.
+#[derive(Drop)]
 pub struct OpenRule {
     pub app: Bytes,
-    /// How many names it has at a time.
+    /// The largest number of names that it has at a time.
     pub names: u32,
     pub publish: Grants,
     pub play: Grants,
-    /// How the keys of both lists are kept: `Plain` or `Named`.
+    /// The form in which both lists keep their keys: `Plain` or `Named`.
     pub mode: Mode,
 }
 
@@ -70,13 +73,15 @@ pub enum ConfigFail {
     /// A table lacks a key, or there is neither a stream nor an open table.
     #[error("{} isn't there", .key.name())]
     Missing { key: Key },
-    /// A value has a wrong form or is out of its range, there are too many streams or names, or `http` is the text of `listen`.
+    /// A value has a wrong form or is out of its range, there are too many streams or names, or `http` is the
+    /// text of `listen`.
     #[error("{} is out of its range", .key.name())]
     Range { key: Key },
-    /// The stream at this place has the names of an earlier one, or the open table the application of an earlier one.
+    /// The stream at this place has the names of an earlier one, or the open table has the application of an
+    /// earlier one.
     #[error("table {place} has the names of an earlier one")]
     Twice { place: u32 },
-    /// The configured sum passes the bound.
+    /// The configured sum is above the bound.
     #[error("it allows {sum} bytes, which are too many")]
     TooMuch { sum: u64 },
     /// Memory was refused.

@@ -9,14 +9,14 @@ use crate::Key;
 use crate::rows::Form;
 use toml::Value;
 
-/// The value at a key of a table.
+/// Returns the value at a key of a table.
 pub(crate) fn value_at(table: &Value, key: Key) -> Option<&Value>
     ensures { option_map (λ v. view v.now) result ≡ value_at key (view table.now) }
 {
     table.get(key.name())
 }
 
-/// The elements of an array.
+/// Returns the elements of an array.
 pub(crate) fn elements(list: &Value) -> &[Value]
     ensures { map (λ v. view v) result.now ≡ elements (view list.now) }
 {
@@ -32,7 +32,7 @@ fn number_in(value: &Value) -> Option<u32>
     u32::try_from(value.as_integer()?).ok()
 }
 
-/// The number at a key, or the default.
+/// Returns the number at a key, or the default.
 pub(crate) fn number_or(table: &Value, key: Key, default: u32) -> u32
     ensures { result ≡ number_or key default (view table.now) }
 {
@@ -42,7 +42,7 @@ pub(crate) fn number_or(table: &Value, key: Key, default: u32) -> u32
     }
 }
 
-/// The text at a key.
+/// Returns the text at a key.
 pub(crate) fn text_at(table: &Value, key: Key) -> Option<&str>
     ensures { option_copied result ≡ text_at key (view table.now) }
 {
@@ -52,7 +52,7 @@ pub(crate) fn text_at(table: &Value, key: Key) -> Option<&str>
     }
 }
 
-/// Whether the value at a key is true.
+/// Tells whether the value at a key is true.
 pub(crate) fn is_true_at(table: &Value, key: Key) -> bool
     ensures { result ≡ is_true_at key (view table.now) }
 {
@@ -162,7 +162,7 @@ fn are_keys(value: &Value, digest: bool) -> bool
     value.is_array() && all_keys(elements(value), digest)
 }
 
-/// Whether a value of a table has the form.
+/// Tells whether a value of a table has the form.
 pub(crate) fn fits(form: Form, table: &Value, value: &Value) -> bool
     ensures { result ≡ fits form (view table.now) (view value.now) }
 {

@@ -1,8 +1,8 @@
 ghost use Rattle.std.specs.Prelude.{◌≡◌};
 ghost use Rattle.relay_config.specs.Names.{name_of};
 
-/// The keys that a configuration may have: `relay`, `stream` and `open` of the whole, then those of the table
-/// `relay`, then those of each table `stream` and of each table `open`.
+/// The keys that a configuration may have. First are `relay`, `stream` and `open` of the whole, then the keys
+/// of the table `relay`, then those of each table `stream` and of each table `open`.
 #[derive(Clone, Copy, Debug, PartialEq, Eq)]
 pub enum Key {
     Relay,
@@ -29,7 +29,7 @@ pub enum Key {
 }
 
 impl Key {
-    /// How the key is written.
+    /// Returns the key as it is written.
     pub fn name(self) -> &'static str
         ensures { result.now ≡ name_of self }
     {

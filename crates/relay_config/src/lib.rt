@@ -1,10 +1,10 @@
-//! What a relay is told before it starts: where it listens, how much it takes, which streams it has, in which
-//! applications a publisher may name one, and who may publish and play each. A configuration is a TOML text of at
-//! most 1,048,576 bytes; docs/use/configuration.md has each key with its range and its default.
+//! The configuration of a relay: its addresses, its limits, its streams, the applications in which a
+//! publisher may name a stream, and the keys to publish and play. A configuration is a TOML text of at most
+//! 1,048,576 bytes; docs/use/configuration.md has each key with its range and its default.
 //!
-//! `read_config` answers the configuration of a text that is accepted, and else the first test that the text
-//! fails. A configuration tells its bound of memory, its sum, before anything runs, and one whose sum passes
-//! 6,442,450,944 bytes is refused.
+//! Read [`read_config`] first. It answers the configuration of a text that is accepted, and else the first
+//! test that the text fails. A configuration tells its bound of memory, its sum, before anything runs. A
+//! configuration whose sum is above 6,442,450,944 bytes is refused. This crate opens no file and no address.
 #![tactic(auto)]
 
 mod check;

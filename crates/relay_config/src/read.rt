@@ -13,7 +13,7 @@ use crate::{Config, ConfigFail, Key, rows};
 use std::alloc::Global;
 use toml::Value;
 
-// How many bytes a configuration has at most.
+// The largest size of a configuration, in bytes.
 const MOST_BYTES: usize = 1_048_576;
 
 fn document(alloc: Global, bytes: &[u8]) -> Result<Value, ConfigFail>
@@ -33,7 +33,7 @@ fn document(alloc: Global, bytes: &[u8]) -> Result<Value, ConfigFail>
     }
 }
 
-// The tables of a list, none where it isn't there.
+// Returns the tables of a list, or none if the list isn't there.
 fn tables_at(whole: &Value, key: Key) -> &[Value]
     ensures { map (λ v. view v) result.now ≡ tables_at key (view whole.now) }
 {
@@ -43,7 +43,7 @@ fn tables_at(whole: &Value, key: Key) -> &[Value]
     }
 }
 
-// The tests of each table of a list, one table after the other.
+// Tests each table of a list, one after the other.
 fn check_tables(alloc: Global, rows: &[Row], tables: &[Value]) -> Result<(), ConfigFail>
     ensures { Tells result (tables_refusal rows.now (map (λ v. view v) tables.now)) }
 {
@@ -72,13 +72,17 @@ fn read_whole(alloc: Global, whole: &Value) -> Result<Config, ConfigFail>
     Ok(config)
 }
 
-/// The configuration that a text tells.
+/// Reads a configuration from a text.
 ///
-/// It is Ok exactly where the text is accepted, with its values and defaults. Else it is the first test that the
-/// text fails: `NotToml`; for the whole, the table `relay`, each stream and each open table in order, `Unknown`, then
-/// `Missing`, then `Range` of the first such key; `Range` of `http` where it is the text of `listen`; for the streams and open
-/// tables together `Missing`, `Range` of the streams and of the names, `Twice` and `TooMuch`. `OutOfMemory` may come in place of
-/// any of these.
+/// It is Ok exactly if the text is accepted, with its values and defaults. Else the error is the first test
+/// that the text fails.
+///
+/// The first test is `NotToml`. Then, for the whole, the table `relay`, each stream and each open table in
+/// order, `Unknown`, then `Missing`, then `Range` of the first such key. Then `Range` of `http`, if it is the
+/// text of `listen`. Last, for the streams and open tables together, `Missing`, `Range` of the streams and of
+/// the names, `Twice` and `TooMuch`.
+///
+/// `OutOfMemory` may come in place of any of these.
 pub fn read_config(alloc: Global, bytes: &[u8]) -> Result<Config, ConfigFail>
     ensures ok { IfOk result (Accepts bytes.now) }
     ensures refused { IfErr result (λ e. (e ≡ ConfigFail.OutOfMemory) ⊎ (refusal bytes.now ≡ Some e)) }

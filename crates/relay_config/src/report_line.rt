@@ -8,10 +8,10 @@ use std::alloc::Global;
 
 const DELETE: u8 = 127;
 
-// The byte with which UTF-8 begins U+0080 to U+00BF.
+// The first byte of U+0080 to U+00BF in UTF-8.
 const LEAD: u8 = 0xC2;
 
-// Behind that byte, the first of a character that is none of control.
+// The first byte behind it that doesn't make a control character.
 const BEHIND_CONTROL: u8 = 0xA0;
 
 fn shown(b: u8) -> u8
@@ -20,7 +20,7 @@ fn shown(b: u8) -> u8
     if b < 32 || b == DELETE { b'?' } else { b }
 }
 
-// Adds what a byte shows behind the byte before it.
+// Appends the form in which a byte is shown, by the byte before it.
 fn append_piece(line: &mut Vec<u8>, before: u8, b: u8) -> Result<(), OutOfMemory>
     ensures { OnOk result (line.new.items ≡ line.old.items ++ piece before b) }
 {
@@ -40,7 +40,7 @@ fn append_piece(line: &mut Vec<u8>, before: u8, b: u8) -> Result<(), OutOfMemory
     Ok(())
 }
 
-// Adds a key of the text to the line, with `?` for each control character.
+// Appends a key of the text, with `?` for each control character.
 fn append_shown(line: &mut Vec<u8>, key: &[u8]) -> Result<(), OutOfMemory>
     ensures { OnOk result (line.new.items ≡ line.old.items ++ shown_text 0 key.now) }
 {
@@ -88,9 +88,9 @@ fn too_much(alloc: Global, sum: u64) -> Result<String, OutOfMemory>
     Ok(format!(in alloc; "too much {sum}")?)
 }
 
-/// The line that reports a refused configuration: `bad configuration`, and then `not toml`, `unknown KEY`,
-/// `missing KEY`, `range KEY`, `twice PLACE` or `too much SUM`. A key that the text has is written as it is there,
-/// but with `?` for each control character, those from U+0080 to U+009F too.
+/// Returns the line that reports a refused configuration: `bad configuration`, and then `not toml`,
+/// `unknown KEY`, `missing KEY`, `range KEY`, `twice PLACE` or `too much SUM`. A key from the text is written
+/// as it is there, but with `?` for each control character, those from U+0080 to U+009F too.
 pub fn report(alloc: Global, fail: &ConfigFail) -> Result<Bytes, OutOfMemory>
     ensures { IfOk result (λ line. line ≡ report_text fail.now) }
 {

@@ -3,29 +3,29 @@ ghost use Rattle.relay_config.specs.Refusals.{required, optional, whole_rows, re
 
 use crate::Key;
 
-/// What a value must be.
-#[derive(Clone, Copy, Debug)]
+/// The form that a value must have.
+#[derive(Clone, Copy)]
 pub(crate) enum Form {
     /// A table.
     Table,
     /// A list of tables.
     Tables,
-    /// A text of at least one byte.
+    /// A text of 1 to `most` bytes.
     Text { most: u32 },
     /// A text of 1 to 64 letters, digits, `.`, `_` and `-`.
     Word,
-    /// A whole number.
+    /// A whole number from `least` to `most`.
     Number { least: u32, most: u32 },
-    /// A whole number from the `max_message` of the table and 64 to 268,435,456.
+    /// A whole number from the table's `max_message` plus 64 to 268,435,456.
     RingBytes,
-    /// A list of keys: digests where the table's `digest` is true, else texts of 1 to 64 bytes.
+    /// A list of keys: digests if the table's `digest` is true, else texts of 1 to 64 bytes.
     Keys,
     /// True or false.
     Truth,
 }
 
-/// A key that a table may have, whether it must, and the form of its value.
-#[derive(Clone, Copy, Debug)]
+/// A key that a table may have, whether it is required, and the form of its value.
+#[derive(Clone, Copy)]
 pub(crate) struct Row {
     pub key: Key,
     pub required: bool,
@@ -54,14 +54,14 @@ impl Row {
     }
 }
 
-// A whole number in a range, absent or not.
+// Makes the row of a whole number in a range. The key isn't required.
 fn number(key: Key, least: u32, most: u32) -> Row
     ensures { result ≡ optional key (Form.Number least most) }
 {
     Row::optional(key, Form::Number { least, most })
 }
 
-/// What the text has.
+/// Returns the keys of the whole text.
 pub(crate) fn whole() -> [Row; 3]
     ensures { result ≡ whole_rows }
 {
@@ -72,7 +72,7 @@ pub(crate) fn whole() -> [Row; 3]
     ]
 }
 
-/// What the table `relay` has.
+/// Returns the keys of the table `relay`.
 pub(crate) fn relay() -> [Row; 10]
     ensures { result ≡ relay_rows }
 {
@@ -90,7 +90,7 @@ pub(crate) fn relay() -> [Row; 10]
     ]
 }
 
-/// What a table `stream` has.
+/// Returns the keys of a table `stream`.
 pub(crate) fn stream() -> [Row; 7]
     ensures { result ≡ stream_rows }
 {
@@ -105,7 +105,7 @@ pub(crate) fn stream() -> [Row; 7]
     ]
 }
 
-/// What a table `open` has.
+/// Returns the keys of a table `open`.
 pub(crate) fn open_table() -> [Row; 5]
     ensures { result ≡ open_rows }
 {

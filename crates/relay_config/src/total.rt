@@ -37,9 +37,10 @@ fn recorder_bytes(limits: &Limits) -> u64
     4 * limits.max_message as u64 + 262_144
 }
 
-/// How many bytes so many streams, names of open tables, sessions and recorders hold at most, with these limits:
-/// each stream its ring and a configuration of each kind, each name the same and itself, each session its input, its
-/// answers and the unit in its hand, each recorder the unit that it writes.
+/// Returns the bound in bytes for these numbers of streams, names of open tables, sessions and recorders,
+/// with these limits. A stream holds its ring and a configuration of each kind; a name holds the same and
+/// itself. A session holds its input, its answers and the unit in its hand; a recorder holds the unit that it
+/// writes.
 pub fn sum_of(limits: &Limits, streams: u32, names: u32, sessions: u32, recorders: u32) -> u64
     requires ring { limits.now.ring_bytes ≤ 268435456 }
     requires message { limits.now.max_message ≤ 4194304 }
@@ -72,7 +73,8 @@ fn names_of(opens: &[OpenRule]) -> u32
     names
 }
 
-/// How many workers serve players that speak HTTP: one, where there is an address for them.
+/// Returns the number of workers that serve players over HTTP: one if there is an address for them, else
+/// none.
 pub fn http_workers(config: &Config) -> u32
     ensures value { result ≡ http_workers config.now }
     ensures most { result ≤ 1 }
@@ -80,7 +82,7 @@ pub fn http_workers(config: &Config) -> u32
     if config.http.is_some() { 1 } else { 0 }
 }
 
-/// How many bytes a relay of this configuration holds at most: the configured sum.
+/// Returns the configured sum: the largest number of bytes that a relay of this configuration holds.
 pub fn sum(config: &Config) -> u64
     requires numbers { InRange config.now }
     requires names { length config.now.places + names_of config.now.opens ≤ 64 }

@@ -19,7 +19,7 @@ fn copied(alloc: Global, text: &str) -> Result<Bytes, OutOfMemory>
     Ok(Bytes::from_vec(text.as_bytes().to_vec(alloc)?))
 }
 
-// The text at a key that a table must have.
+// Copies the text at a key that a table must have.
 fn required_text(alloc: Global, table: &Value, key: Key) -> Result<Bytes, OutOfMemory>
     ensures { IfOk result (λ bytes. bytes ≡ unwrap_or (text_at key (view table.now)) []) }
 {
@@ -29,7 +29,7 @@ fn required_text(alloc: Global, table: &Value, key: Key) -> Result<Bytes, OutOfM
     }
 }
 
-// The text at a key that a table may have.
+// Copies the text at a key that a table may have.
 fn optional_text(alloc: Global, table: &Value, key: Key) -> Result<Option<Bytes>, OutOfMemory>
     ensures { IfOk result (λ bytes. bytes ≡ text_at key (view table.now)) }
 {
@@ -39,7 +39,7 @@ fn optional_text(alloc: Global, table: &Value, key: Key) -> Result<Option<Bytes>
     }
 }
 
-// A key as it is kept.
+// Returns a key in the form in which it is kept.
 fn kept(alloc: Global, mode: Mode, text: &str) -> Result<Bytes, OutOfMemory>
     ensures { IfOk result (λ key. key ≡ kept mode text.now) }
 {
@@ -74,7 +74,7 @@ fn grants(alloc: Global, table: &Value, key: Key, mode: Mode) -> Result<Grants, 
     }
 }
 
-// Who may publish and who may play.
+// Reads the grants to publish and the grants to play.
 fn both_grants(alloc: Global, table: &Value, mode: Mode) -> Result<(Grants, Grants), OutOfMemory>
     ensures publish { IfOk result (λ both. both.0 ≡ grants_at Key.Publish mode (view table.now)) }
     ensures play { IfOk result (λ both. both.1 ≡ grants_at Key.Play mode (view table.now)) }
@@ -84,7 +84,7 @@ fn both_grants(alloc: Global, table: &Value, mode: Mode) -> Result<(Grants, Gran
     Ok((publish, play))
 }
 
-// How a table keeps its keys, with the mode of its kind of digests.
+// Returns the form of a table's keys: `digests` if they are digests, else `Plain`.
 fn mode(table: &Value, digests: Mode) -> Mode
     ensures { result ≡ mode_by digests (view table.now) }
 {
@@ -157,7 +157,8 @@ fn limits(relay: &Value) -> Limits
     }
 }
 
-/// The configuration of the table `relay`, the tables `stream` and the tables `open`, with its defaults.
+/// Reads the configuration from the table `relay`, the tables `stream` and the tables `open`, with its
+/// defaults.
 #[tactic(auto, using(crate::proofs::Lists::places_viewed, crate::proofs::Lists::opens_viewed))]
 pub(crate) fn config(
     alloc: Global,

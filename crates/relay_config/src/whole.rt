@@ -6,17 +6,17 @@ ghost use Rattle.relay_config.specs.Refusals.{Tells, is_taken, repeats, twice_in
 
 use crate::{Config, ConfigFail, Key, OpenRule, PlaceRule, sum};
 
-// How many streams and names a relay has at most, and how many bytes the configured sum may have.
+// The largest number of streams and names of a relay, and the largest configured sum in bytes.
 const MOST_NAMES: usize = 64;
 
 const MOST_SUM: u64 = 6_442_450_944;
 
-// That of which a configuration has no two that are the same.
+// A part of which a configuration has no two that are the same.
 trait Single {
     // Whether two are the same.
     ghost same: { Self → Self → Bool };
 
-    // Whether the other is the same.
+    // Tells whether the other is the same.
     fn is_same(&self, other: &Self) -> bool
         ensures { result ≡ same self.now other.now };
 }
@@ -47,7 +47,7 @@ fn has<T: Single>(list: &[T], one: &T) -> bool
     list.iter().any(|other| one.is_same(other))
 }
 
-// Whether an earlier one is the same as the one at this index.
+// Tells whether an earlier element is the same as the one at this index.
 fn repeats<T: Single>(list: &[T], index: usize) -> bool
     ensures { result ≡ repeats T.same list.now index }
 {
@@ -57,7 +57,7 @@ fn repeats<T: Single>(list: &[T], index: usize) -> bool
     }
 }
 
-// The least index of one that is the same as an earlier one.
+// Finds the least index of an element that is the same as an earlier one.
 fn twice_in<T: Single>(list: &[T]) -> Option<u32>
     requires { length list.now ≤ 64 }
     ensures value { result ≡ twice_in T.same list.now }
@@ -66,7 +66,7 @@ fn twice_in<T: Single>(list: &[T]) -> Option<u32>
     (0..list.len() as u32).find(|index| repeats(list, *index as usize))
 }
 
-// The least place of a stream or an open table that is the same as an earlier one.
+// Finds the least place of a stream or an open table that is the same as an earlier one.
 fn twice_of(config: &Config) -> Option<u32>
     requires places { length config.now.places ≤ 64 }
     requires opens { length config.now.opens ≤ 64 }
@@ -82,7 +82,7 @@ fn twice_of(config: &Config) -> Option<u32>
     }
 }
 
-// Whether open tables have so many names together at most.
+// Tells whether open tables have at most `room` names together.
 fn fit(opens: &[OpenRule], room: u32) -> bool
     ensures { result ≡ nat_le (names_of opens.now) room }
 {
@@ -96,7 +96,7 @@ fn fit(opens: &[OpenRule], room: u32) -> bool
     true
 }
 
-// Whether the HTTP players are to come to the address of all others.
+// Tells whether the address for HTTP is the address `listen`.
 fn is_taken(config: &Config) -> bool
     ensures { result ≡ is_taken config.now }
 {
@@ -106,7 +106,7 @@ fn is_taken(config: &Config) -> bool
     }
 }
 
-/// The tests of both addresses, of the streams and open tables together and of the sum.
+/// Tests both addresses, the streams and open tables together, and the sum.
 pub(crate) fn check_whole(config: &Config) -> Result<(), ConfigFail>
     requires numbers { InRange config.now }
     requires rooms { AllPass has_room config.now.opens }

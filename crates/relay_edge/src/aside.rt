@@ -2,9 +2,8 @@
 
 use std::alloc::{AllocError, Global};
 
-// The path up to the ending of its file's name, and the ending with its dot. A name without a dot has none, nor has
-// one whose only dot comes
-// first or last.
+// Splits a path into the part before the ending of its file's name, and the ending with its dot. A name
+// without a dot has no ending. Nor has a name whose only dot comes first or last.
 fn parted(path: &str) -> (&str, &str) {
     let begin = match path.rfind('/') {
         Some(slash) => slash.saturating_add(1),
@@ -23,9 +22,8 @@ fn parted(path: &str) -> (&str, &str) {
     }
 }
 
-/// The name of that number for the file at the path: `cam.1.flv` for `cam.flv`, so that players know it by its
-/// ending, `cam.1` for `cam` and
-/// `.cam.1` for `.cam`.
+/// Returns the name with that number for the file at the path, before its ending, so that media players still
+/// know the file by it. It is `cam.1.flv` for `cam.flv`, `cam.1` for `cam`, and `.cam.1` for `.cam`.
 pub fn numbered(alloc: Global, path: &str, number: u32) -> Result<String, AllocError> {
     let (stem, ending) = parted(path);
     format!(in alloc; "{stem}.{number}{ending}")

@@ -1,4 +1,4 @@
-//! One who asks a server at its socket.
+//! A client of the control socket of a server.
 ghost use Rattle.std.specs.Io.{ReadsAtMost};
 
 use crate::clock::milliseconds;
@@ -10,17 +10,17 @@ use std::io::{ErrorKind, Read, Write};
 use std::net::Net;
 use std::os::fd::AsRawFd;
 
-/// A server has so many milliseconds to take a question, and as many for each piece of its answer.
+/// How long a client tries to connect, and how long it waits for each piece of the answer, in milliseconds.
 const PATIENCE: u64 = 10_000;
 
-/// Where its socket has no room for one more who asks, that is tried again after so many milliseconds.
+/// How long a client waits before it tries again to connect to a socket that is full, in milliseconds.
 const AGAIN: i32 = 50;
 
-/// So often at most: the time is over before.
+/// The most tries to connect. [`PATIENCE`] is over before that.
 const TRIES: u32 = 100_000;
 
-/// A connection to the socket of a server that is asked how it is or told to stop. Where the server doesn't
-/// answer it isn't waited for longer than 10 seconds at a time.
+/// A connection to the control socket of a server, to ask for its state or to tell it to stop. If the server
+/// doesn't answer, a call waits at most 10 seconds, unless [`Asking::wait`] was called.
 #[derive(Drop)]
 pub struct Asking {
     stream: UnixStream,
@@ -28,7 +28,7 @@ pub struct Asking {
     patient: bool,
 }
 
-// A connection, tried again while the server has no room for it.
+// Connects to the socket, and tries again while the server has no room for the connection.
 fn connect<R: Net>(rt: &R, path: &str) -> io::Result<UnixStream> {
     let since = milliseconds();
     for _ in 0..TRIES {
@@ -55,12 +55,12 @@ impl Asking {
         })
     }
 
-    /// The server may take any time from now on.
+    /// Lets the server take any time from now on.
     pub fn wait(&mut self) {
         self.patient = true;
     }
 
-    // Waits until the server has answered or closed. An error of kind `TimedOut` where it hasn't in time.
+    // Waits until the server has answered or closed. Fails with `TimedOut` if the server did neither in time.
     fn pause(&self, since: u64) -> io::Result<()> {
         let gone = milliseconds().saturating_sub(since);
         if !self.patient && gone >= PATIENCE {
@@ -80,7 +80,7 @@ impl Asking {
         Ok(())
     }
 
-    /// The next bytes of the answer; none at its end.
+    /// Reads the next bytes of the answer, and returns 0 at its end.
     pub fn read(&mut self, into: &mut [u8]) -> io::Result<usize>
         ensures { ReadsAtMost result into.new }
     {

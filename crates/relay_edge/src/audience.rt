@@ -1,8 +1,8 @@
-//! Whether somebody publishes what a link plays.
+//! Tracks whether the stream that a link plays has a publisher.
 
 use crate::post::Post;
 
-/// It is looked again after so many milliseconds.
+/// The time between two looks for a publisher, in milliseconds.
 const LOOK: u64 = 1_000;
 
 /// What a player has seen of the broadcasts under its name. Times are in milliseconds of the clock.
@@ -12,12 +12,12 @@ pub struct Audience {
     looked: u64,
     // When it first saw the broadcast that it saw last, or 0.
     live: u64,
-    // Since when it has seen nobody publish, or 0.
+    // Since when it has seen no publisher, or 0.
     idle: u64,
 }
 
 impl Audience {
-    /// It has seen nothing.
+    /// Returns the state of a player that has seen nothing.
     pub fn new() -> Audience {
         Audience {
             looked: 0,
@@ -26,7 +26,7 @@ impl Audience {
         }
     }
 
-    /// It looks, where a second is over. It plays since then.
+    /// Looks for a publisher, if a second has passed since the last look. The link has played since `since`.
     pub fn look(&mut self, post: &Post, token: usize, since: u64) {
         let now = post.now();
         if self.looked > 0 && now.saturating_sub(self.looked) < LOOK {
@@ -44,7 +44,7 @@ impl Audience {
         }
     }
 
-    /// For how many milliseconds it has waited, where nobody publishes.
+    /// Returns how long it has waited in milliseconds, or 0 if the stream has a publisher.
     pub fn waited(&self, now: u64) -> u64 {
         if self.idle == 0 {
             return 0;
@@ -52,7 +52,7 @@ impl Audience {
         now.saturating_sub(self.idle)
     }
 
-    /// Whether it saw a broadcast which is over, and that it took something then.
+    /// Returns whether it saw a broadcast that is over, and took bytes of it.
     pub fn is_left(&self, took: u64) -> bool {
         self.idle > 0 && self.live > 0 && took >= self.live
     }

@@ -1,4 +1,5 @@
-//! What the workers of a server tell each other: who waits, how it is woken, and how many links it has.
+//! The state that the workers of a server share: which of them wait, how each is woken, and how many links it
+//! has.
 
 use crate::hints::Hints;
 use crate::watch::MOST_WORKERS;
@@ -45,7 +46,7 @@ impl Peer {
         }
     }
 
-    // Ends its wait, or keeps it from the next one. One that is awake costs no call of the system.
+    // Ends its wait, or keeps it from the next one. No system call is made for a worker that is awake.
     fn wake(&self) {
         self.due.store(true, Ordering::SeqCst);
         if self.asleep.swap(false, Ordering::SeqCst) {
@@ -56,7 +57,7 @@ impl Peer {
     }
 }
 
-// Whether the doors of two workers listen at one address.
+// Returns whether the doors of two workers listen at one address.
 fn listen_alike(one: &Peer, other: &Peer) -> bool {
     one.address.load(Ordering::SeqCst) == other.address.load(Ordering::SeqCst)
 }
@@ -72,7 +73,7 @@ fn set(flag: &AtomicBool, value: bool) {
 #[derive(Drop)]
 pub struct Board {
     peers: Vec<Peer>,
-    /// What was pushed to each stream, and who plays it.
+    /// Counts the pushes to each stream, and keeps the workers that play it.
     pub hints: Hints,
     // Links that were given, or are about to be.
     claimed: AtomicU64,
@@ -106,7 +107,7 @@ impl Board {
         })
     }
 
-    /// How the worker is woken.
+    /// Sets how the worker is woken, and counts it as awake.
     pub fn join(&self, worker: usize, waker: Waker) {
         if let Some(peer) = self.peers.get(worker) {
             let _ = peer.waker.try_set(waker);
@@ -114,7 +115,7 @@ impl Board {
         }
     }
 
-    /// Its door listens at the address of this number.
+    /// Sets the address of its door, by number, and counts the door.
     pub fn listen(&self, worker: usize, address: u64) {
         if let Some(peer) = self.peers.get(worker) {
             peer.address.store(address, Ordering::SeqCst);
@@ -122,14 +123,14 @@ impl Board {
         }
     }
 
-    /// Whether it has a place for a link, and whether it hasn't.
+    /// Sets whether the worker has no place for a link.
     pub fn fill(&self, worker: usize, full: bool) {
         if let Some(peer) = self.peers.get(worker) {
             set(&peer.full, full);
         }
     }
 
-    /// Whether no worker whose door listens where this one's does has a place for a link.
+    /// Returns whether all workers whose doors listen at this worker's address have no place for a link.
     pub fn is_full(&self, worker: usize) -> bool {
         let Some(mine) = self.peers.get(worker) else {
             return false;
@@ -145,7 +146,7 @@ impl Board {
         true
     }
 
-    /// How many links it has.
+    /// Returns the number of its links.
     pub fn links(&self, worker: usize) -> u64 {
         match self.peers.get(worker) {
             Some(peer) => peer.links.load(Ordering::SeqCst),
@@ -180,7 +181,7 @@ impl Board {
         }
     }
 
-    /// The worker is about to wait. Whether it is to look at once, since something came.
+    /// Begins the worker's wait. Returns whether it must look at once, since something came.
     pub fn begin_wait(&self, worker: usize) -> bool {
         self.awake.fetch_sub(1, Ordering::SeqCst);
         match self.peers.get(worker) {
@@ -192,7 +193,8 @@ impl Board {
         }
     }
 
-    /// The worker waits no more, and looks at all that came. Whether another woke it.
+    /// Ends the worker's wait; the worker then looks at all that came. Returns whether another worker woke
+    /// it.
     pub fn end_wait(&self, worker: usize) -> bool {
         self.awake.fetch_add(1, Ordering::SeqCst);
         self.starts.fetch_add(1, Ordering::SeqCst);
@@ -205,8 +207,8 @@ impl Board {
         }
     }
 
-    /// For a worker that doesn't wait: a number that stays the same as long as all others wait, where they do. Between
-    /// two such numbers that are the same no call of another worker was made.
+    /// Returns a number for a worker that doesn't wait, or `None` if another worker is awake. The number
+    /// stays the same while all others wait. If it is the same twice, no other worker made a call in between.
     pub fn stillness(&self) -> Option<u64> {
         let starts = self.starts.load(Ordering::SeqCst);
         if self.awake.load(Ordering::SeqCst) > 1 {
@@ -215,7 +217,7 @@ impl Board {
         Some(starts)
     }
 
-    /// The worker takes links, and looks at its door.
+    /// Records that the worker takes links, and looks at its door.
     pub fn look(&self, worker: usize) {
         if let Some(peer) = self.peers.get(worker) {
             set(&peer.open, true);
@@ -223,7 +225,7 @@ impl Board {
         }
     }
 
-    /// The worker takes no more links.
+    /// Records that the worker takes no more links.
     pub fn close(&self, worker: usize) {
         if let Some(peer) = self.peers.get(worker) {
             set(&peer.open, false);
@@ -231,13 +233,13 @@ impl Board {
         }
     }
 
-    /// Whether all doors have closed, where some were given.
+    /// Returns whether doors were given and all of them have closed.
     pub fn is_deserted(&self) -> bool {
         let doors = self.doors.load(Ordering::SeqCst);
         doors > 0 && self.closed.load(Ordering::SeqCst) >= doors
     }
 
-    /// The worker has one link more.
+    /// Adds a link to the worker.
     pub fn add_link(&self, worker: usize) {
         if let Some(peer) = self.peers.get(worker) {
             peer.links.fetch_add(1, Ordering::SeqCst);
@@ -245,35 +247,35 @@ impl Board {
         self.given.fetch_add(1, Ordering::SeqCst);
     }
 
-    /// The worker has one link less.
+    /// Removes a link from the worker.
     pub fn remove_link(&self, worker: usize) {
         if let Some(peer) = self.peers.get(worker) {
             peer.links.fetch_sub(1, Ordering::SeqCst);
         }
     }
 
-    /// It sees off one peer more.
+    /// Adds a peer that the worker sees off.
     pub fn add_farewell(&self, worker: usize) {
         if let Some(peer) = self.peers.get(worker) {
             peer.farewells.fetch_add(1, Ordering::SeqCst);
         }
     }
 
-    /// It sees off one peer less.
+    /// Removes a peer that the worker sees off.
     pub fn remove_farewell(&self, worker: usize) {
         if let Some(peer) = self.peers.get(worker) {
             peer.farewells.fetch_sub(1, Ordering::SeqCst);
         }
     }
 
-    /// The worker is to look at once, before it waits again.
+    /// Makes the worker look at once, before it waits again.
     pub fn hurry(&self, worker: usize) {
         if let Some(peer) = self.peers.get(worker) {
             peer.due.store(true, Ordering::SeqCst);
         }
     }
 
-    /// Whether the doors of two workers listen at one address.
+    /// Returns whether the doors of two workers listen at one address.
     pub fn listens_alike(&self, worker: usize, other: usize) -> bool {
         match (self.peers.get(worker), self.peers.get(other)) {
             (Some(mine), Some(peer)) => listen_alike(mine, peer),
@@ -281,7 +283,7 @@ impl Board {
         }
     }
 
-    /// Whether the other worker takes links at the same address and has clearly fewer than this one.
+    /// Returns whether the other worker takes links at the same address and has clearly fewer than this one.
     pub fn is_lighter(&self, worker: usize, other: usize) -> bool {
         match (self.peers.get(worker), self.peers.get(other)) {
             (Some(mine), Some(peer)) => {
@@ -294,7 +296,7 @@ impl Board {
         }
     }
 
-    /// Whether the worker has looked at its door since a connection was left to it.
+    /// Returns whether the worker has looked at its door since a connection was left to it.
     pub fn has_looked(&self, worker: usize) -> bool {
         match self.peers.get(worker) {
             Some(peer) => peer.looked.load(Ordering::SeqCst),
@@ -302,8 +304,8 @@ impl Board {
         }
     }
 
-    /// Leaves a connection to a worker that has clearly fewer links, and wakes it. One that hasn't looked since the last that
-    /// was left to it isn't asked.
+    /// Leaves a connection to a worker that has clearly fewer links, wakes it, and returns its number. A
+    /// worker that hasn't looked at its door since the last connection was left to it is skipped.
     pub fn leave(&self, worker: usize) -> Option<usize> {
         for other in 0..self.peers.len() {
             if self.is_lighter(worker, other) && self.has_looked(other) {
@@ -317,12 +319,13 @@ impl Board {
         None
     }
 
-    /// Whether so many links were given, and all of them are gone; 0 stands for any number.
+    /// Returns whether at least `most` links were given and all links are gone. It is never so if `most` is
+    /// 0, which sets no limit.
     pub fn is_over(&self, most: u32) -> bool {
         most != 0 && self.given.load(Ordering::SeqCst) >= most as u64 && self.is_empty()
     }
 
-    /// Whether no worker has a link, or sees a peer off.
+    /// Returns whether no worker has a link, or sees a peer off.
     pub fn is_empty(&self) -> bool {
         for peer in self.peers.as_slice() {
             if peer.links.load(Ordering::SeqCst) > 0 || peer.farewells.load(Ordering::SeqCst) > 0 {
@@ -332,7 +335,7 @@ impl Board {
         true
     }
 
-    /// Whether one more may be given. It is then claimed.
+    /// Claims a link, if one more may be given. Returns whether it may.
     pub fn claim(&self, most: u32) -> bool {
         if self.claimed.fetch_add(1, Ordering::SeqCst) < most as u64 || most == 0 {
             return true;
@@ -341,7 +344,7 @@ impl Board {
         false
     }
 
-    /// One that was claimed isn't given.
+    /// Takes back the claim of a link that isn't given.
     pub fn unclaim(&self) {
         self.claimed.fetch_sub(1, Ordering::SeqCst);
     }

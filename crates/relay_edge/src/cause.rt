@@ -13,19 +13,19 @@ pub enum Cause {
     Peer,
     Silent { seconds: u64 },
     Stopped,
-    /// It neither published nor played, and another waited for its place.
+    /// It neither published nor played, and a connection waited for its place.
     GaveWay,
-    /// Nobody published what it played for so long.
+    /// The stream that it played had no publisher for this time.
     Waited { seconds: u64 },
     /// It was refused too often.
     Barred,
-    /// The broadcast is over of which it was sent a part.
+    /// The broadcast is over, and it was sent a part of it.
     Left,
 }
 
 impl Cause {
-    /// Writes how a link ended that was told this news, for how long it was there and its bytes. `error` is why a call of the system
-    /// failed.
+    /// Writes how a link ended by this news, with its duration and its bytes. `error` is the error of the
+    /// system call that failed, if one did.
     pub fn write_end<W: fmt::Write>(
         self,
         f: &mut Formatter<W>,

@@ -1,4 +1,4 @@
-//! What the rest of a worker and one of its links tell each other.
+//! The state that the rest of a worker shares with one of its links.
 
 use crate::cells::CALM;
 use crate::post::Post;
@@ -10,7 +10,7 @@ use std::sync::Arc;
 pub(crate) struct Cell {
     pub post: Arc<Post, Global>,
     pub token: usize,
-    // The worker is to go on for what its link keeps.
+    // The link keeps bytes that can be sent, so the worker must go on.
     keeps: bool,
     // Its link received bytes, and wasn't asked for more since.
     fed: bool,
@@ -46,7 +46,7 @@ impl Drop for Cell {
 }
 
 impl Cell {
-    /// That of a new link.
+    /// Creates the cell of a new link.
     pub fn new(post: Arc<Post, Global>, token: usize) -> Cell {
         Cell {
             post,
@@ -57,12 +57,12 @@ impl Cell {
         }
     }
 
-    /// The seat of its link.
+    /// Returns the seat of its link.
     pub fn seat(&self) -> Option<&Seat> {
         self.post.seat(self.token)
     }
 
-    /// Its link is gone, and counts no more. The peer is seen off.
+    /// Records that its link is gone and no longer counts. The peer is seen off.
     pub fn part(&mut self) {
         self.ask();
         if let Some(seat) = self.seat() {
@@ -84,7 +84,7 @@ impl Cell {
         self.post.cells.add(self.token, bit);
     }
 
-    /// Its link received bytes. Whether more are at hand.
+    /// Records that its link received bytes, and whether more are at hand.
     pub fn receive(&mut self, more: bool) {
         if more {
             self.post.cells.begin();
@@ -96,7 +96,7 @@ impl Cell {
         self.fed = true;
     }
 
-    /// Its link is asked for bytes.
+    /// Records that its link is asked for bytes.
     pub fn ask(&mut self) {
         self.remove(CALM);
         if self.fed {
@@ -105,7 +105,7 @@ impl Cell {
         self.fed = false;
     }
 
-    /// Whether the worker is to go on for what its link keeps.
+    /// Sets whether its link keeps bytes that can be sent, for which the worker must go on.
     pub fn keep(&mut self, keeps: bool) {
         if keeps && !self.keeps {
             self.post.cells.hold();

@@ -1,4 +1,4 @@
-//! What a rest tells the door and the links of its worker.
+//! The state that a rest shares with the door and the links of its worker.
 
 use std::alloc::{AllocError, Global};
 use std::sync::atomic::{AtomicBool, AtomicU64, Ordering};
@@ -24,10 +24,10 @@ pub const CALM: u64 = 32;
 /// The token of the door.
 pub const DOOR: usize = 0;
 
-/// As many links as a worker may have.
+/// The most links of a worker.
 pub const MOST_LINKS: usize = 64;
 
-/// As many peers are seen off at a time.
+/// The most peers that are seen off at a time.
 pub const MOST_FAREWELLS: usize = 64;
 
 /// The last token: each link has one, and each peer that is seen off.
@@ -38,7 +38,8 @@ pub const LAST_TOKEN: usize = MOST_LINKS + MOST_FAREWELLS;
 #[derive(Drop)]
 pub struct Cells {
     list: Vec<AtomicU64>,
-    // Links that received bytes and weren't asked for more since. What these bring may be done in each turn until then.
+    // The number of links that received bytes and weren't asked for more since. Until then, the effects of
+    // these bytes may be complete in each turn.
     fed: AtomicU64,
     // One was asked for more.
     asked: AtomicBool,
@@ -46,6 +47,8 @@ pub struct Cells {
     begun: AtomicBool,
     // Links that keep bytes that can be sent.
     holding: AtomicU64,
+    // When the first of the bytes are due that wait for more, by the clock, or 0.
+    due: AtomicU64,
 }
 
 impl Cells {
@@ -62,6 +65,7 @@ impl Cells {
             asked: AtomicBool::new(false),
             begun: AtomicBool::new(false),
             holding: AtomicU64::new(0),
+            due: AtomicU64::new(0),
         })
     }
 
@@ -96,7 +100,7 @@ impl Cells {
         }
     }
 
-    /// A token that no link has.
+    /// Returns a token that no link has.
     pub fn free(&self) -> Option<usize> {
         for token in DOOR + 1..self.list.len() {
             if !self.has(token, TAKEN) {
@@ -106,24 +110,26 @@ impl Cells {
         None
     }
 
-    /// A link received bytes, and no more are at hand.
+    /// Records that a link received bytes, and no more are at hand.
     pub fn feed(&self) {
         self.fed.fetch_add(1, Ordering::SeqCst);
     }
 
-    /// It is asked for more, or gone: what those bytes brought was done, the last of it in this turn.
+    /// Records that such a link is asked for more bytes, or is gone. The effects of its bytes are complete,
+    /// the last of them in this turn.
     pub fn ask(&self) {
         self.fed.fetch_sub(1, Ordering::SeqCst);
         self.asked.store(true, Ordering::SeqCst);
     }
 
-    /// A link received bytes, and more are at hand. What they are part of mostly isn't whole.
+    /// Records that a link received bytes, and more are at hand. The message that they belong to is mostly
+    /// incomplete.
     pub fn begin(&self) {
         self.begun.store(true, Ordering::SeqCst);
     }
 
-    /// Whether a turn that moved something may have done what received bytes brought, since this was asked last. What was
-    /// done with more bytes at hand counts where it is told at once.
+    /// Returns whether a turn that moved something may have completed the effects of received bytes, since
+    /// the last call. If more bytes are at hand, the effects count only with `at_once`.
     pub fn take_done(&self, at_once: bool) -> bool {
         let done = self.fed.load(Ordering::SeqCst) > 0
             || self.asked.load(Ordering::SeqCst)
@@ -135,13 +141,14 @@ impl Cells {
         done
     }
 
-    /// All of it is told.
+    /// Clears the record of these effects, once all of them are passed on.
     pub fn take_begun(&self) {
         self.asked.store(false, Ordering::SeqCst);
         self.begun.store(false, Ordering::SeqCst);
     }
 
-    /// Whether each link has said since this was asked last that there is nothing to do, and wasn't used since it said so.
+    /// Returns whether each link has said since the last call that it has nothing to do, and wasn't used
+    /// afterwards.
     pub fn take_calm(&self) -> bool {
         let mut calm = true;
         for token in DOOR + 1..self.list.len() {
@@ -151,17 +158,33 @@ impl Cells {
         calm
     }
 
-    /// One link more keeps bytes that can be sent.
+    /// Records that a link keeps bytes that are due then, by the clock.
+    pub fn wait_until(&self, then: u64) {
+        let due = self.due.load(Ordering::SeqCst);
+        if due == 0 || then < due {
+            self.due.store(then, Ordering::SeqCst);
+        }
+    }
+
+    /// Returns when the first of the bytes are due that links were said to keep since the last call, if any are.
+    pub fn take_due(&self) -> Option<u64> {
+        match self.due.swap(0, Ordering::SeqCst) {
+            0 => None,
+            due => Some(due),
+        }
+    }
+
+    /// Counts one more link that keeps bytes that can be sent.
     pub fn hold(&self) {
         self.holding.fetch_add(1, Ordering::SeqCst);
     }
 
-    /// One fewer does.
+    /// Counts one such link fewer.
     pub fn release(&self) {
         self.holding.fetch_sub(1, Ordering::SeqCst);
     }
 
-    /// Whether any does.
+    /// Returns whether any link keeps bytes that can be sent.
     pub fn is_holding(&self) -> bool {
         self.holding.load(Ordering::SeqCst) > 0
     }

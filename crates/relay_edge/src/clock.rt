@@ -1,8 +1,8 @@
-//! The time.
+//! The clock of a server, in milliseconds.
 
 use libc::types::timespec;
 
-/// How many milliseconds have gone since some moment. It never falls, and is above 0.
+/// Returns the milliseconds since some moment. The number never falls, and is above 0.
 pub fn milliseconds() -> u64 {
     let mut time = timespec {
         tv_sec: 0,

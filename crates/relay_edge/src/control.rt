@@ -1,4 +1,4 @@
-//! The socket by which a server is asked how it is, and told to stop.
+//! The control socket, by which a client asks for a server's state or tells it to stop.
 
 use crate::names::Refusal;
 use crate::stats::Stats;
@@ -18,28 +18,28 @@ use std::os::unix::net::SocketAddr;
 /// The token of the socket.
 pub const CONTROL: usize = usize::MAX - 1;
 
-/// The tokens of those who ask come after this one.
+/// The base of the clients' tokens, which come after it.
 const ASKERS: usize = 1 << 32;
 
-/// As many may ask at a time.
+/// The most clients at a time.
 const MOST: usize = 16;
 
-/// A question has at most so many bytes.
+/// The most bytes in a question.
 const LONGEST: usize = 64;
 
-/// And is to be asked and answered in so many milliseconds.
+/// How long a client has to ask and to take its answer, in milliseconds.
 const PATIENCE: u64 = 5_000;
 
 /// The answer to the word to stop, before the server ends.
 const STOPS: &[u8; 6] = b"stops\n";
 
-/// Who may use the socket: its owner.
+/// The mode of the socket: only its owner may use it.
 const OWNER: u32 = 0o600;
 
-/// As many may wait to be heard.
+/// The backlog of the socket.
 const BACKLOG: i32 = 16;
 
-// The socket at the path, whose file has its mode from the beginning.
+// Opens the socket at the path. Its file has its mode from the beginning.
 fn bind<R: Net + Files>(rt: &R, address: &SocketAddr) -> io::Result<net::UnixListener> {
     let socket = rt.unix_socket()?;
     libc::fchmod(socket.as_raw_fd(), OWNER);
@@ -52,7 +52,7 @@ fn bind<R: Net + Files>(rt: &R, address: &SocketAddr) -> io::Result<net::UnixLis
     Ok(listener)
 }
 
-// Whether a server that is gone left a socket at the path.
+// Returns whether a server that is gone left a socket at the path.
 fn is_left<R: Net + Files<File = File>>(rt: &R, path: &str) -> bool {
     let is_socket = match rt.symlink_metadata(path) {
         Ok(there) => there.file_type().is_socket(),
@@ -82,7 +82,7 @@ pub fn listen<R: Net + Files<File = File>>(
     }
 }
 
-// One who asks.
+// A client of the socket.
 #[derive(Drop)]
 struct Asker {
     stream: UnixStream,
@@ -90,13 +90,13 @@ struct Asker {
     since: u64,
     asked: Vec<u8>,
     answer: Vec<u8>,
-    // It was answered, so many bytes of it by now.
+    // Whether the answer is written, and how many bytes of it are sent.
     answered: bool,
     sent: usize,
 }
 
-// What became of one who asks.
-#[derive(Clone, Copy, PartialEq, Eq)]
+// The state of a client after its turn.
+#[derive(Clone, Copy)]
 enum State {
     Waits,
     Stops,
@@ -104,7 +104,7 @@ enum State {
 }
 
 impl Asker {
-    // Reads its question, where it is whole.
+    // Reads its question. Returns true once the question is complete.
     fn listen(&mut self) -> io::Result<bool> {
         let mut room = [0u8; LONGEST];
         for _ in 0..LONGEST {
@@ -120,7 +120,7 @@ impl Asker {
         Ok(true)
     }
 
-    // Sends what is left of its answer.
+    // Sends the remaining bytes of its answer.
     fn say(&mut self) -> io::Result<()> {
         for _ in 0..=self.answer.len() {
             let Some(left) = self.answer.get(self.sent..) else {
@@ -138,7 +138,7 @@ impl Asker {
         Ok(())
     }
 
-    // Goes on with it.
+    // Takes the question, or sends more of the answer.
     fn go_on(&mut self, alloc: Global, watch: &Watch, now: u64) -> io::Result<State> {
         if !self.answered {
             self.listen()?;
@@ -164,19 +164,19 @@ impl Asker {
     }
 }
 
-/// The socket of a server, with those who ask. It never waits for one of them.
+/// The socket of a server, with its clients. It never waits for a client.
 #[derive(Drop)]
 pub struct Control {
     alloc: Global,
     listener: UnixListener,
     askers: Vec<Asker>,
     last: usize,
-    // Somebody may wait who wasn't accepted: there were many, or the system had no descriptor.
+    // A client may wait that wasn't accepted, because there were many or the system had no descriptor.
     more: bool,
 }
 
 impl Control {
-    /// One that listens, registered.
+    /// Creates the socket, registered with the poll.
     pub fn new(
         alloc: Global,
         listener: net::UnixListener,
@@ -193,7 +193,7 @@ impl Control {
         })
     }
 
-    // One more who asks, where somebody comes.
+    // Accepts the next client, if one waits.
     fn accept(&mut self, registry: &Registry, now: u64) -> io::Result<()> {
         let (mut stream, _) = self.listener.accept()?;
         if self.askers.len() >= MOST {
@@ -214,7 +214,7 @@ impl Control {
         Ok(())
     }
 
-    /// Goes on with all who ask. Whether one told the server to stop.
+    /// Goes on with all clients. Returns whether one of them told the server to stop.
     pub fn go_on(&mut self, registry: &Registry, watch: &Watch, now: u64) -> bool {
         self.more = true;
         for _ in 0..MOST {
@@ -246,12 +246,12 @@ impl Control {
         stops
     }
 
-    /// Whether the token is its socket's or that of one who asks.
+    /// Returns whether the token is that of the socket or of a client.
     pub fn has(token: usize) -> bool {
         token > ASKERS && token <= CONTROL
     }
 
-    /// Whether somebody asks.
+    /// Returns whether a client asks, or may wait to be accepted.
     pub fn is_asked(&self) -> bool {
         self.more || !self.askers.is_empty()
     }

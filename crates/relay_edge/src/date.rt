@@ -13,7 +13,7 @@ pub struct Moment {
 }
 
 impl Moment {
-    /// Now, by the system's clock. One that can't be read stands at the beginning of 1970.
+    /// Returns the present moment by the system's clock, or the beginning of 1970 if the clock can't be read.
     pub fn now() -> Moment {
         let mut time = timespec {
             tv_sec: 0,
@@ -41,8 +41,8 @@ struct Day {
 }
 
 impl Day {
-    // The day that comes so many days after the first of January 1970. Years are counted from March on, so that a
-    // leap day is the last.
+    // Returns the day that is `days` days after 1 January 1970. Years are counted from March, so that a leap
+    // day comes last.
     fn after(days: u64) -> Day {
         let days = days.saturating_add(719_468);
         let (era, of_era) = (days / 146_097, days % 146_097);

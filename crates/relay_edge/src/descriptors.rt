@@ -5,7 +5,7 @@ use libc::types::rlimit;
 // The resource whose limit is the number of descriptors.
 const RLIMIT_NOFILE: i32 = 7;
 
-/// How many descriptors the system lets this program have.
+/// Returns the number of descriptors that the system lets this program have.
 pub fn most_descriptors() -> u64 {
     let mut limit = rlimit {
         rlim_cur: u64::MAX,

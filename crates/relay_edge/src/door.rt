@@ -18,16 +18,18 @@ use std::marker::Model;
 use std::net::SocketAddr;
 use std::sync::Arc;
 
-/// As many connections are turned away at a time.
+/// The most connections that are turned away at a time.
 const AT_ONCE: usize = 64;
 
-/// A worker's door. The doors of all workers share one listening socket; a worker that has clearly more links than
-/// another leaves new ones to that one, as long as it looks at its door. All doors together give so many links, and are closed
-/// when all of these are gone. Once the server stops they give none, and are closed when all that were given are gone.
+/// A worker's door. The doors at one address share one listening socket. A worker that has clearly more links
+/// than another leaves new ones to that worker, as long as that worker looks at its door. All doors together
+/// give a set number of links, and close when all of these are gone. Once the server stops they give none,
+/// and close when all links that were given are gone.
 ///
-/// The peer of a link that comes back, and was answered why it isn't served, is seen off: it is told that no more comes, and what it
-/// still sends is passed over, until it has closed too or for three seconds. A connection that is closed with bytes unread is reset, and
-/// the peer may lose the answer. It counts as no link; where there are 64 the oldest is closed for another.
+/// The peer of a link that comes back is seen off if it was answered why it isn't served. It is told that no
+/// more comes, and its further bytes are read and dropped, until it has closed too or for three seconds. A
+/// connection that is closed with bytes unread is reset, and the peer may lose the answer. Such a peer counts
+/// as no link. If there are 64 of them, the oldest is closed for the next.
 #[derive(Drop)]
 pub struct RealDoor {
     listener: TcpListener,
@@ -51,7 +53,7 @@ impl Model for RealDoor {
 }
 
 impl RealDoor {
-    /// A door whose listener is registered.
+    /// Creates a door whose listener is registered.
     pub(crate) fn new(
         listener: TcpListener,
         registry: Registry,
@@ -73,20 +75,20 @@ impl RealDoor {
         }
     }
 
-    // Goes on with the farewells. The socket of one that is over is closed.
+    // Goes on with the farewells, and closes each socket whose farewell is over.
     fn see_off(&mut self)
         ensures { self.new ≡ self.old }
     {
         self.leaving.retain_mut(|wire| !wire.is_seen_off());
     }
 
-    // Whether there may be a connection for this worker.
+    // Returns whether there may be a connection for this worker.
     fn is_asked(&self) -> bool {
         self.post.look();
         self.post.cells.has(DOOR, READABLE) && !self.post.leaves()
     }
 
-    // A connection that was accepted, registered under the token.
+    // Sets the options of an accepted connection, and registers it under the token.
     fn prepare(
         &self,
         mut stream: TcpStream,
@@ -101,7 +103,8 @@ impl RealDoor {
         Ok(Guest { stream, address })
     }
 
-    // The link of a connection that was accepted is to have the token. None where its address has as many links as it may.
+    // Prepares an accepted connection as the link of the token. Returns `None` if its address already has as
+    // many links as it may.
     fn welcome(
         &self,
         stream: TcpStream,
@@ -126,7 +129,8 @@ impl RealDoor {
         }
     }
 
-    // The next connection, if there is one, registered under the token. Those whose address has as many links as it may are closed.
+    // Accepts the next connection, if there is one, and registers it under the token. A connection whose
+    // address already has as many links as it may is closed.
     fn accept(&self, token: usize) -> io::Result<Option<Guest>> {
         for _ in 0..AT_ONCE {
             match self.listener.accept() {
@@ -141,7 +145,7 @@ impl RealDoor {
                     self.post.watch.lack(&error);
                     return Ok(None);
                 }
-                // It listens no more.
+                // The socket no longer listens.
                 Err(_) if self.post.watch.is_stopped() => return Ok(None),
                 Err(error) => return Err(error),
             }
@@ -150,7 +154,7 @@ impl RealDoor {
         Ok(None)
     }
 
-    // The same where one more may be given, which is then claimed.
+    // Claims a link and accepts its connection, if one more link may be given.
     fn accept_claimed(&self, token: usize) -> io::Result<Option<Guest>> {
         if !self.post.claim(self.accept) {
             return Ok(None);
@@ -162,7 +166,7 @@ impl RealDoor {
         accepted
     }
 
-    // The next connection with its token and the post, if there is one for this worker.
+    // Returns the next connection with its token and the post, if there is one for this worker.
     fn knock(&self) -> io::Result<Option<(Guest, usize, Arc<Post, Global>)>> {
         if !self.is_asked() || self.post.watch.is_stopped() {
             return Ok(None);

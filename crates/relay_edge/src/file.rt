@@ -19,16 +19,16 @@ const RLIMIT_FSIZE: i32 = 1;
 
 const EFBIG: i32 = 27;
 
-// Where a pipe has room there is room for so many bytes.
+// The bytes that a pipe takes at once if it has room.
 const PIPE_PIECE: u64 = 4096;
 
-// How long a pipe may have none, in milliseconds.
+// How long a pipe may have no room, in milliseconds.
 const PATIENCE: i32 = 1000;
 
-// So often a wait for that is begun anew which a signal ended.
+// The most times that a wait for room is begun anew after a signal ended it.
 const SIGNALS: u32 = 100;
 
-/// What a file is.
+/// The kind of a file.
 #[derive(Clone, Copy, PartialEq, Eq)]
 pub enum Kind {
     Regular,
@@ -36,7 +36,7 @@ pub enum Kind {
     Pipe,
 }
 
-// How long the system lets a file be. A write beyond that would end the process.
+// Returns the length in bytes that the system lets a file have. A write beyond that would end the process.
 fn longest() -> u64 {
     let mut limit = rlimit {
         rlim_cur: u64::MAX,
@@ -48,17 +48,17 @@ fn longest() -> u64 {
     limit.rlim_cur
 }
 
-/// A file that is written from its beginning. It says its first error on standard error, and keeps the last: no
-/// worker waits for who reads that. Contracts see how often it has failed.
+/// A file that is written from its beginning. It reports its first error on standard error, and keeps its
+/// last one. No worker waits for a reader of standard error. Contracts see how often the file has failed.
 #[derive(Drop)]
 pub struct RealFile<'a, R> {
     rt: &'a R,
-    // Where it says its first error and what it has, if it is a server's recording.
+    // The entry of a server's recording, which takes the first error and the counts of bytes.
     entry: Option<Entry>,
     name: Vec<u8>,
     file: File,
     kind: Kind,
-    // How many bytes the system lets it have besides those that it has.
+    // The further bytes that the system lets it have.
     room: u64,
     failed: u64,
     last: Option<io::Error>,
@@ -75,7 +75,8 @@ impl<'a, R> Model for RealFile<'a, R> {
 }
 
 impl<'a, R> RealFile<'a, R> {
-    /// A file that is empty, and its name. Where it is that of a server it says its error as the log says its lines.
+    /// Creates the sink of an empty file with its name. A server's file reports its error as the log writes
+    /// its lines.
     pub(crate) fn new(
         rt: &'a R,
         entry: Option<Entry>,
@@ -100,14 +101,14 @@ impl<'a, R> RealFile<'a, R> {
         }
     }
 
-    /// The error of the last write that failed. `None` exactly where none has.
+    /// Returns the error of the last write that failed, or `None` exactly if none has.
     pub fn error(&self) -> Option<io::Error>
         ensures { (result ≡ None) ↔ (self.now ≡ 0) }
     {
         self.last
     }
 
-    /// Has the system write to the disk what it has of the file. It may find there that bytes are lost.
+    /// Has the system write the file's data to the disk. This may find that bytes are lost.
     pub(crate) fn sync(&self) -> io::Result<()> {
         match self.kind {
             Kind::Regular => self.file.sync_all(),
@@ -115,7 +116,7 @@ impl<'a, R> RealFile<'a, R> {
         }
     }
 
-    // How many bytes the next write may have at most. A pipe is waited for until it has room.
+    // Returns the most bytes of the next write. Waits for a pipe until it has room.
     fn next_room(&self) -> io::Result<u64> {
         match self.kind {
             Kind::Regular => Ok(self.room),
@@ -125,7 +126,7 @@ impl<'a, R> RealFile<'a, R> {
     }
 }
 
-// Whether a pipe comes to have room in time.
+// Waits until a pipe has room, and returns whether it has in time.
 fn has_room(file: &File) -> bool {
     for _ in 0..SIGNALS {
         let mut asked = [pollfd {
@@ -143,7 +144,7 @@ fn has_room(file: &File) -> bool {
 }
 
 impl<'a, R: Eprint> RealFile<'a, R> {
-    // Says why a write failed.
+    // Reports why a write failed.
     fn say(&self, error: &io::Error) {
         let name = self.name.as_slice();
         match &self.entry {
@@ -166,7 +167,7 @@ fn write(file: &mut File, piece: &[u8]) -> io::Result<usize>
     Err(io::Error::from(io::ErrorKind::Interrupted))
 }
 
-// The first bytes, as many as there is room for. None where there is none for any.
+// Returns the front of the piece that there is room for, or an error if there is no room at all.
 fn within(piece: &[u8], room: u64) -> io::Result<&[u8]>
     ensures { IfOk result (λ part. length part.now ≤ length piece.now) }
 {

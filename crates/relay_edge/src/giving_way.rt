@@ -1,4 +1,4 @@
-//! Links that give way to others, which ask for what they have.
+//! Links that give way to others, which ask for their name or their place.
 
 use crate::board::Board;
 use crate::seats::{Seat, held};
@@ -6,22 +6,23 @@ use crate::watch::{EDGE, Watch};
 use std::alloc::Global;
 use std::net::{IpAddr, SocketAddr};
 
-/// Whether a link gives its place to one that waits.
-#[derive(Clone, Copy, PartialEq, Eq)]
+/// Whether a link gives its place to a connection that waits.
+#[derive(Clone, Copy)]
 pub enum Way {
-    /// It does so now.
+    /// A link does so now.
     Given,
-    /// It does so within a second.
+    /// A link does so within a second.
     Soon,
-    /// None does.
+    /// No link does.
     Closed,
 }
 
-/// A link that neither publishes nor plays keeps its place for so many milliseconds, whoever waits.
+/// How long a link that neither publishes nor plays keeps its place even if a connection waits for it, in
+/// milliseconds.
 const GRACE: u64 = 1_000;
 
 impl Watch {
-    /// Whether a link publishes under that name, or may do so.
+    /// Returns whether a link publishes under that name, or may do so.
     pub fn is_published_as(&self, app: &[u8], name: &[u8]) -> bool {
         for place in self.seats.as_slice() {
             if let Some(seats) = place.get() {
@@ -35,7 +36,7 @@ impl Watch {
         false
     }
 
-    /// Whether a link publishes or plays under that name, or may do so.
+    /// Returns whether a link publishes or plays under that name, or may do so.
     pub fn is_used(&self, app: &[u8], name: &[u8]) -> bool {
         for place in self.seats.as_slice() {
             if let Some(seats) = place.get() {
@@ -49,7 +50,7 @@ impl Watch {
         false
     }
 
-    /// Somebody else asks for the name that a link publishes. Whether there is such a link.
+    /// Asks the link that publishes under a name to give way. Returns whether there is such a link.
     pub fn ask_for_name(&self, app: &[u8], name: &[u8]) -> bool {
         for place in self.seats.as_slice() {
             if let Some(seats) = place.get() {
@@ -64,8 +65,8 @@ impl Watch {
         false
     }
 
-    /// Somebody waits for a place at the door of the worker: of the links of all workers whose doors listen there, that which neither
-    /// publishes nor plays for longest is to give its own up.
+    /// Asks a link to give up its place to a connection that waits at the worker's door. Of the links at all
+    /// doors of the same address, it is the link that neither publishes nor plays for the longest time.
     pub fn ask_for_place(&self, board: &Board, worker: usize, now: u64) -> Way {
         let mut idlest: Option<(u64, &Seat)> = None;
         let mut number = 0usize;
@@ -85,7 +86,7 @@ impl Watch {
         }
     }
 
-    // How many links there are whose peers have that address.
+    // Returns the number of links whose peers have that address.
     fn links_of(&self, address: IpAddr) -> u64 {
         let mut count = 0u64;
         let mut number = 0usize;
@@ -104,13 +105,14 @@ impl Watch {
         count
     }
 
-    /// A link of that address comes, which takes the seat where its address may have one more. Whether it may.
+    /// Gives the seat to a link that comes from that address, if the address may have one more link. Returns
+    /// whether it may.
     pub fn admit(&self, alloc: Global, seat: &Seat, address: SocketAddr, now: u64) -> bool {
         let most = self.bounds.address_links;
         if most == 0 {
             return true;
         }
-        // Who counts and takes a seat is alone, where another is done soon.
+        // One thread at a time counts links and takes a seat, unless another holds the lock for long.
         let _alone = held(&self.admitting);
         if self.links_of(address.ip()) >= most {
             return false;
@@ -120,7 +122,7 @@ impl Watch {
     }
 }
 
-// That with the smaller number.
+// Returns the pair with the smaller number.
 fn earlier<'a>(
     one: Option<(u64, &'a Seat)>,
     other: Option<(u64, &'a Seat)>,

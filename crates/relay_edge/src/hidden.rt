@@ -26,8 +26,8 @@ const HIDDEN: [(u32, u32); 21] = [
     (0xe0020, 0xe007f),
 ];
 
-/// Whether it is a control character, a format character or a separator of lines, which could make one line look like
-/// another or like two.
+/// Returns whether it is a control character, a format character or a separator of lines, which could make
+/// one line look like another or like two.
 pub fn is_hidden(c: char) -> bool {
     let code = u32::from(c);
     c.is_control()

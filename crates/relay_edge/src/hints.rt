@@ -3,7 +3,7 @@
 use std::alloc::{AllocError, Global};
 use std::sync::atomic::{AtomicU64, Ordering};
 
-/// As many counts as there are. Streams whose numbers leave one rest share one.
+/// The number of counts. Streams whose numbers have the same remainder share a count.
 const SLOTS: usize = 4096;
 
 #[derive(Drop)]
@@ -19,7 +19,7 @@ pub struct Hints {
     slots: Vec<Slot>,
 }
 
-// The bit of a worker.
+// Returns the bit of a worker.
 fn bit(worker: usize) -> u64 {
     if worker < 64 { 1u64 << worker } else { 0 }
 }
@@ -43,8 +43,8 @@ impl Hints {
         self.slots.get(stream as usize % SLOTS)
     }
 
-    /// Something was pushed to the stream. The workers that are to hear of it: it is counted first, so that one that plays from now on
-    /// finds it.
+    /// Counts a push to the stream, and returns the workers that play it, a bit for each. The count comes
+    /// first, so that a worker that plays the stream from now on finds the push.
     pub fn push(&self, stream: u32) -> u64 {
         let Some(slot) = self.slot(stream) else {
             return 0;
@@ -53,7 +53,7 @@ impl Hints {
         slot.players.load(Ordering::SeqCst)
     }
 
-    /// How often something was pushed to the stream, for a worker that plays it.
+    /// Returns the number of pushes to the stream, for a worker that plays it.
     pub fn pushes(&self, stream: u32, worker: usize) -> u64 {
         self.play(stream, worker);
         match self.slot(stream) {
@@ -62,7 +62,7 @@ impl Hints {
         }
     }
 
-    /// The worker plays the stream.
+    /// Records that the worker plays the stream.
     pub fn play(&self, stream: u32, worker: usize) {
         let Some(slot) = self.slot(stream) else {
             return;
@@ -73,7 +73,7 @@ impl Hints {
         }
     }
 
-    /// The worker plays no stream, until it says so again.
+    /// Records that the worker plays no stream, until its next call of `play`.
     pub fn forget(&self, worker: usize) {
         let bit = bit(worker);
         for slot in self.slots.as_slice() {

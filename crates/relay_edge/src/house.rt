@@ -28,7 +28,7 @@ use std::{io, net};
 /// How many events a poll takes at once.
 const EVENTS: usize = 128;
 
-// The address that the bytes name.
+// Returns the address that the bytes name.
 fn address(listen: &[u8]) -> Result<SocketAddr, Refusal> {
     match text(listen)?.parse::<SocketAddr>() {
         Ok(address) => Ok(address),
@@ -36,7 +36,7 @@ fn address(listen: &[u8]) -> Result<SocketAddr, Refusal> {
     }
 }
 
-// What the house keeps of a worker until its door and its rest are asked for.
+// The parts of a worker that the house keeps until its door and its rest are asked for.
 #[derive(Drop)]
 struct Hand {
     worker: u32,
@@ -65,7 +65,7 @@ impl Hand {
         })
     }
 
-    // Its links are those of HTTP players, and its rest is to turn away those for whom no place is left.
+    // Makes its links those of HTTP players. Its rest then turns away players that find no place.
     fn serve_http(&mut self, alloc: Global, socket: &net::TcpListener) -> io::Result<()> {
         let listener = TcpListener::from_std(socket.try_clone()?);
         self.turnstile = Some(Turnstile::new(alloc, listener));
@@ -73,7 +73,7 @@ impl Hand {
         Ok(())
     }
 
-    // Its door, once.
+    // Returns its door, once.
     fn door(&mut self, socket: net::TcpListener, accept: u32) -> io::Result<RealDoor>
         ensures { IfOk result (λ d. d ≡ record { given = 0; faults = 0; closed = false; back = None }) }
     {
@@ -88,7 +88,7 @@ impl Hand {
         Ok(RealDoor::new(listener, registry, post, accept))
     }
 
-    // The link to an origin at that address, once, where it has no door.
+    // Returns the link to an origin at that address, once, for a worker without a door.
     fn reach<R: Net>(&mut self, rt: &R, address: SocketAddr) -> io::Result<OriginLink>
         ensures { IfOk result (λ l. l ≡ record { faults = 0; waits = 0; ends = 0 }) }
     {
@@ -99,7 +99,7 @@ impl Hand {
         Ok(OriginLink::reach(rt, &registry, address, post))
     }
 
-    // Its rest, once.
+    // Returns its rest, once.
     fn rest(&mut self, alloc: Global) -> io::Result<RealRest> {
         let Some(poll) = self.poll.take() else {
             return Err(io::Error::from(io::ErrorKind::AlreadyExists));
@@ -116,16 +116,17 @@ struct Sockets {
     alloc: Global,
     board: Arc<Board, Global>,
     watch: Arc<Watch, Global>,
-    // Where it listens: each address as it was asked for, and the socket.
+    // The listening sockets, each with its address as it was asked for.
     listening: Vec<(Vec<u8>, net::TcpListener)>,
     hands: Vec<Hand>,
-    // Where it is asked how it is, once it listens there.
+    // The path of the control socket, and whether the server answers there.
     control: Option<String>,
     answers: bool,
 }
 
 impl Sockets {
-    // A handle of the socket that listens at that address, with the longest backlog that the system allows, and the address' number.
+    // Returns a handle of the socket that listens at that address, and the number of the address. The socket
+    // has the longest backlog that the system allows.
     fn listener<R: Net>(
         &mut self,
         rt: &R,
@@ -149,7 +150,7 @@ impl Sockets {
         Ok((socket, number))
     }
 
-    // It is asked how it is at the socket of its path, where it has one, by the first worker that runs.
+    // Opens the control socket if the settings have a path for it. The first worker that runs answers there.
     fn answer<R: Net + Files<File = File>>(&mut self, rt: &R) -> Result<(), Refusal> {
         if self.answers {
             return Ok(());
@@ -162,7 +163,7 @@ impl Sockets {
         Ok(())
     }
 
-    // The worker's hand, which is made where it isn't there.
+    // Returns the worker's hand, and makes it if there is none.
     fn hand<R: Net>(&mut self, rt: &R, worker: u32) -> io::Result<&mut Hand> {
         let mut at = 0usize;
         for hand in self.hands.as_slice() {
@@ -208,9 +209,10 @@ impl Sockets {
     }
 }
 
-/// A house over sockets and files: doors that share one listening socket, rests that wake each other, and files.
-/// It says on standard error where it listens, once the first worker runs, and why a door, a rest or a file
-/// couldn't be had. When one couldn't, all files are again as they were before it gave any.
+/// A house over sockets and files: doors that share the listening socket of their address, rests that wake
+/// each other, and files. Once the first worker runs, it writes on standard error the addresses at which it
+/// listens. It also reports there why a door, a rest or a file couldn't be had. If one couldn't, all files
+/// are again as they were before it gave any.
 #[derive(Drop)]
 pub struct RealHouse<'a, R> {
     rt: &'a R,
@@ -230,19 +232,19 @@ impl<'a, R> Model for RealHouse<'a, R> {
 }
 
 impl<'a, R: Eprint> RealHouse<'a, R> {
-    /// A house that has given nothing, and whose links nobody watches.
+    /// Creates a house that has given nothing, without a log or a control socket.
     pub fn new(rt: &'a R, alloc: Global) -> Result<RealHouse<'a, R>, AllocError>
         ensures { IfOk result (λ h. h ≡ record { faults = 0; spoiled = 0; kept = None; shut = None }) }
     {
         RealHouse::watched(rt, alloc, Watching::nothing())
     }
 
-    /// A line of standard error, as the log's: nobody waits for who reads it.
+    /// Writes a line on standard error, as the log does: no thread waits for its reader.
     pub fn say<D: Display>(&self, line: &D) {
         self.sockets.watch.say(line);
     }
 
-    /// A house that has given nothing, and is watched so.
+    /// Creates a house that has given nothing, and is watched by these settings.
     pub fn watched(
         rt: &'a R,
         alloc: Global,
@@ -272,16 +274,15 @@ impl<'a, R: Eprint> RealHouse<'a, R> {
 }
 
 impl<'a, R: Files<File = File>> RealHouse<'a, R> {
-    /// It gives no file that is the one of this name, where that is there.
+    /// Keeps the file of this name, if it exists, from being given.
     pub fn spare(&mut self, name: &str)
         ensures { self.new ≡ self.old }
     {
         self.names.spare(self.rt, name);
     }
 
-    /// Removes the file of the socket at which it is asked how it is, where it made one, and leaves all files as they
-    /// were if no worker has run. Whoever told it to stop still waits until the
-    /// house is dropped.
+    /// Removes the file of the control socket if the house made one. It also leaves all files as they were if
+    /// no worker has run. A client that told the server to stop still waits until the house is dropped.
     pub fn clear(&mut self)
         ensures { self.new ≡ self.old }
     {
@@ -296,8 +297,8 @@ impl<'a, R: Files<File = File>> RealHouse<'a, R> {
 }
 
 impl<'a, R: Net> RealHouse<'a, R> {
-    /// A link to the server at that address, and the rest of who pulls a stream from it and publishes it here. It doesn't wait until there is a
-    /// connection. Both are given once.
+    /// Returns a link to the server at that address, and a rest for the session that pulls a stream from it
+    /// and publishes it here. It doesn't wait for the connection. Both are given once.
     pub fn reach(&mut self, address: SocketAddr) -> io::Result<(OriginLink, RealRest)>
         ensures same { self.new ≡ self.old }
         ensures new { IfOk result (λ both. both.0 ≡ record { faults = 0; waits = 0; ends = 0 }) }
@@ -309,7 +310,8 @@ impl<'a, R: Net> RealHouse<'a, R> {
 }
 
 impl<'a, R: Net + Files<File = File> + Eprint> RealHouse<'a, R> {
-    // Whether it is asked how it is where it is to be. Else it says why not.
+    // Returns whether the control socket is open, or the settings have no path for it. Otherwise it reports
+    // why not.
     fn answers(&mut self) -> bool
         ensures { self.new ≡ self.old }
     {

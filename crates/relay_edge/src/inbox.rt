@@ -1,27 +1,28 @@
-//! What a link received and didn't give yet.
+//! The bytes that a link received and hasn't given yet.
 ghost use Rattle.std.specs.Prelude.{◌≤◌, length};
 
 use std::alloc::Global;
 
-/// As many bytes as are received at once.
+/// The most bytes that are received at once.
 const AT_ONCE: usize = 65_536;
 
-/// After so many times in a row with no more than was asked for, the memory is given back.
+/// The number of reads in a row with no more bytes than were asked for, after which the memory is given back.
 const FEW_TIMES: u32 = 64;
 
-/// The bytes that a link received and didn't give yet. It has memory only for a link that receives more than is asked for.
+/// The bytes that a link received and hasn't given yet. It has memory only for a link that receives more than
+/// is asked for.
 #[derive(Drop)]
 pub(crate) struct Inbox {
     alloc: Global,
     bytes: Vec<u8>,
     from: usize,
     until: usize,
-    // So many times in a row as much came as was asked for, or less.
+    // The number of reads in a row that brought no more bytes than were asked for.
     few: u32,
 }
 
 impl Inbox {
-    /// Nothing was received.
+    /// Creates an inbox without bytes.
     pub(crate) fn new(alloc: Global) -> Inbox {
         Inbox {
             alloc,
@@ -32,22 +33,22 @@ impl Inbox {
         }
     }
 
-    /// Whether it has memory.
+    /// Returns whether it has memory.
     pub(crate) fn is_open(&self) -> bool {
         !self.bytes.is_empty()
     }
 
-    /// Takes memory, where there is some.
+    /// Takes memory, if the system has some.
     pub(crate) fn open(&mut self) {
         let _ = self.bytes.resize(AT_ONCE, 0);
     }
 
-    /// Where bytes are received, where nothing is left.
+    /// Returns the room for received bytes. It is used once no bytes are left.
     pub(crate) fn room(&mut self) -> &mut [u8] {
         self.bytes.as_mut_slice()
     }
 
-    /// So many came where so many were asked for. Whether there may be more.
+    /// Records that `count` bytes came when `asked` were asked for. Returns whether there may be more.
     pub(crate) fn receive(&mut self, count: usize, asked: usize) -> bool {
         self.from = 0;
         self.until = count;
@@ -59,12 +60,12 @@ impl Inbox {
         count >= self.bytes.len()
     }
 
-    /// Whether bytes are left.
+    /// Returns whether bytes are left.
     pub(crate) fn has_more(&self) -> bool {
         self.from < self.until
     }
 
-    /// Gives the first of what is left, as many as there is room for.
+    /// Gives the first of the bytes that are left, as many as there is room for, and returns their number.
     pub(crate) fn give(&mut self, into: &mut [u8]) -> usize
         ensures count { result ≤ length into.new }
     {
@@ -81,7 +82,7 @@ impl Inbox {
     }
 }
 
-// Copies as much as there is room for.
+// Copies as many bytes as there is room for, and returns their number.
 fn copy(from: &[u8], into: &mut [u8]) -> usize
     ensures count { result ≤ length into.new }
 {

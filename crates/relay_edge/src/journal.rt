@@ -11,21 +11,23 @@ use std::fmt::{Display, Write};
 use std::sync::atomic::{AtomicBool, AtomicU64, Ordering};
 use std::{fmt, str};
 
-/// As many bytes as a line has at most, with what tells of lines that were lost: less than a pipe takes at once.
+/// The most bytes of a line, with the note of lines that were lost: fewer than a pipe takes at once.
 const MOST: usize = 1024;
 
-/// So often a thread looks whether another has written its line, and lets others run.
+/// The most times that a thread checks whether another has written its line, and lets others run.
 const LOOKS: u32 = 300;
 
 /// How long the last words of a server wait for room on standard error at most, in milliseconds.
 const LAST_WAIT: i32 = 1000;
 
-/// Whether standard error has room for the last words of a server within a second. A pipe that nobody reads has none.
+/// Returns whether standard error has room for the last words of a server within a second. A pipe without a
+/// reader has none.
 pub fn is_heard() -> bool {
     is_ready(LAST_WAIT)
 }
 
-/// Whether standard error has room for a line, within so many milliseconds. A pipe that nobody reads any more has none.
+/// Returns whether standard error has room for a line, within `milliseconds`. A pipe that has lost its reader
+/// has none.
 pub fn is_ready(milliseconds: i32) -> bool {
     let mut asked = [pollfd {
         fd: STDERR_FILENO,
@@ -35,7 +37,7 @@ pub fn is_ready(milliseconds: i32) -> bool {
     poll(&mut asked, milliseconds) == 1 && asked[0].revents == POLLOUT
 }
 
-// A line of text, cut where it is too long.
+// A line of text, cut if it is too long.
 #[derive(Drop)]
 struct Line {
     bytes: [u8; MOST],
@@ -50,7 +52,7 @@ impl Line {
         }
     }
 
-    // Adds a byte, where there is room.
+    // Adds a byte if there is room.
     fn add(&mut self, byte: u8) {
         if let Some(free) = self.bytes.get_mut(self.len) {
             *free = byte;
@@ -58,7 +60,7 @@ impl Line {
         }
     }
 
-    // Ends it. The last byte makes room where there is none.
+    // Ends the line. If the line is full, the end replaces its last byte.
     fn end(&mut self) {
         self.len = self.len.min(MOST - 1);
         self.add(b'\n');
@@ -81,8 +83,9 @@ impl Write for Line {
     }
 }
 
-/// Writes each record's message to standard error, as a line by one call. Where there is no room for it, it is lost and counted: no
-/// thread waits for one who reads the log. The next line that is written tells how many were lost.
+/// Writes each record's message to standard error, as a line by one call. If there is no room for a line, it
+/// is lost and counted: no thread waits for a reader of the log. The next line that is written gives the
+/// number of lost lines.
 #[derive(Drop)]
 pub struct Journal {
     // Whether a line begins with the date and the time.
@@ -92,7 +95,7 @@ pub struct Journal {
 }
 
 impl Journal {
-    /// One whose lines begin with the date and the time, or don't.
+    /// Creates a log whose lines begin with the date and the time if `times` is true.
     pub fn new(times: bool) -> Journal {
         Journal {
             times,
@@ -101,12 +104,12 @@ impl Journal {
         }
     }
 
-    /// How many lines were lost and not told.
+    /// Returns the number of lost lines that aren't reported yet.
     pub fn missed(&self) -> u64 {
         self.missed.load(Ordering::SeqCst)
     }
 
-    // Whether no other thread writes. Then this one does.
+    // Returns whether no other thread writes. Then this one does.
     fn begin(&self) -> bool {
         for _ in 0..LOOKS {
             if !self.busy.swap(true, Ordering::SeqCst) {

@@ -4,7 +4,7 @@ use crate::shown::{Shown, Written};
 use std::fmt;
 use std::fmt::{Display, Formatter};
 
-/// A text of JSON, of what a peer wrote.
+/// A JSON string of bytes that a peer wrote.
 #[derive(Clone, Copy)]
 pub struct Quoted<'a> {
     pub bytes: &'a [u8],
@@ -16,7 +16,8 @@ pub struct QuotedText<'a> {
     pub text: &'a str,
 }
 
-// Writes what is written to it without the two characters that JSON's texts can't have as they are.
+// Writes text with a backslash before each quotation mark and each backslash, which a JSON string can't hold
+// as they are.
 #[derive(Drop)]
 struct Escapes<'a, W> {
     f: &'a mut Formatter<W>,

@@ -1,11 +1,15 @@
-//! The real edge of the relay: doors, links and rests over sockets, and files. What it gives tells no bytes.
+//! The OS layer of the relay ("the real edge"): doors, links and rests over sockets, and files. A rest is the
+//! way in which a worker waits. Contracts see none of the bytes that pass through.
 //!
-//! A [`RealHouse`] gives each worker a door and a rest. All doors share one listening socket, and balance; a link
-//! asks the system only where the worker's poll has reported that there is something to do; a rest waits until a
-//! socket of its worker is ready, or another worker did what received bytes brought. What links are told goes to
-//! a log, a link that is silent for too long fails, and a socket of its own answers how the server is and takes
-//! the word to stop ([`Watching`]), which [`Asking`] asks. It also gives a link to an origin, and the rest of who
-//! pulls from that.
+//! A [`RealHouse`] gives each worker a door and a rest; read `house.rt` first, then `door.rt`, `link.rt` and
+//! `rest.rt`. The doors at one address share one listening socket, and balance their links. A link calls the
+//! system only if the worker's poll has reported that there is something to do. A rest waits until a socket
+//! of its worker is ready, or until another worker has handled received bytes.
+//!
+//! The events of links go to a log, and a link that is silent for too long fails. A control socket answers
+//! with the state of the server and takes the command to stop ([`Watching`]); [`Asking`] is its client. The
+//! crate also gives a link to an origin, and a rest for the session that pulls from it. It parses no RTMP and
+//! keeps no stream.
 #![tactic(auto)]
 
 mod aside;
@@ -33,6 +37,7 @@ mod life;
 mod link;
 mod link_line;
 mod listeners;
+mod missed;
 mod names;
 mod options;
 mod origin;

@@ -1,8 +1,9 @@
-//! What is done over a link, and since when it is silent.
+//! The state of a link: its activity, and how long it has been silent.
 
 use crate::audience::Audience;
 use crate::cause::Cause;
 use crate::link_line::LinkLine;
+use crate::missed::Missed;
 use crate::post::Post;
 use crate::seats::Doing;
 use crate::throttle::Kind;
@@ -13,34 +14,37 @@ use std::cell::Cell;
 use std::io;
 use std::net::SocketAddr;
 
-/// One that plays may take nothing of what waits for so many times as long as another may give nothing.
+/// The factor of a player's patience: a player may take no bytes for this many times the silence that another
+/// link may keep.
 const PLAYERS: u64 = 3;
 
-/// A publisher gives way to another for its name where it gave nothing for so many milliseconds.
+/// The silence after which a publisher gives its name to another client that asks for it, in milliseconds.
 const GIVES_WAY: u64 = 2_000;
 
-/// A server that stops lets a player go that was sent nothing for so many milliseconds.
+/// How long a player must have been sent nothing before a server that stops lets it go, in milliseconds.
 const QUIET: u64 = 200;
 
-/// And had nothing to send in so many turns.
+/// The number of turns with nothing to send that the player must also have had.
 const QUIET_TURNS: u32 = 4;
 
-/// One that takes nothing for so many milliseconds it lets go before it was sent all.
+/// The time without any bytes taken after which a server that stops lets a player go before it was sent all,
+/// in milliseconds.
 pub const STUCK: u64 = 5_000;
 
-/// And each after so many.
+/// The time after which a server that stops lets every player go, in milliseconds.
 const AT_LAST: u64 = 30_000;
 
-/// A link that wasn't looked into for so many milliseconds is to be: what nobody has told of is found then.
+/// The time after which a link is looked into even without an event, in milliseconds. A change that no event
+/// reported is found then.
 pub const STALE: u64 = 500;
 
-/// A request over HTTP may take so many milliseconds to be whole.
+/// How long a client may take to complete an HTTP request, in milliseconds.
 const HEAD: u64 = 5_000;
 
-/// After so many refusals a peer is heard no more.
+/// The number of refusals after which nothing more is read from a peer.
 const REFUSALS: u32 = 3;
 
-/// A player over HTTP ends so many milliseconds after the last byte of a broadcast that is over.
+/// How long a player over HTTP stays after the last byte of a broadcast that is over, in milliseconds.
 const AFTER: u64 = 2_000;
 
 /// The life of a link, by the clock of its worker in milliseconds.
@@ -54,26 +58,28 @@ pub struct Life {
     // When it gave bytes last, and when it took some.
     gave: u64,
     took: u64,
-    // Turns since then with nothing to send.
+    // The turns since then with nothing to send.
     quiet: u32,
-    // Its session holds back what it is to send next, until the peer acknowledges more.
+    // Its session holds back its next bytes until the peer acknowledges more.
     held_back: Cell<bool>,
     // When it was looked into last.
     looked: u64,
     // It was answered why it isn't served.
     answered: Cell<bool>,
-    // When nobody published any more, after the server was told to stop.
+    // Since when no link has published, after the server was told to stop.
     alone: Option<u64>,
     cause: Cause,
     // How often it was refused, and when the last time.
     refusals: Cell<u32>,
     refused: Cell<u64>,
-    // What it has seen of the broadcasts that it plays.
+    // The state of the broadcasts that it plays, as far as it has seen them.
     audience: Cell<Audience>,
+    // The items that it has missed and that aren't counted yet.
+    missed: Cell<Missed>,
 }
 
 impl Life {
-    /// That of a new link.
+    /// Creates the state of a new link.
     pub fn new(address: SocketAddr, token: usize, now: u64) -> Life {
         Life {
             address,
@@ -91,51 +97,53 @@ impl Life {
             refusals: Cell::new(0),
             refused: Cell::new(0),
             audience: Cell::new(Audience::new()),
+            missed: Cell::new(Missed::nothing()),
         }
     }
 
-    /// It gave bytes.
+    /// Records that it gave bytes.
     pub fn give(&mut self, now: u64) {
         self.gave = now;
     }
 
-    /// It took some.
+    /// Records that it took bytes.
     pub fn take(&mut self, now: u64) {
         self.took = now;
         self.quiet = 0;
     }
 
-    /// It was looked into.
+    /// Records that it was looked into.
     pub fn look(&mut self, now: u64) {
         self.looked = now;
     }
 
-    /// It has a turn. Whether the one before had nothing to send, and nothing is held back.
+    /// Begins a turn. Returns whether the turn before had nothing to send, and nothing is held back.
     pub fn turn(&mut self, now: u64) -> bool {
         self.looked = now;
         self.quiet = self.quiet.saturating_add(1);
         self.quiet > 1 && !self.held_back.get()
     }
 
-    // Whether it neither publishes nor plays, and is to give its place to another that waits.
+    // Returns whether it neither publishes nor plays, and must give its place to a connection that waits.
     fn gives_place(&self, post: &Post) -> bool {
         let idle = matches!(self.doing.get(), Doing::Nothing | Doing::Connected);
         idle && self.is_asked(post)
     }
 
-    /// Whether it is to have a turn though nothing has come: it wasn't looked into for long, or had too few turns since it took bytes, or
-    /// another waits for its place, or the server stops.
+    /// Returns whether it needs a turn though nothing has come. It does if it wasn't looked into for long or
+    /// had too few turns since it took bytes. It also does if it must give its place to a connection that
+    /// waits, or the server stops.
     pub fn is_due(&self, post: &Post) -> bool {
         let stale = post.now().saturating_sub(self.looked) >= STALE;
         stale || self.quiet < 2 || self.gives_place(post) || post.watch.is_stopped()
     }
 
-    // Whether somebody else asks for its place, or for the name that it publishes.
+    // Returns whether another client asks for its place, or for the name that it publishes.
     fn is_asked(&self, post: &Post) -> bool {
         post.seat(self.token).is_some_and(|seat| seat.is_asked())
     }
 
-    // For how many milliseconds a publisher may give nothing; 0 stands for any number.
+    // Returns how many milliseconds a publisher may give nothing; 0 sets no limit.
     fn publisher_silence(&self, post: &Post) -> u64 {
         let most = post.watch.publisher_silence();
         if most > 0 && self.is_asked(post) {
@@ -145,13 +153,14 @@ impl Life {
         }
     }
 
-    // For how many milliseconds it may be there before it comes to publish or to play; 0 stands for any number.
+    // Returns how many milliseconds it may take until it publishes or plays; 0 sets no limit.
     fn idle_silence(&self, post: &Post) -> u64 {
         let most = post.watch.silence;
         if post.is_http() { most.min(HEAD) } else { most }
     }
 
-    /// Whether it has been silent in what it does for longer than it may, or is to give its place to another that waits.
+    /// Returns whether it has been silent in its present activity for longer than it may, or must give its
+    /// place to a connection that waits.
     pub fn is_silent(&mut self, post: &Post) -> bool {
         let changed = self.changed.get();
         let (most, since) = match self.doing.get() {
@@ -175,7 +184,7 @@ impl Life {
         true
     }
 
-    // It plays, and looks whether somebody publishes.
+    // Looks for a publisher of the stream that it plays.
     fn look_around(&self, post: &Post) -> Audience {
         let mut audience = self.audience.get();
         audience.look(post, self.token, self.changed.get());
@@ -183,7 +192,7 @@ impl Life {
         audience
     }
 
-    // Whether it has waited for a broadcast for longer than a player may.
+    // Returns whether it has waited for a broadcast for longer than a player may.
     fn has_waited(&mut self, post: &Post) -> bool {
         let most = post.watch.bounds.wait;
         if most == 0 || self.look_around(post).waited(post.now()) < most.saturating_mul(1000) {
@@ -193,7 +202,8 @@ impl Life {
         true
     }
 
-    /// Whether it plays over HTTP, and the broadcast is over of which it was sent a part, where all was taken that is there. It stays so.
+    /// Returns whether it plays over HTTP a broadcast that is over and of which it was sent a part, and it
+    /// took all that there is. Once true, it stays so.
     pub fn is_left(&mut self, post: &Post, empty: bool) -> bool {
         if self.cause == Cause::Left {
             return true;
@@ -210,12 +220,12 @@ impl Life {
         true
     }
 
-    /// Whether it was refused so often that its peer is heard no more.
+    /// Returns whether it was refused so often that nothing more is read from its peer.
     pub fn is_barred(&self) -> bool {
         self.refusals.get() >= REFUSALS
     }
 
-    /// Whether it was refused once more, and is answered no more.
+    /// Returns whether it was refused once more after that, and gets no further answer.
     pub fn is_spent(&mut self) -> bool {
         let spent = self.refusals.get() > REFUSALS;
         if spent {
@@ -224,7 +234,7 @@ impl Life {
         spent
     }
 
-    /// Whether such a one ends: it took all that it was answered, or had time to.
+    /// Returns whether a barred link ends: it took the whole of its answers, or had time to.
     pub fn is_barred_long(&mut self, post: &Post, empty: bool) -> bool {
         let long = post.now().saturating_sub(self.refused.get()) >= FAREWELL;
         if !long && !(empty && self.quiet > 1) {
@@ -234,12 +244,12 @@ impl Life {
         true
     }
 
-    /// It wasn't silent.
+    /// Takes back that it was silent.
     pub fn forgive(&mut self) {
         self.cause = Cause::Peer;
     }
 
-    /// How many milliseconds it may take nothing of what waits, if there is a bound.
+    /// Returns how many milliseconds it may take none of the bytes that wait, if there is a limit.
     pub fn patience(&self, post: &Post) -> Option<u64> {
         let most = post.watch.silence;
         if most == 0 || self.doing.get() != Doing::Plays {
@@ -248,25 +258,37 @@ impl Life {
         Some(most.saturating_mul(PLAYERS))
     }
 
-    /// It took nothing for so long.
+    /// Records that it took nothing for `milliseconds`.
     pub fn stick(&mut self, milliseconds: u64) {
         self.cause = Cause::Silent {
             seconds: milliseconds / 1000,
         };
     }
 
-    /// Whether it plays.
+    /// Returns whether it plays.
     pub fn plays(&self) -> bool {
         self.doing.get() == Doing::Plays
     }
 
-    /// Whether it was answered why it isn't served.
+    /// Returns how long bytes for it may wait for more bytes, in milliseconds. Those of a player may, and all are
+    /// sent at once when the server stops.
+    pub fn gather(&self, post: &Post) -> u64 {
+        if self.plays() && !post.watch.is_stopped() {
+            post.watch.bounds.gather
+        } else {
+            0
+        }
+    }
+
+    /// Returns whether it was answered why it isn't served.
     pub fn is_answered(&self) -> bool {
         self.answered.get() || self.is_barred()
     }
 
-    /// Whether it ends, since the server stops: at once, or where it plays once all publishers are gone and it was sent what they
-    /// left, their end too. One whose session holds that back has time as long as its peer takes or acknowledges something now and then.
+    /// Returns whether it ends because the server stops. A player ends once all publishers are gone and it
+    /// was sent the remaining items of their streams, their end too. Any other link ends at once. A player
+    /// whose session holds that back has time as long as its peer takes or acknowledges something now and
+    /// then.
     pub fn is_over(&mut self, post: &Post, empty: bool) -> bool {
         if !post.watch.is_stopped() {
             return false;
@@ -300,20 +322,20 @@ impl Life {
         empty && self.quiet >= QUIET_TURNS && now.saturating_sub(since) >= QUIET
     }
 
-    /// It is gone.
+    /// Records that it is gone.
     pub fn end(&self, post: &Post) {
         if self.doing.get() == Doing::Publishes {
             post.watch.end();
         }
     }
 
-    // It was refused.
+    // Counts a refusal.
     fn refuse(&self, post: &Post) {
         self.refusals.set(self.refusals.get().saturating_add(1));
         self.refused.set(post.now());
     }
 
-    // What it does from now on.
+    // Changes its activity.
     fn change(&self, post: &Post, doing: Doing, app: &[u8], name: &[u8]) {
         if self.doing.get() == Doing::Publishes {
             post.watch.end();
@@ -330,7 +352,7 @@ impl Life {
         }
     }
 
-    // Whether its session holds back what it is to send next.
+    // Sets whether its session holds back its next bytes.
     fn hold_back(&self, post: &Post, held_back: bool) {
         self.held_back.set(held_back);
         if let (Some(seat), true) = (post.seat(self.token), held_back) {
@@ -338,9 +360,20 @@ impl Life {
         }
     }
 
-    /// It is told what is done over it, and that is logged. `error` is why a call of the system failed.
+    // Counts the items of the stream that it has missed by this news, and by earlier news that isn't counted yet.
+    fn miss(&self, post: &Post, news: News, app: &[u8], name: &[u8]) {
+        let missed = self.missed.get().and(Missed::by(news));
+        if missed.is_nothing() {
+            return;
+        }
+        let counted = post.watch.miss(post.alloc, app, name, missed, post.now());
+        self.missed
+            .set(if counted { Missed::nothing() } else { missed });
+    }
+
+    /// Takes news of the link, and logs it. `error` is the error of the system call that failed, if one did.
     pub fn tell(&self, post: &Post, news: News, app: &[u8], name: &[u8], error: Option<io::Error>) {
-        let mut published = false;
+        self.miss(post, news, app, name);
         match news {
             News::Connected => self.change(post, Doing::Connected, app, name),
             News::Publishes => self.change(post, Doing::Publishes, app, name),
@@ -354,9 +387,12 @@ impl Life {
                 self.hold_back(post, news == News::HeldBack);
                 return;
             }
+            News::Skipped(_) | News::LeftOut(_) => return,
             News::Denied(denied) => {
                 self.refuse(post);
-                published = denied == Denied::InUse && post.ask_for_name(app, name);
+                if denied == Denied::InUse {
+                    post.ask_for_name(app, name);
+                }
             }
             News::Ended { .. } => {}
         }
@@ -365,7 +401,6 @@ impl Life {
             news,
             app,
             name,
-            published,
             cause: self.cause,
             error,
             tally: post.seat(self.token).map(|seat| seat.tally(post.now())),

@@ -22,15 +22,17 @@ pub(crate) struct Guest {
     pub address: SocketAddr,
 }
 
-/// A link over a socket. It asks the system only where the poll has reported that there is something to do, and tells no
-/// bytes.
+/// A link over a socket. It calls the system only if the poll has reported that there is something to do.
+/// Contracts see none of its bytes.
 ///
-/// Pieces that follow each other in turn after turn are sent by one call of the system: a piece that was taken is kept, and
-/// sent in the first turn that brings none after it, when as many are kept as may be, or when the link is dropped. A worker
-/// doesn't wait while a link keeps bytes that can be sent. Where they can't be sent for a fault, the link fails from then on.
+/// The pieces of successive turns are sent by one call of the system. A piece that was taken is kept. It is
+/// sent in the first turn that brings none after it, when the buffer is full, or when the link is dropped. A
+/// worker doesn't wait while a link keeps bytes that can be sent. If they can't be sent because of a fault,
+/// the link fails from then on.
 ///
-/// What it is told goes to the log. Where it is silent for longer than its server allows, it fails; and where that stops, it answers as
-/// at its peer's end: a player once nobody publishes any more and it was sent what there was.
+/// Its news goes to the log. If it is silent for longer than its server allows, it fails. If the server
+/// stops, it answers as at its peer's end. A player does so once nothing is published any more and it was
+/// sent all that there was.
 pub struct RealLink {
     wire: Wire,
     life: Life,
@@ -63,7 +65,7 @@ impl Model for RealLink {
 }
 
 impl RealLink {
-    /// A link over a stream that is registered under that token.
+    /// Creates a link over a stream that is registered under that token.
     pub(crate) fn new(guest: Guest, post: Arc<Post, Global>, token: usize) -> RealLink
         ensures { result ≡ record { faults = 0; waits = 0; ends = 0 } }
     {
@@ -83,7 +85,8 @@ impl RealLink {
         }
     }
 
-    /// The link is gone, but for its socket, where its peer was answered why it isn't served: that one is to read the answer.
+    /// Ends the link. Its socket is returned if its peer was answered why it isn't served, so that the peer
+    /// can read the answer.
     pub(crate) fn leave(self) -> Option<Wire> {
         let RealLink {
             mut wire,
@@ -104,7 +107,8 @@ impl RealLink {
     }
 }
 
-// Whether a link has been silent for too long: its peer gave nothing, or takes nothing of what is kept for it.
+// Returns whether a link has been silent for too long: its peer gave nothing, or takes none of the bytes kept
+// for it.
 fn is_silent(life: &mut Life, wire: &mut Wire) -> bool {
     if life.is_silent(&wire.cell.post) {
         if !wire.has_bytes() {
@@ -123,7 +127,8 @@ fn is_silent(life: &mut Life, wire: &mut Wire) -> bool {
     true
 }
 
-// Whether a link ends by itself: its server stops, its peer was refused too often, or the broadcast is over that it had over HTTP.
+// Returns whether a link ends by itself: its server stops, its peer was refused too often, or the broadcast
+// that it had over HTTP is over.
 fn is_over(life: &mut Life, wire: &mut Wire) -> bool {
     let empty = wire.outbox.is_empty();
     if life.is_barred() {
@@ -163,6 +168,8 @@ impl Link for RealLink {
 
     fn recv(&mut self, into: &mut [u8]) -> Heard {
         self.wire.cell.ask();
+        let gather = self.life.gather(&self.wire.cell.post);
+        self.wire.gather(gather);
         if self.wire.settle() == Flushed::Failed || self.wire.broken {
             self.failed = self.failed.saturating_add(1);
             return Heard::Failed;

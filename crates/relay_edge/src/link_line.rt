@@ -4,7 +4,7 @@ use crate::cause::Cause;
 use crate::quoted::{QuotedApp, QuotedName};
 use crate::seats::Tally;
 use crate::words::Words;
-use relay_outside::{Denied, News};
+use relay_outside::News;
 use std::fmt::{Display, Formatter};
 use std::net::SocketAddr;
 use std::{fmt, io};
@@ -16,8 +16,6 @@ pub struct LinkLine<'a> {
     pub news: News,
     pub app: &'a [u8],
     pub name: &'a [u8],
-    /// A link publishes under that name, if one was refused it.
-    pub published: bool,
     pub cause: Cause,
     pub error: Option<io::Error>,
     pub tally: Option<Tally>,
@@ -30,11 +28,6 @@ impl Display for LinkLine<'_> {
         match self.news {
             News::Ended { .. } => self.cause.write_end(f, self.news, &self.error, self.tally),
             News::Connected => write!(f, "{} {}", Words(self.news), QuotedApp { app }),
-            News::Denied(Denied::InUse) if !self.published => write!(
-                f,
-                "refused: somebody publishes, or no place is left at {}",
-                QuotedName { app, name }
-            ),
             _ => write!(f, "{} {}", Words(self.news), QuotedName { app, name }),
         }
     }

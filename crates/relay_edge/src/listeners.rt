@@ -1,4 +1,4 @@
-//! Where a server listens for connections.
+//! The sockets at which a server listens for connections.
 
 use crate::seats::held;
 use libc::net::{SHUT_RD, shutdown};
@@ -7,7 +7,7 @@ use std::net::{SocketAddr, TcpListener};
 use std::os::fd::AsRawFd;
 use std::sync::Mutex;
 
-// A socket that listens, and where.
+// A listening socket and its address.
 #[derive(Drop)]
 struct Listener {
     address: SocketAddr,
@@ -27,7 +27,7 @@ impl Listeners {
         }
     }
 
-    /// One more.
+    /// Adds a listening socket.
     pub fn add(&self, address: SocketAddr, socket: TcpListener) -> Result<(), AllocError> {
         let Some(mut list) = held(&self.list) else {
             return Err(AllocError);
@@ -39,7 +39,7 @@ impl Listeners {
         }
     }
 
-    /// The address of each, in the order in which they were added.
+    /// Returns the address of each, in the order in which they were added.
     pub fn addresses(&self, alloc: Global) -> Result<Vec<SocketAddr>, AllocError> {
         let mut addresses = Vec::new(alloc);
         if let Some(list) = held(&self.list) {
@@ -52,8 +52,8 @@ impl Listeners {
         Ok(addresses)
     }
 
-    /// None listens any more: a connection that waits is reset, and one that comes is refused. That holds for
-    /// each handle of a socket, so also where a door has one.
+    /// Stops listening at all of them: a connection that waits is reset, and one that comes is refused. That
+    /// holds for each handle of a socket, so also for the handle of a door.
     pub fn close(&self) {
         if let Some(mut list) = held(&self.list) {
             let list = &mut *list;

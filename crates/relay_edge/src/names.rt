@@ -14,13 +14,14 @@ use std::os::unix::fs::{FileTypeExt, MetadataExt};
 use std::sync::Arc;
 use std::{fmt, io, str};
 
-/// As many files of one name as are kept aside at most.
+/// The most files of one name that are kept aside.
 const MOST_ASIDE: u32 = 1_000_000;
 
-/// The header of FLV, which is all of a recording to which nothing was published.
+/// The header of FLV, which is the whole of a recording without a broadcast.
 const HEADER: &[u8; 13] = b"FLV\x01\x05\0\0\0\x09\0\0\0\0";
 
-/// The files that the server itself writes where they are regular ones, and why none of them can be a recording.
+/// The files that the server itself writes if they are regular files, and why none of them can be a
+/// recording.
 const STANDARD: [(&str, &str); 2] = [
     (
         "/dev/stdout",
@@ -76,7 +77,7 @@ impl Display for Refusal {
     }
 }
 
-/// The text that the bytes are.
+/// Returns the bytes as text, or `InvalidInput` if they aren't UTF-8.
 pub fn text(bytes: &[u8]) -> io::Result<&str> {
     match str::from_utf8(bytes) {
         Ok(text) => Ok(text),
@@ -84,7 +85,7 @@ pub fn text(bytes: &[u8]) -> io::Result<&str> {
     }
 }
 
-// Which file it is, whatever its name.
+// The identity of a file, independent of its name.
 #[derive(Clone, Copy, PartialEq, Eq)]
 struct Identity {
     dev: u64,
@@ -106,12 +107,12 @@ struct Named {
     identity: Identity,
 }
 
-// What was done to have an empty file at a path.
+// The change that made an empty file available at a path.
 #[derive(Drop)]
 enum Deed {
     Made { path: String },
     SetAside { path: String, aside: String },
-    // It had so many bytes of the header of FLV.
+    // It had the first `len` bytes of the header of FLV.
     Emptied { path: String, len: usize },
 }
 
@@ -128,7 +129,7 @@ fn take_back<R: Files<File = File>>(rt: &R, deed: &Deed) -> io::Result<()> {
     }
 }
 
-// Whether the file at the path has a first part of the header of FLV and no more.
+// Returns whether the file at the path holds a first part of the header of FLV and nothing else.
 fn is_header<R: Files<File = File>>(rt: &R, path: &str) -> io::Result<bool> {
     let mut room = [0u8; 14];
     let count = File::open(rt, path)?.read(&mut room)?;
@@ -136,7 +137,7 @@ fn is_header<R: Files<File = File>>(rt: &R, path: &str) -> io::Result<bool> {
     Ok(part.is_some() && part == room.get(..count))
 }
 
-// Why the server itself writes that file, if it does.
+// Returns why the server itself writes that file, if it does.
 fn standard<R: Files<File = File>>(rt: &R, there: &Metadata) -> Option<&'static str> {
     for (path, words) in STANDARD {
         if let Ok(own) = rt.metadata(path) {
@@ -148,7 +149,7 @@ fn standard<R: Files<File = File>>(rt: &R, there: &Metadata) -> Option<&'static 
     None
 }
 
-/// The files of a house: those that it gave, and what it did for them.
+/// The files of a house: those that it gave, and the changes that it made for them.
 #[derive(Drop)]
 pub struct Names {
     alloc: Global,
@@ -157,7 +158,7 @@ pub struct Names {
     deeds: Vec<Deed>,
 }
 
-// One more of a list.
+// Adds an item to a list.
 fn add<T: Drop>(list: &mut Vec<T>, item: T) -> Result<(), AllocError> {
     match list.push(item) {
         Ok(()) => Ok(()),
@@ -165,7 +166,7 @@ fn add<T: Drop>(list: &mut Vec<T>, item: T) -> Result<(), AllocError> {
     }
 }
 
-// Opens a file to write, which is made where it isn't there, and keeps others that do the same from it.
+// Opens a file to write, and makes it if there is none. Locks it against others that do the same.
 fn open<R: Files<File = File>>(rt: &R, path: &str, fresh: bool) -> Result<File, Refusal> {
     let mut how = OpenOptions::new();
     how.write(true).create(true).create_new(fresh);
@@ -201,14 +202,14 @@ impl Names {
         Ok(add(&mut self.named, Named { name, identity })?)
     }
 
-    /// No file that is given is the one of that name, where it is there.
+    /// Keeps the file of that name, if it exists, from being given.
     pub fn spare<R: Files<File = File>>(&mut self, rt: &R, name: &str) {
         if let Ok(metadata) = rt.metadata(name) {
             let _ = self.note(name.as_bytes(), &metadata);
         }
     }
 
-    // The first of the names for files that are kept aside that no file has.
+    // Returns the first free name for a file that is kept aside.
     fn free_name<R: Files<File = File>>(&self, rt: &R, path: &str) -> Result<String, Refusal> {
         for number in 1..=MOST_ASIDE {
             let free = numbered(self.alloc, path, number)?;
@@ -221,7 +222,7 @@ impl Names {
         Err(Refusal::System(io::Error::from(io::ErrorKind::AlreadyExists)))
     }
 
-    // Gives what is there another name, and makes an empty file in its place.
+    // Renames the file that is there, and makes an empty file in its place.
     fn set_aside<R: Files<File = File>>(&mut self, rt: &R, path: String) -> Result<File, Refusal> {
         let aside = self.free_name(rt, path.as_str())?;
         self.deeds.reserve(1)?;
@@ -231,8 +232,8 @@ impl Names {
         file
     }
 
-    /// An empty file of that name, or the pipe or character device that is there. What is in a file that is there is
-    /// set aside.
+    /// Returns an empty file of that name, or the pipe or character device that is there. A file with content
+    /// is set aside first.
     pub fn give<'a, R: Files<File = File>>(
         &mut self,
         rt: &'a R,
@@ -246,7 +247,7 @@ impl Names {
         Ok(RealFile::new(rt, Some(entry), name, file, kind))
     }
 
-    // The same, and what it is.
+    // Opens it, and returns its kind too.
     fn open<R: Files<File = File>>(
         &mut self,
         rt: &R,
@@ -263,7 +264,7 @@ impl Names {
         }
     }
 
-    // Makes a file where none is.
+    // Makes a file at a path without one.
     fn make<R: Files<File = File>>(&mut self, rt: &R, name: &[u8]) -> Result<File, Refusal> {
         let path = text(name)?;
         self.deeds.reserve(1)?;
@@ -285,7 +286,8 @@ impl Names {
         Ok(file)
     }
 
-    // An empty file in place of the one that is there. One with a first part of FLV's header alone counts as empty.
+    // Returns an empty file in place of the file that is there. A file with only a first part of FLV's header
+    // counts as empty.
     fn empty<R: Files<File = File>>(
         &mut self,
         rt: &R,
@@ -315,9 +317,8 @@ impl Names {
         Ok(file)
     }
 
-    // Opens a pipe or a character device, which is written as it is. A pipe is opened to be read too, since one that
-    // has no reader yet would
-    // keep the server waiting.
+    // Opens a pipe or a character device, which is written as it is. A pipe is opened to be read too, since a
+    // pipe without a reader would keep the server waiting.
     fn open_pipe<R: Files<File = File>>(
         &mut self,
         rt: &R,

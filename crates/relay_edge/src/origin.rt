@@ -22,13 +22,14 @@ use std::marker::Model;
 use std::net::{Net, Shutdown, SocketAddr};
 use std::sync::Arc;
 
-/// A broadcast that has gone on for so many milliseconds isn't what an origin has of the last one.
+/// The milliseconds after which a broadcast is a new one, and not the items that an origin has of the last
+/// one.
 const SETTLES: u64 = 1_000;
 
 /// The token of its socket.
 const ORIGIN: usize = DOOR + 1;
 
-// A connection that is being made, whose calls don't wait.
+// Begins a connection, whose calls don't wait.
 fn open<R: Net>(rt: &R, registry: &Registry, address: SocketAddr) -> io::Result<TcpStream> {
     let mut stream = TcpStream::connect(rt, address)?;
     stream.set_nodelay(true)?;
@@ -38,8 +39,8 @@ fn open<R: Net>(rt: &R, registry: &Registry, address: SocketAddr) -> io::Result<
     Ok(stream)
 }
 
-// How far a link to an origin is.
-#[derive(Clone, Copy, PartialEq, Eq)]
+// The progress of a link to an origin.
+#[derive(Clone, Copy)]
 enum State {
     // The origin hasn't said that it plays.
     Waits,
@@ -47,7 +48,7 @@ enum State {
     Over,
 }
 
-// The socket, if there is one, and what is told of it.
+// The socket of a link to an origin, if there is one, with its state.
 #[derive(Drop)]
 struct Pipe {
     stream: Option<TcpStream>,
@@ -72,7 +73,7 @@ impl Pipe {
         self.post.cells.has(ORIGIN, bit)
     }
 
-    // It is asked for bytes.
+    // Records that it is asked for bytes.
     fn ask(&mut self) {
         if self.fed {
             self.post.cells.ask();
@@ -80,7 +81,7 @@ impl Pipe {
         self.fed = false;
     }
 
-    // It gave bytes. Whether it may have more.
+    // Records that it gave bytes, and whether it may have more.
     fn feed(&mut self, count: usize, more: bool) {
         self.gave = self.post.now();
         if let Some(seat) = self.post.seat(ORIGIN) {
@@ -99,7 +100,7 @@ impl Pipe {
         self.fed = true;
     }
 
-    // Whether it ends, since the server does.
+    // Returns whether it ends, since the server does.
     fn is_stopped(&mut self) -> bool {
         let stopped = self.post.watch.is_stopped() || self.post.is_deserted();
         if stopped {
@@ -108,8 +109,9 @@ impl Pipe {
         stopped
     }
 
-    // Since when the origin may not be silent: it is to say that it plays, or a broadcast is live. Between two of them an origin gives at
-    // once what it has of the last one, and then nothing, so a broadcast counts from the second after it began.
+    // Returns since when the origin may not be silent, or `None` if it may. It must say that it plays, and it
+    // must send while a broadcast is live. Between two broadcasts an origin sends at once the items that it
+    // has of the last one, and then nothing. A broadcast therefore counts from the second after it began.
     fn awaited(&self) -> Option<u64> {
         let live = self.live.get();
         match self.state.get() {
@@ -121,7 +123,7 @@ impl Pipe {
         }
     }
 
-    // Whether the origin has been silent for too long.
+    // Returns whether the origin has been silent for too long.
     fn is_silent(&mut self) -> bool {
         let most = self.post.watch.silence;
         let Some(since) = self.awaited() else {
@@ -136,7 +138,7 @@ impl Pipe {
         true
     }
 
-    // Bytes from the socket, where the poll has reported some.
+    // Reads bytes from the socket, if the poll has reported some.
     fn give(&mut self, into: &mut [u8]) -> io::Result<usize>
         ensures { ReadsAtMost result into.new }
     {
@@ -152,7 +154,7 @@ impl Pipe {
         Ok(count)
     }
 
-    // Bytes to the socket, where the poll has reported room.
+    // Writes bytes to the socket, if the poll has reported room.
     fn take(&mut self, piece: &[u8]) -> io::Result<usize>
         ensures { WritesAtMost result piece.now }
     {
@@ -169,7 +171,8 @@ impl Pipe {
         Ok(count)
     }
 
-    // A call of the system failed. Whether it is to be made again later: such a call is that of the poll.
+    // Returns true if the link fails by this error of a system call, and keeps the first such error.
+    // Otherwise the call is made again later; if it would block, the poll reports when.
     fn fails(&mut self, error: io::Error, bit: u64) -> bool {
         match error.kind() {
             ErrorKind::WouldBlock => {
@@ -186,7 +189,7 @@ impl Pipe {
         }
     }
 
-    // The stream is played.
+    // Records that the stream is played.
     fn begin(&self, app: &[u8], name: &[u8]) {
         if self.state.get() != State::Waits {
             return;
@@ -197,12 +200,12 @@ impl Pipe {
             .begin(self.post.alloc, app, name, self.post.now());
         if let Some(seat) = self.post.seat(ORIGIN) {
             seat.tell(self.post.alloc, Doing::Pulled, app, name, self.post.now());
-            // Until it is told otherwise.
+            // Holds until the origin reports otherwise.
             seat.air(true);
         }
     }
 
-    // It is no longer used. What its end left is of interest to the workers.
+    // Ends the link. All workers are woken, since its end may give them something to do.
     fn end(&self) {
         if self.state.get() == State::Plays {
             self.post.watch.end();
@@ -217,7 +220,7 @@ impl Pipe {
         self.post.wake_all();
     }
 
-    // A broadcast has begun, or is over.
+    // Records that a broadcast has begun, or is over.
     fn air(&self, live: bool) {
         self.live.set(if live { self.post.now() } else { 0 });
         if let Some(seat) = self.post.seat(ORIGIN) {
@@ -251,12 +254,13 @@ impl Pipe {
     }
 }
 
-/// A link to an origin over a socket, which tells no bytes. It asks the system only where the poll has reported that there is something
-/// to do. Where there is no connection, each call fails.
+/// A link to an origin over a socket. It calls the system only if the poll has reported that there is
+/// something to do. If there is no connection, each call fails. Contracts see none of its bytes.
 ///
-/// What it is told goes to the log. Where the origin doesn't come to play for longer than the server allows silence it fails, and where it is
-/// silent for so long while a broadcast is live; between two it may be silent for ever. Where the server stops, or all its doors have
-/// closed, it answers as at its peer's end.
+/// Its news goes to the log. It fails if the origin takes longer to begin to play than the server allows
+/// silence. It also fails if the origin is silent for that time while a broadcast is live. Between two
+/// broadcasts the origin may be silent for ever. If the server stops, or all its doors have closed, the link
+/// answers as at its peer's end.
 #[derive(Drop)]
 pub struct OriginLink {
     pipe: Pipe,
@@ -274,7 +278,7 @@ impl Model for OriginLink {
 }
 
 impl OriginLink {
-    /// A link to the server at that address.
+    /// Begins a link to the server at that address.
     pub(crate) fn reach<R: Net>(
         rt: &R,
         registry: &Registry,

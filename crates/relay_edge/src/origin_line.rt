@@ -36,7 +36,7 @@ impl OriginLine<'_> {
         }
     }
 
-    // Why the stream isn't pulled: the origin refused it, or there is no place for it here.
+    // Writes why the stream isn't pulled: the origin refused it, or there is no place for it here.
     fn write_denied<W: fmt::Write>(&self, f: &mut Formatter<W>, why: Denied) -> fmt::Result {
         let (app, name) = (self.app, self.name);
         match why {

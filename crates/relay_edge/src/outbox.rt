@@ -1,17 +1,18 @@
-//! What a link took and the system didn't yet.
+//! The bytes that a link took and the system hasn't taken yet.
 
 use std::alloc::Global;
 
-/// As many bytes as are kept at most.
+/// The most bytes that are kept.
 const MOST: usize = 65_536;
 
-/// From so many on they are handed on at once, so that another piece has room after them.
+/// The number of bytes from which on they are handed on at once, so that another piece has room after them.
 const FULL: usize = 49_152;
 
-/// After so many times in a row with few bytes their memory is given back.
+/// The number of times in a row with few bytes, after which their memory is given back.
 const FEW_TIMES: u32 = 64;
 
-/// So many bytes are few. Where there was never more memory than for these, it is given back each time.
+/// The most bytes that count as few. If there was never more memory than for these, it is given back each
+/// time.
 const FEW: usize = 8_192;
 
 /// The bytes of pieces that a link took, in order, that the system didn't take yet.
@@ -19,14 +20,14 @@ const FEW: usize = 8_192;
 pub(crate) struct Outbox {
     alloc: Global,
     bytes: Vec<u8>,
-    // So many of the first the system took.
+    // The number of bytes, from the front, that the system took.
     gone: usize,
-    // So many times in a row there were few.
+    // The number of times in a row that there were few bytes.
     few: u32,
 }
 
 impl Outbox {
-    /// Nothing is kept.
+    /// Creates an outbox without bytes.
     pub(crate) fn new(alloc: Global) -> Outbox {
         Outbox {
             alloc,
@@ -40,12 +41,12 @@ impl Outbox {
         self.bytes.is_empty()
     }
 
-    /// Whether what is kept is to be handed on before more comes.
+    /// Returns whether the bytes must be handed on before more come.
     pub(crate) fn is_full(&self) -> bool {
         self.bytes.len() >= FULL
     }
 
-    /// Keeps the whole piece, or nothing of it where there is no room or no memory.
+    /// Keeps the whole piece, or nothing of it if there is no room or no memory. Returns whether it was kept.
     pub(crate) fn keep(&mut self, piece: &[u8]) -> bool {
         if self.bytes.len().saturating_add(piece.len()) > MOST {
             return false;
@@ -53,7 +54,7 @@ impl Outbox {
         self.bytes.extend_from_slice(piece).is_ok()
     }
 
-    /// The bytes that the system didn't take.
+    /// Returns the bytes that the system didn't take.
     pub(crate) fn left(&self) -> &[u8] {
         match self.bytes.get(self.gone..) {
             Some(left) => left,
@@ -61,7 +62,7 @@ impl Outbox {
         }
     }
 
-    /// The system took so many of them.
+    /// Records that the system took `count` of them.
     pub(crate) fn take(&mut self, count: usize) {
         self.gone = self.gone.saturating_add(count);
         if self.gone >= self.bytes.len() {
@@ -69,7 +70,7 @@ impl Outbox {
         }
     }
 
-    /// Keeps nothing more.
+    /// Forgets all bytes.
     pub(crate) fn forget(&mut self) {
         self.few = if self.bytes.len() <= FEW {
             self.few.saturating_add(1)

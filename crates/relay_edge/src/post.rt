@@ -1,4 +1,4 @@
-//! What the door, the links and the rest of a worker share.
+//! The state that the door, the links and the rest of a worker share.
 
 use crate::board::Board;
 use crate::cells::{Cells, DOOR, LEFT, READABLE};
@@ -15,7 +15,8 @@ use std::net::SocketAddr;
 use std::sync::Arc;
 use std::sync::atomic::{AtomicBool, AtomicI64, AtomicU64, Ordering};
 
-/// So many pauses, or 32 turns that moved something in place of each, a worker gives another to look at its door.
+/// How long a worker gives another to look at its door, in pauses. 32 turns that moved something count as a
+/// pause.
 const GRACE: u64 = 8;
 
 /// The post of a worker: the cells of its sockets, and its place on the board of all workers.
@@ -25,9 +26,9 @@ pub struct Post {
     pub cells: Cells,
     pub watch: Arc<Watch, Global>,
     seats: Arc<Seats, Global>,
-    // The clock, when it was looked at last.
+    // The clock, as it was read last.
     clock: AtomicU64,
-    // The door was asked for a link since that was asked last.
+    // The door was asked for a link since the last call of `take_knocked`.
     knocked: AtomicBool,
     // The descriptor of its socket, once it is there.
     door: AtomicI64,
@@ -35,9 +36,9 @@ pub struct Post {
     http: AtomicBool,
     board: Arc<Board, Global>,
     worker: usize,
-    // The workers that are to hear of what was pushed here, a bit for each.
+    // The workers to wake for pushes made here, a bit for each.
     listeners: AtomicU64,
-    // The worker to which the door left a connection last, and what is left of its grace.
+    // The worker to which the door left a connection last, and the pauses that remain of its grace.
     heir: AtomicU64,
     grace: AtomicU64,
 }
@@ -70,44 +71,46 @@ impl Post {
         Ok(Arc::new(alloc, post)?)
     }
 
-    /// The clock in milliseconds, when the worker looked at it last: in each pause, and after some turns that moved something.
+    /// Returns the clock in milliseconds, as the worker read it last: in each pause, and after some turns
+    /// that moved something.
     pub fn now(&self) -> u64 {
         self.clock.load(Ordering::SeqCst)
     }
 
-    /// The worker looks at the clock.
+    /// Reads the clock.
     pub fn tick(&self) {
         self.clock.store(milliseconds(), Ordering::SeqCst);
     }
 
-    /// The seat of the link of a token.
+    /// Returns the seat of the link of a token.
     pub fn seat(&self, token: usize) -> Option<&Seat> {
         self.seats.get(token)
     }
 
-    /// Whether the door was asked for a link since this was asked last. A worker that has all its links doesn't ask.
+    /// Returns whether the door was asked for a link since the last call. A worker that has all its links
+    /// doesn't ask.
     pub fn take_knocked(&self) -> bool {
         let knocked = self.knocked.swap(false, Ordering::SeqCst);
         self.board.fill(self.worker, !knocked);
         knocked
     }
 
-    /// The descriptor of the door's socket, which stays open as long as the worker.
+    /// Sets the descriptor of the door's socket, which stays open as long as the worker.
     pub fn set_door(&self, descriptor: i32) {
         self.door.store(i64::from(descriptor), Ordering::SeqCst);
     }
 
-    /// Its door is that of HTTP players.
+    /// Makes its door that of HTTP players.
     pub fn serve_http(&self) {
         self.http.store(true, Ordering::SeqCst);
     }
 
-    /// Whether its links are those of HTTP players.
+    /// Returns whether its links are those of HTTP players.
     pub fn is_http(&self) -> bool {
         self.http.load(Ordering::SeqCst)
     }
 
-    /// Whether a connection waits at the door.
+    /// Returns whether a connection waits at the door.
     pub fn has_waiting(&self) -> bool {
         let fd = i32::try_from(self.door.load(Ordering::SeqCst)).unwrap_or(-1);
         let mut asked = [pollfd {
@@ -118,42 +121,41 @@ impl Post {
         poll(&mut asked, 0) == 1 && asked[0].revents == POLLIN
     }
 
-    /// Whether a connection that came finds no place at any worker.
+    /// Returns whether a connection that came finds no place at any worker.
     pub fn is_crowded(&self) -> bool {
         self.board.is_full(self.worker)
     }
 
-    /// Whether the worker has a door.
+    /// Returns whether the worker has a door.
     pub fn has_door(&self) -> bool {
         self.door.load(Ordering::SeqCst) >= 0
     }
 
-    /// Whether it is that of a worker of the server, and not that of who pulls from an origin.
+    /// Returns whether this is the post of a worker of the server, and not of the session that pulls from an
+    /// origin.
     pub fn serves(&self) -> bool {
         self.worker != EDGE as usize
     }
 
-    /// How many links the worker has.
+    /// Returns the number of the worker's links.
     pub fn links(&self) -> u64 {
         self.board.links(self.worker)
     }
 
-    /// All workers are to hear that the server stops, or that an origin is gone.
+    /// Wakes all other workers, since the server stops or an origin is gone, for example.
     pub fn wake_all(&self) {
         self.board.wake_others(self.worker);
     }
 
-    /// Somebody is refused since the name is in use: the link that publishes under it is to give way, if it gives nothing. Whether there is
-    /// such a link.
-    pub fn ask_for_name(&self, app: &[u8], name: &[u8]) -> bool {
-        let published = self.watch.ask_for_name(app, name);
-        if published {
+    /// Asks the link that publishes under a name to give way, if it gives nothing. A client was refused since
+    /// the name is in use.
+    pub fn ask_for_name(&self, app: &[u8], name: &[u8]) {
+        if self.watch.ask_for_name(app, name) {
             self.wake_all();
         }
-        published
     }
 
-    /// Somebody waits for a place. A link that is to give its own up is woken.
+    /// Asks a link to give its place to a connection that waits, and wakes the workers if one does.
     pub fn ask_for_place(&self) -> Way {
         let asked = self
             .watch
@@ -165,7 +167,7 @@ impl Post {
         asked
     }
 
-    /// Whether somebody publishes what the link of that token plays, or may do so.
+    /// Returns whether the stream that the link of that token plays has a publisher, or may have one.
     pub fn is_played_live(&self, token: usize) -> bool {
         let Some(seat) = self.seat(token) else {
             return true;
@@ -178,7 +180,7 @@ impl Post {
         }
     }
 
-    /// Whether the address of a peer may have one link more: that one has then the seat of the token.
+    /// Returns whether the address of a peer may have one link more: that one has then the seat of the token.
     pub fn admits(&self, token: usize, address: SocketAddr) -> bool {
         match self.seat(token) {
             Some(seat) => self.watch.admit(self.alloc, seat, address, self.now()),
@@ -186,52 +188,52 @@ impl Post {
         }
     }
 
-    /// The seat of a link that wasn't given is free again.
+    /// Frees the seat of a link that wasn't given.
     pub fn dismiss(&self, token: usize) {
         if let Some(seat) = self.seat(token) {
             seat.leave();
         }
     }
 
-    /// The worker is to go on before it waits again.
+    /// Makes the worker go on before it waits again.
     pub fn hurry(&self) {
         self.board.hurry(self.worker);
     }
 
-    /// The log has this line of that kind, where it has room for one more.
+    /// Logs a line of that kind, if the log has room for one more.
     pub fn warn_of(&self, kind: Kind, address: SocketAddr, what: &str) {
         if self.watch.throttle.admits(kind, self.now()) {
             log!(self.watch.log; kind.level(), "{address} {kind}: {what}");
         }
     }
 
-    /// The log tells of lines of one kind that were left out.
+    /// Logs the number of lines of one kind that were left out.
     pub fn tell_left_out(&self) {
         if let Some((kind, more)) = self.watch.throttle.left_out(self.now()) {
             log!(self.watch.log; kind.level(), "relay: and {more} more: {kind}");
         }
     }
 
-    /// A link is gone, and its peer is seen off.
+    /// Records that a link is gone and its peer is seen off.
     pub fn begin_farewell(&self) {
         self.board.add_farewell(self.worker);
         self.remove_link();
     }
 
-    /// That is over.
+    /// Records that a farewell is over.
     pub fn end_farewell(&self) {
         self.board.remove_farewell(self.worker);
         self.board.wake_others(self.worker);
         self.cells.add(DOOR, READABLE);
     }
 
-    /// A link was given.
+    /// Counts a link that was given.
     pub fn add_link(&self) {
         self.board.add_link(self.worker);
     }
 
-    /// A link is gone. Its descriptor is free again, so that the door is to be asked, and what its session left may be of
-    /// interest to others.
+    /// Records that a link is gone. Its descriptor is free again, so the door must be asked. The other
+    /// workers are woken, since the end of its session may give them something to do.
     pub fn remove_link(&self) {
         self.board.remove_link(self.worker);
         self.watch.thin();
@@ -239,7 +241,7 @@ impl Post {
         self.cells.add(DOOR, READABLE);
     }
 
-    /// The worker takes links, and looks at its door.
+    /// Records that the worker takes links, and looks at its door.
     pub fn look(&self) {
         if !self.knocked.load(Ordering::SeqCst) {
             self.knocked.store(true, Ordering::SeqCst);
@@ -247,14 +249,15 @@ impl Post {
         self.board.look(self.worker);
     }
 
-    /// The door is to be asked, and to leave anew what it leaves.
+    /// Has the door asked, and has it decide anew which connections it leaves to others.
     pub fn ask_door(&self) {
         self.cells.add(DOOR, READABLE);
         self.cells.remove(DOOR, LEFT);
     }
 
-    /// The worker takes no more links, since so many were given, or the server stops, and all are gone. Until then its recorders may
-    /// have something to write. The others hear of it.
+    /// Returns whether the worker is done: all links are gone, and enough were given or the server stops.
+    /// Until then its recorders may have something to write. A worker that is done takes no more links and
+    /// wakes the others.
     pub fn is_done(&self, accept: u32) -> bool {
         let stopped = self.watch.is_stopped() && self.board.is_empty();
         if !stopped && !self.board.is_over(accept) {
@@ -265,17 +268,17 @@ impl Post {
         true
     }
 
-    /// Whether all doors have closed, so that nobody is served any more.
+    /// Returns whether all doors have closed, so that no client is served any more.
     pub fn is_deserted(&self) -> bool {
         self.board.is_deserted()
     }
 
-    /// Whether one more link may be given. It is then claimed.
+    /// Claims a link, if one more may be given. Returns whether it may.
     pub fn claim(&self, accept: u32) -> bool {
         self.board.claim(accept)
     }
 
-    /// One that was claimed isn't given.
+    /// Takes back the claim of a link that isn't given.
     pub fn unclaim(&self) {
         self.board.unclaim();
     }
@@ -284,19 +287,20 @@ impl Post {
         self.heir.load(Ordering::SeqCst) as usize
     }
 
-    // Whether the door has left something to a worker that has time to look, and hasn't yet.
+    // Returns whether the door has left something to a worker that has time to look, and hasn't yet.
     fn is_awaited(&self) -> bool {
         self.grace.load(Ordering::SeqCst) > 0 && !self.board.has_looked(self.heir())
     }
 
-    // Whether the worker to which the door left something is to have what came: it looked, and nothing came since, or it is
-    // about to look.
+    // Returns whether a connection that came belongs to the worker to which the door left the last one. That
+    // worker has looked and nothing came since, or it is about to look.
     fn is_left(&self) -> bool {
         let looked = self.cells.has(DOOR, LEFT) && self.board.has_looked(self.heir());
         (looked || self.is_awaited()) && self.board.is_lighter(self.worker, self.heir())
     }
 
-    /// Whether what came to the door is left to a worker that has clearly fewer links. That one is woken once for it.
+    /// Returns whether a connection that came to the door is left to a worker that has clearly fewer links,
+    /// which is woken once for it.
     pub fn leaves(&self) -> bool {
         if self.is_left() {
             self.cells.add(DOOR, LEFT);
@@ -316,12 +320,12 @@ impl Post {
         }
     }
 
-    /// Whether what came to the door waits for a worker that is about to look.
+    /// Returns whether a connection that came to the door waits for a worker that is about to look.
     pub fn is_leaving(&self) -> bool {
         self.cells.has(DOOR, LEFT) && self.is_awaited()
     }
 
-    /// The worker made a pause, or moved as much as in one.
+    /// Shortens the grace, after a pause or as many turns as count for one.
     pub fn age(&self) {
         let grace = self.grace.load(Ordering::SeqCst);
         if grace > 0 {
@@ -329,28 +333,28 @@ impl Post {
         }
     }
 
-    /// Something was pushed to this stream. Those who play it are woken when that is told.
+    /// Counts a push to this stream. The workers that play it are woken by the next [`Post::tell`].
     pub fn push(&self, stream: u32) {
         let players = self.board.hints.push(stream);
         self.listeners.fetch_or(players, Ordering::SeqCst);
     }
 
-    /// How often something was pushed to this stream, which the worker plays.
+    /// Returns the number of pushes to this stream, which the worker plays.
     pub fn pushes(&self, stream: u32) -> u64 {
         self.board.hints.pushes(stream, self.worker)
     }
 
-    /// The worker plays this stream.
+    /// Records that the worker plays this stream.
     pub fn play(&self, stream: u32) {
         self.board.hints.play(stream, self.worker);
     }
 
-    /// The worker plays no stream, until it says so again.
+    /// Records that the worker plays no stream, until its next call of `play`.
     pub fn forget_plays(&self) {
         self.board.hints.forget(self.worker);
     }
 
-    /// Wakes the workers that play what was pushed here since they were woken last.
+    /// Wakes the workers that play a stream that was pushed to here since they were woken last.
     pub fn tell(&self) {
         if self.listeners.load(Ordering::SeqCst) != 0 {
             let listeners = self.listeners.swap(0, Ordering::SeqCst);
@@ -358,37 +362,37 @@ impl Post {
         }
     }
 
-    /// After a turn that moved something: wakes them where that may be the last of what received bytes brought.
+    /// Wakes them after a turn that moved something, if it may have completed the effects of received bytes.
     pub fn tell_done(&self, at_once: bool) {
         if self.cells.take_done(at_once) {
             self.tell();
         }
     }
 
-    /// Before a pause: wakes them for all that is left to be told.
+    /// Wakes them before a pause, for all pushes that are left.
     pub fn tell_all(&self) {
         self.cells.take_begun();
         self.tell();
     }
 
-    /// The worker is about to wait. Whether it is to look at once, since something came.
+    /// Begins the worker's wait. Returns whether it must look at once, since something came.
     pub fn begin_wait(&self) -> bool {
         self.board.begin_wait(self.worker)
     }
 
-    /// The worker is gone.
+    /// Records that the worker is gone.
     pub fn retire(&self) {
         self.tell_all();
         self.board.fill(self.worker, true);
         let _ = self.board.begin_wait(self.worker);
     }
 
-    /// The worker waits no more. Whether another woke it.
+    /// Ends the worker's wait. Returns whether another worker woke it.
     pub fn end_wait(&self) -> bool {
         self.board.end_wait(self.worker)
     }
 
-    /// A number that stays the same as long as all other workers wait, where they do.
+    /// Returns a number that stays the same while all other workers wait, or `None` if another is awake.
     pub fn stillness(&self) -> Option<u64> {
         self.board.stillness()
     }

@@ -4,7 +4,7 @@ use crate::shown::Written;
 use std::fmt;
 use std::fmt::{Display, Formatter};
 
-// Writes what is written to it with `?` in place of each quotation mark.
+// Writes text with `?` in place of each quotation mark.
 #[derive(Drop)]
 struct Unquoted<'a, W> {
     f: &'a mut Formatter<W>,

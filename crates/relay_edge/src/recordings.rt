@@ -1,4 +1,4 @@
-//! What the recordings of a server are, for those who ask how it is.
+//! The recordings of a server, as `relay stats` shows them.
 
 use crate::seats::held;
 use crate::shown::Named;
@@ -11,7 +11,7 @@ use std::sync::atomic::{AtomicBool, AtomicU64, Ordering};
 use std::sync::{Arc, Mutex, OnceLock};
 use std::{fmt, io};
 
-/// A recording: what was written to its file, and of what.
+/// A recording, with the counts of its bytes, broadcasts and skipped messages.
 #[derive(Drop)]
 pub struct Recording {
     name: Vec<u8>,
@@ -22,8 +22,8 @@ pub struct Recording {
     fault: OnceLock<String>,
 }
 
-/// What there is of a recording at some moment. `fault` is why its first write failed, in the system's words, if one
-/// has.
+/// The counts of a recording at some moment. `fault` is the error of its first write that failed, in the
+/// system's words, if one has.
 #[derive(Drop)]
 pub struct Recorded {
     pub name: Vec<u8>,
@@ -35,22 +35,22 @@ pub struct Recorded {
 }
 
 impl Recording {
-    /// Its file took so many bytes.
+    /// Records that its file took `count` bytes.
     pub fn write(&self, count: usize) {
         self.bytes.fetch_add(count as u64, Ordering::SeqCst);
     }
 
-    /// A broadcast begins.
+    /// Counts a broadcast that begins.
     pub fn begin(&self) {
         self.broadcasts.fetch_add(1, Ordering::SeqCst);
     }
 
-    /// So many messages aren't recorded.
+    /// Records that `items` messages aren't recorded.
     pub fn skip(&self, items: u64) {
         self.skipped.fetch_add(items, Ordering::SeqCst);
     }
 
-    /// A write failed.
+    /// Keeps the error of the first write that failed.
     pub fn fail(&self, alloc: Global, error: &io::Error) {
         if !self.failed.swap(true, Ordering::SeqCst) {
             if let Ok(words) = format!(in alloc; "{error}") {
@@ -91,7 +91,7 @@ impl Recordings {
         }
     }
 
-    /// One more, to the file of that name.
+    /// Adds a recording to the file of that name.
     pub fn add(&self, alloc: Global, name: &[u8]) -> Result<Arc<Recording, Global>, AllocError> {
         let recording = Recording {
             name: name.to_vec(alloc)?,
@@ -111,7 +111,7 @@ impl Recordings {
         }
     }
 
-    /// What there is of all.
+    /// Returns the counts of all recordings.
     pub fn see(&self, alloc: Global) -> Result<Vec<Recorded>, AllocError> {
         let mut seen = Vec::new(alloc);
         if let Some(list) = held(&self.list) {
@@ -125,7 +125,7 @@ impl Recordings {
     }
 }
 
-// So many messages aren't recorded.
+// Messages that aren't recorded.
 #[derive(Clone, Copy)]
 struct Passed {
     items: u64,
@@ -150,7 +150,7 @@ pub struct Entry {
 }
 
 impl Entry {
-    /// That of one more recording, to the file of that name.
+    /// Adds a recording to the file of that name, and returns its entry.
     pub fn new(alloc: Global, watch: Arc<Watch, Global>, name: &[u8]) -> Result<Entry, AllocError> {
         let recording = watch.recordings().add(alloc, name)?;
         Ok(Entry {
@@ -160,18 +160,18 @@ impl Entry {
         })
     }
 
-    /// Its file took so many bytes.
+    /// Records that its file took `count` bytes.
     pub fn write(&self, count: usize) {
         self.recording.write(count);
     }
 
-    /// A write failed for the first time, which is said.
+    /// Reports and keeps the error of the first write that failed.
     pub fn fail(&self, name: &[u8], error: &io::Error) {
         self.recording.fail(self.alloc, error);
         self.watch.say_of(name, error);
     }
 
-    /// It is told what is written, and a skip is logged.
+    /// Takes news of the recording, and logs a skip.
     pub fn tell(&self, name: &[u8], news: SinkNews) {
         match news {
             SinkNews::Begins => self.recording.begin(),

@@ -21,42 +21,44 @@ pub const WAKER: usize = usize::MAX;
 /// The longest wait, in milliseconds. A link is looked into after a wait if it wasn't for as long.
 const LONGEST: u64 = STALE;
 
-/// After so many milliseconds the streams that a worker plays are learned anew.
+/// The time after which the streams that a worker plays are learned anew, in milliseconds.
 const LEARN_PLAYS: u64 = 1000;
 
-/// The first waits, in milliseconds, where another worker was awake, so that a call may have found a stream busy.
+/// The first waits, in milliseconds, if another worker was awake, so that a call may have found a stream
+/// busy.
 const FIRST: [u64; 4] = [0, 1, 4, 16];
 
-/// Those after them, as long as that may be.
+/// The waits after them, in milliseconds, while a call may find a stream busy.
 const NEXT: u64 = 32;
 
-/// After so many milliseconds it is looked again whether a connection finds no place.
+/// The time between two checks whether a connection finds no place, in milliseconds.
 const CROWDED: u64 = 100;
 
-/// As many are turned away at a time.
+/// The most players that are turned away at a time.
 const AT_ONCE: usize = 64;
 
-/// The longest wait once the server stops.
+/// The longest wait in milliseconds, once the server stops.
 const STOPPING: u64 = 20;
 
-/// The longest wait where the door has left a connection to a worker that hasn't looked yet.
+/// The longest wait in milliseconds, if the door has left a connection to a worker that hasn't looked yet.
 const LEAVING: u64 = 4;
 
-/// After so many pauses in which links kept bytes that could be sent the worker waits all the same, but not for long.
+/// The number of pauses in a row with sendable bytes kept, after which the worker waits all the same, but not
+/// for long.
 const HURRIES: usize = 64;
 
-/// After so many turns that moved something the poll is asked without waiting.
+/// The number of turns that moved something after which the poll is asked without waiting.
 const LOOK: u32 = 32;
 
-/// After so many the door is asked again, also where the poll says nothing of it.
+/// The number of such turns after which the door is asked again, even if the poll doesn't report it.
 const LOOK_AT_DOOR: u32 = 8192;
 
-/// After so many the worker has asked its door for a link, where it has a place for one.
+/// The number of such turns within which the worker has asked its door for a link, if it has a place for one.
 const LOOK_AT_PLACES: u32 = 256;
 
-/// Waits until there is something to do for a worker: at its sockets, or since another worker pushed to a stream that it plays. That of one worker
-/// answers those who ask how the server is, too. A worker whose rest is gone waits for ever and has no place for a link, as the others
-/// see it.
+/// Waits until there is something to do for a worker: at its sockets, or since another worker pushed to a
+/// stream that it plays. The rest of one worker also answers at the control socket. To the others, a worker
+/// whose rest is gone waits for ever and has no place for a link.
 pub struct RealRest {
     poll: Poll,
     events: Events,
@@ -76,7 +78,7 @@ pub struct RealRest {
     learned: u64,
     runs: bool,
     control: Option<Control>,
-    // Where those are turned away for whom no place is left, over HTTP.
+    // The turnstile, which turns away HTTP players that find no place.
     turnstile: Option<Turnstile>,
 }
 
@@ -107,7 +109,7 @@ impl Drop for RealRest {
     }
 }
 
-// Marks what an event reports.
+// Marks the states that an event reports.
 fn mark(cells: &Cells, event: &Event) {
     let Token(token) = event.token();
     let mut bits = 0;
@@ -126,7 +128,7 @@ fn mark(cells: &Cells, event: &Event) {
     cells.add(token, bits);
 }
 
-// Tells the log that a connection waits, once until a link is gone.
+// Logs that a connection waits, once until a link is gone.
 fn tell_crowd(post: &Post) {
     if post.watch.crowd() {
         warn!(post.watch.log;
@@ -136,7 +138,7 @@ fn tell_crowd(post: &Post) {
     }
 }
 
-// Answers all who wait that no place is left.
+// Answers all HTTP players that wait that no place is left.
 fn turn_away(post: &Post, turnstile: &mut Turnstile) {
     for _ in 0..AT_ONCE {
         let Some(address) = turnstile.turn_away(post.now()) else {
@@ -152,7 +154,7 @@ fn turn_away(post: &Post, turnstile: &mut Turnstile) {
 }
 
 impl RealRest {
-    /// The rest of a worker whose waker is registered.
+    /// Creates the rest of a worker whose waker is registered.
     pub(crate) fn new(
         poll: Poll,
         events: Events,
@@ -177,7 +179,7 @@ impl RealRest {
         }
     }
 
-    // The first worker of a server that runs says where that listens, and is to answer at its socket.
+    // Opens the control socket and reports the server's addresses, in the first worker that runs.
     fn open(&mut self) {
         let watch = &self.post.watch;
         watch.say_addresses(self.post.alloc);
@@ -190,11 +192,12 @@ impl RealRest {
         }
     }
 
-    // Waits at most so long, and marks what is ready. Whether anything is.
+    // Waits at most `milliseconds`, and marks the sockets that are ready. Returns whether any is.
     fn wait(&mut self, milliseconds: u64) -> bool {
         let most = Some(Duration::from_millis(milliseconds));
         if self.poll.poll(&mut self.events, most).is_err() {
-            // A signal ended it, maybe long ago: what came meanwhile is to be seen before the clock is.
+            // A signal ended the wait, maybe long ago. The events since then must be seen before the clock
+            // is.
             let now = Some(Duration::from_millis(0));
             let _ = self.poll.poll(&mut self.events, now);
         }
@@ -212,8 +215,9 @@ impl RealRest {
         ready
     }
 
-    // No worker at this address has a place for a connection. Where one waits, a link that neither publishes nor plays gives its place up;
-    // else a player over HTTP is told so, and of another the log tells.
+    // Makes room for a connection that waits, if no worker at this address has a place. A link that neither
+    // publishes nor plays gives up its place. If none does so now, an HTTP player is turned away. If none can
+    // at all, an RTMP connection that waits is logged.
     fn make_room(&mut self) {
         let post = &self.post;
         let now = post.now();
@@ -230,7 +234,7 @@ impl RealRest {
         }
     }
 
-    // Makes room where the worker has no place for a link, and goes on with those who were turned away.
+    // Makes room if the worker has no place for a link, and goes on with the players that were turned away.
     fn attend(&mut self) {
         if !self.post.take_knocked() {
             self.make_room();
@@ -244,7 +248,7 @@ impl RealRest {
         self.post.tell_left_out();
     }
 
-    // The worker runs. Tells the log where others don't.
+    // Marks the worker as running, and logs the workers that don't run.
     fn run(&mut self) {
         if !self.runs {
             self.runs = true;
@@ -261,7 +265,7 @@ impl RealRest {
         }
     }
 
-    // Answers those who ask how the server is, where one of them said something or may have waited for too long.
+    // Answers at the control socket, if a client has sent something or may have waited for too long.
     fn answer(&mut self, asked: bool) {
         let now = self.post.now();
         if let Some(control) = &mut self.control {
@@ -273,7 +277,7 @@ impl RealRest {
         }
     }
 
-    // Whether no other worker made a call since the worker last went on.
+    // Returns whether no other worker made a call since the worker last went on.
     fn is_still(&self) -> bool {
         match self.post.stillness() {
             None => false,
@@ -281,13 +285,14 @@ impl RealRest {
         }
     }
 
-    // Whether no call found a stream busy in the last round: each session was passed over, and there are no recorders and no edge.
+    // Returns whether no call found a stream busy in the last round: each session was skipped, and there are
+    // no recorders and no edge.
     fn is_calm(&self) -> bool {
         self.calm && self.recorded.is_empty() && self.post.has_door()
     }
 
-    // Forgets now and then which streams are played here. A round follows in which each player's is asked for, and is played again from
-    // then on.
+    // Forgets at times which streams are played here. The next round asks for the stream of each player,
+    // which is played again from then on.
     fn learn_plays(&mut self) {
         if self.post.now().saturating_sub(self.learned) < LEARN_PLAYS {
             return;
@@ -299,7 +304,7 @@ impl RealRest {
         }
     }
 
-    // How long the next wait may be, in milliseconds.
+    // Returns how long the worker may wait, in milliseconds, by its links and streams.
     fn patience(&self) -> u64 {
         let holding = self.post.cells.is_holding();
         if holding && self.pauses < HURRIES {
@@ -314,9 +319,15 @@ impl RealRest {
         }
     }
 
-    // The same where the door may have left a connection to a worker that hasn't looked yet.
+    // Returns the next wait in milliseconds, at most until kept bytes are due. It is short if the door has left a connection to a worker that
+    // hasn't looked yet, or if the server stops.
     fn next_wait(&self) -> u64 {
-        let most = self.patience();
+        let most = match self.post.cells.take_due() {
+            Some(due) => self
+                .patience()
+                .min(due.saturating_sub(self.post.now()).max(1)),
+            None => self.patience(),
+        };
         if self.post.is_leaving() {
             most.min(LEAVING)
         } else if self.post.watch.is_stopped() {

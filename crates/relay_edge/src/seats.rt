@@ -1,4 +1,4 @@
-//! What the links of a worker are and do, for those who ask how a server is.
+//! The state and the activity of a worker's links, as `relay stats` shows them.
 
 use crate::cells::LAST_TOKEN;
 use std::alloc::{AllocError, Global};
@@ -8,10 +8,10 @@ use std::net::{IpAddr, SocketAddr};
 use std::sync::atomic::{AtomicBool, AtomicU64, Ordering};
 use std::sync::{Mutex, MutexGuard};
 
-/// So often one looks whether another has let go, and lets others run.
+/// The most times that a thread checks whether another has let go of a lock, and lets others run.
 const LOOKS: u32 = 300;
 
-/// Lends what a lock keeps, where nobody has it for long.
+/// Lends the content of a lock, or returns `None` if another thread holds it for long.
 pub fn held<T>(lock: &Mutex<T>) -> Option<MutexGuard<'_, T>> {
     for _ in 0..LOOKS {
         if let Some(guard) = lock.try_lock() {
@@ -25,8 +25,8 @@ pub fn held<T>(lock: &Mutex<T>) -> Option<MutexGuard<'_, T>> {
 /// A time that is later than any.
 const EVEN: u64 = u64::MAX;
 
-/// What is done over a link.
-#[derive(Clone, Copy, PartialEq, Eq)]
+/// The activity of a link.
+#[derive(Clone, Copy)]
 pub enum Doing {
     Nothing,
     Connected,
@@ -36,7 +36,7 @@ pub enum Doing {
     Pulled,
 }
 
-/// What a link is told, with the address of its peer.
+/// The last news of a link, with the address of its peer.
 #[derive(Drop)]
 pub struct Told {
     pub address: Option<SocketAddr>,
@@ -71,23 +71,24 @@ pub struct Names {
 pub struct Seat {
     taken: AtomicBool,
     told: Mutex<Told>,
-    // It publishes, or what it pulls is live.
+    // It publishes, or the stream that it pulls is live.
     publishes: AtomicBool,
-    // It is to an origin. What it pulls has another name here.
+    // It is a link to an origin. The stream that it pulls has another name here.
     pulled: AtomicBool,
-    // It neither publishes nor plays, and since when what is done over it is as it is.
+    // It neither publishes nor plays, and since when its activity hasn't changed.
     idle: AtomicBool,
     changed: AtomicU64,
-    // Somebody else asks for its place, or for the name that it publishes.
+    // Another client asks for its place, or for the name that it publishes.
     asked: AtomicBool,
     begun: AtomicU64,
     received: AtomicU64,
     sent: AtomicU64,
-    // When it had been sent all that there was last, or `EVEN` where it has been sent all that there is.
+    // When it had last been sent all that there was, or `EVEN` if it has been sent all that there is.
     even: AtomicU64,
 }
 
-/// What a seat has at some moment. `even` is when the link had been sent all that there was last, or a later time where that is now.
+/// The state of a seat at some moment. `even` is when the link had last been sent all that there was, or a
+/// later time if it has been now.
 #[derive(Drop)]
 pub struct Sight {
     pub address: SocketAddr,
@@ -141,7 +142,7 @@ impl Seat {
         }
     }
 
-    /// A link comes.
+    /// Gives the seat to a new link.
     pub fn take(&self, alloc: Global, address: SocketAddr, now: u64) {
         if let Some(mut told) = held(&self.told) {
             *told = Told::nothing(alloc, Some(address));
@@ -154,7 +155,7 @@ impl Seat {
         self.taken.store(true, Ordering::SeqCst);
     }
 
-    /// It goes.
+    /// Frees the seat.
     pub fn leave(&self) {
         self.taken.store(false, Ordering::SeqCst);
     }
@@ -169,7 +170,7 @@ impl Seat {
         self.asked.store(false, Ordering::SeqCst);
     }
 
-    /// What is done over it changes.
+    /// Records a change of its activity.
     pub fn tell(&self, alloc: Global, doing: Doing, app: &[u8], name: &[u8], now: u64) {
         self.change(doing, now);
         if let Some(mut told) = held(&self.told) {
@@ -181,7 +182,7 @@ impl Seat {
         }
     }
 
-    /// Its link gave so many bytes. Whoever asks for the name that it publishes asks in vain.
+    /// Records that its link gave `count` bytes. A request for the name that it publishes is then dropped.
     pub fn receive(&self, count: usize) {
         self.received.fetch_add(count as u64, Ordering::SeqCst);
         if self.publishes.load(Ordering::SeqCst) && self.is_asked() {
@@ -189,33 +190,35 @@ impl Seat {
         }
     }
 
-    /// Whether somebody else asks for its place, or for the name that it publishes.
+    /// Returns whether another client asks for its place, or for the name that it publishes.
     pub fn is_asked(&self) -> bool {
         self.asked.load(Ordering::SeqCst)
     }
 
-    /// Somebody does.
+    /// Asks for its place, or for the name that it publishes.
     pub fn ask(&self) {
         self.asked.store(true, Ordering::SeqCst);
     }
 
-    /// Whether a link is there that publishes or plays.
+    /// Returns whether a link is there that publishes or plays.
     pub fn is_busy(&self) -> bool {
         self.taken.load(Ordering::SeqCst) && !self.idle.load(Ordering::SeqCst)
     }
 
-    /// Whether its link was told these names last. None where it is just being told.
+    /// Returns whether the last news of its link had these names. Returns `None` if another thread is just
+    /// changing them.
     pub fn has_names(&self, app: &[u8], name: &[u8]) -> Option<bool> {
         let told = held(&self.told)?;
         Some(told.app.as_slice() == app && told.name.as_slice() == name)
     }
 
-    /// What it pulls is live, or isn't any more.
+    /// Sets whether the stream that it pulls is live.
     pub fn air(&self, live: bool) {
         self.publishes.store(live, Ordering::SeqCst);
     }
 
-    /// Whether a link is there that publishes under that name. None where that isn't known: it is just being told, or of an origin.
+    /// Returns whether it has a link that publishes under that name. Returns `None` if that isn't known: the
+    /// name is just being changed, or the link is to an origin.
     pub fn publishes_as(&self, app: &[u8], name: &[u8]) -> Option<bool> {
         if !self.taken.load(Ordering::SeqCst) || !self.publishes.load(Ordering::SeqCst) {
             return Some(false);
@@ -226,7 +229,7 @@ impl Seat {
         self.has_names(app, name)
     }
 
-    /// Whether a link is there whose peer has that address.
+    /// Returns whether a link is there whose peer has that address.
     pub fn is_of(&self, address: IpAddr) -> bool {
         if !self.taken.load(Ordering::SeqCst) {
             return false;
@@ -237,7 +240,7 @@ impl Seat {
         }
     }
 
-    /// The names that its link was told.
+    /// Returns the names in the last news of its link, or `None` if another thread is just changing them.
     pub fn names(&self, alloc: Global) -> Result<Option<Names>, AllocError> {
         let Some(told) = held(&self.told) else {
             return Ok(None);
@@ -248,7 +251,7 @@ impl Seat {
         }))
     }
 
-    /// Since when a link is there that neither publishes nor plays.
+    /// Returns since when it has a link that neither publishes nor plays.
     pub fn idle_since(&self) -> Option<u64> {
         let idle = self.taken.load(Ordering::SeqCst) && self.idle.load(Ordering::SeqCst);
         idle.then_some(self.changed.load(Ordering::SeqCst))
@@ -258,21 +261,21 @@ impl Seat {
         self.sent.fetch_add(count as u64, Ordering::SeqCst);
     }
 
-    /// It has been sent all that there is, until something more comes.
+    /// Records that the link has been sent all that there is.
     pub fn level(&self) {
         if self.even.load(Ordering::SeqCst) != EVEN {
             self.even.store(EVEN, Ordering::SeqCst);
         }
     }
 
-    /// There is more to send from now on.
+    /// Records that there is more to send from now on.
     pub fn lag(&self, now: u64) {
         if self.even.load(Ordering::SeqCst) == EVEN {
             self.even.store(now, Ordering::SeqCst);
         }
     }
 
-    /// How long its link has been there, and its bytes.
+    /// Returns the duration of its link, and its bytes.
     pub fn tally(&self, now: u64) -> Tally {
         Tally {
             milliseconds: now.saturating_sub(self.begun.load(Ordering::SeqCst)),
@@ -281,7 +284,7 @@ impl Seat {
         }
     }
 
-    // What it has, where a link is there.
+    // Returns its state, if it has a link.
     fn sight(&self, alloc: Global) -> Result<Option<Sight>, AllocError> {
         if !self.taken.load(Ordering::SeqCst) {
             return Ok(None);
@@ -331,7 +334,7 @@ impl Seats {
         self.list.as_slice()
     }
 
-    /// The seat of the link that neither publishes nor plays for longest, and since when.
+    /// Returns the seat of the link that neither publishes nor plays for the longest time, and since when.
     pub fn idlest(&self) -> Option<(u64, &Seat)> {
         let mut idlest: Option<(u64, &Seat)> = None;
         for seat in self.list.as_slice() {
@@ -344,7 +347,7 @@ impl Seats {
         idlest
     }
 
-    /// Adds what all seats have that are taken.
+    /// Adds the states of all seats that are taken.
     pub fn see(&self, alloc: Global, sights: &mut Vec<Sight>) -> Result<(), AllocError> {
         for seat in self.list.as_slice() {
             if let Some(sight) = seat.sight(alloc)? {

@@ -13,22 +13,24 @@ use std::io;
 use std::io::Eprint;
 use std::marker::Model;
 
-/// What stands behind the name of a file until it is whole.
+/// The suffix of a file's name until the file is whole.
 const UNFINISHED: &[u8; 5] = b".part";
 
-// The name that a file has until it is whole.
+// Returns the name that a file has until it is whole.
 fn unfinished(alloc: Global, name: &[u8]) -> io::Result<Vec<u8>> {
     let mut part = name.to_vec(alloc)?;
     part.extend_from_slice(UNFINISHED)?;
     Ok(part)
 }
 
-/// A house of files alone. A file is written under its name with `.part` behind it, and has its name once it is kept without
-/// faults: so under a name stands the whole file or what stood there before. One with faults is removed, and one that isn't
-/// kept by [`SegmentHouse::clear`]. It says on standard error why a file couldn't be had or kept.
+/// A house of files alone. A file is written under its name with `.part` behind it, and gets its name once it
+/// is kept without faults. The name therefore always has the whole file or its former content. A file with
+/// faults is removed, and a file that isn't kept is removed by [`SegmentHouse::clear`]. The house reports on
+/// standard error why a file couldn't be had or kept.
 ///
-/// A name that is a directory can't be had. Where a whole file can't be given its name for another cause, keeping it is refused,
-/// and [`SegmentHouse::is_short`] tells of it: a house has no other way to say so.
+/// A name that is a directory can't be had. If a whole file can't be given its name for another cause,
+/// keeping it is refused. Then [`SegmentHouse::is_short`] is true, since a house has no other way to report
+/// it.
 #[derive(Drop)]
 pub struct SegmentHouse<'a, R> {
     rt: &'a R,
@@ -50,7 +52,7 @@ impl<'a, R> Model for SegmentHouse<'a, R> {
 }
 
 impl<'a, R: Files<File = File> + Eprint> SegmentHouse<'a, R> {
-    /// A house that has given nothing.
+    /// Creates a house that has given nothing.
     pub fn new(rt: &'a R, alloc: Global) -> SegmentHouse<'a, R>
         ensures { result ≡ record { faults = 0; spoiled = 0; kept = None; shut = None } }
     {
@@ -64,7 +66,7 @@ impl<'a, R: Files<File = File> + Eprint> SegmentHouse<'a, R> {
         }
     }
 
-    /// Whether a whole file couldn't be given its name.
+    /// Returns whether a whole file couldn't be given its name.
     pub fn is_short(&self) -> bool {
         self.short
     }
@@ -86,7 +88,7 @@ impl<'a, R: Files<File = File> + Eprint> SegmentHouse<'a, R> {
         Ok(RealFile::new(self.rt, None, name, file, Kind::Regular))
     }
 
-    // Gives a whole file its name, in place of what stood there, once the disk has its bytes.
+    // Gives a whole file its name, in place of any former file, once its bytes are on the disk.
     fn finish(&self, name: &[u8], file: RealFile<'a, R>) -> io::Result<()> {
         file.sync()?;
         drop(file);

@@ -6,15 +6,14 @@ use std::fmt::{Display, Formatter};
 use std::io::Eprint;
 use std::{fmt, str};
 
-/// How many bytes of what a peer wrote are shown at most.
+/// The most bytes of a peer's text that are shown.
 const MOST: usize = 64;
 
 /// How long a line waits for room on standard error at most, in milliseconds.
 const PATIENCE: i32 = 1000;
 
-/// A text in which `?` stands for each control character, those from U+0080 to U+009F too, for each format character
-/// and each
-/// separator of lines, so that it is on one line, in its own order, and commands no terminal.
+/// A text with `?` in place of each control character (also U+0080 to U+009F), each format character and each
+/// separator of lines. It therefore stays on one line, in its own order, and commands no terminal.
 #[derive(Clone, Copy)]
 pub struct Shown<'a> {
     pub text: &'a str,
@@ -29,15 +28,14 @@ impl Display for Shown<'_> {
     }
 }
 
-/// The first 64 bytes of what a peer wrote, so that no character is cut. `?` stands for what [`Shown`] has it for,
-/// and for each byte
-/// that isn't ASCII where it is no text.
+/// The first 64 bytes of a peer's text, with no character cut. `?` stands in place of the characters that
+/// [`Shown`] replaces. If the bytes aren't UTF-8, it also stands in place of each byte that isn't ASCII.
 #[derive(Clone, Copy)]
 pub struct Written<'a> {
     pub bytes: &'a [u8],
 }
 
-// The text of the first bytes, or of a few less where the last character is cut.
+// Returns the first bytes as text, or a few fewer if the last character is cut.
 fn text_of(bytes: &[u8]) -> Option<&str> {
     let most = bytes.len().min(MOST);
     for less in 0..4usize {
@@ -63,7 +61,7 @@ impl Display for Written<'_> {
     }
 }
 
-/// A line that says what something is of which a name tells.
+/// A line with a name and a message about it.
 #[derive(Drop)]
 pub struct Named<'a, D> {
     pub name: &'a [u8],
@@ -80,8 +78,8 @@ impl<D: Display> Display for Named<'_, D> {
     }
 }
 
-/// Says what something is of which a name tells, on one line of standard error, for a command that nobody waits
-/// for. Where there is no room for a second, it says nothing.
+/// Writes a message about a name on one line of standard error, for a command without a server. If there is
+/// no room for a second, it writes nothing.
 pub fn say<R: Eprint, D: Display>(rt: &R, name: &[u8], what: &D) {
     if is_ready(PATIENCE) {
         let _ = eprintln!(rt; "{}", Named { name, what });

@@ -1,6 +1,7 @@
-//! What a server is doing, as a table for people and as JSON for programs.
+//! The state of a server, as a table for people and as JSON for programs.
 
 use crate::json::{Quoted, QuotedText};
+use crate::missed::Missed;
 use crate::recordings::Recorded;
 use crate::seats::{Doing, Sight};
 use crate::shown::{Shown, Written};
@@ -10,7 +11,7 @@ use std::fmt::{Display, Formatter};
 use std::net::SocketAddr;
 use std::{fmt, str};
 
-/// What a server is doing at some moment.
+/// The state of a server at some moment.
 #[derive(Drop)]
 pub struct Stats {
     now: u64,
@@ -21,7 +22,7 @@ pub struct Stats {
     recordings: Vec<Recorded>,
 }
 
-// So many milliseconds, in seconds and tenths.
+// Milliseconds, shown in seconds and tenths.
 #[derive(Clone, Copy)]
 struct Seconds {
     milliseconds: u64,
@@ -62,17 +63,17 @@ fn word_of(doing: Doing) -> &'static str {
     }
 }
 
-// The protocol of a link, once it is known.
+// Returns the protocol of a link: HTTP once that is known, and RTMP before.
 fn protocol_of(sight: &Sight) -> &'static str {
     if sight.http { "http" } else { "rtmp" }
 }
 
-// The name of a recording's file.
+// Returns the name of a recording's file.
 fn file_of(recorded: &Recorded) -> &str {
     str::from_utf8(recorded.name.as_slice()).unwrap_or("?")
 }
 
-// How many players a name has, and who publishes it.
+// Returns the number of players of a name, and the address of its publisher.
 fn roles(sights: &[Sight], stream: &Broadcasts) -> (u64, Option<SocketAddr>) {
     let mut players = 0u64;
     let mut publisher = None;
@@ -88,7 +89,7 @@ fn roles(sights: &[Sight], stream: &Broadcasts) -> (u64, Option<SocketAddr>) {
     (players, publisher)
 }
 
-// A name of each stream that somebody plays and nobody has published yet.
+// Adds the name of each stream that has a player and hasn't been published yet.
 fn add_waiting(
     alloc: Global,
     sights: &[Sight],
@@ -97,12 +98,7 @@ fn add_waiting(
     for sight in sights {
         let (app, name) = (sight.app.as_slice(), sight.name.as_slice());
         if sight.doing == Doing::Plays && !list.iter().any(|one| one.are_of(app, name)) {
-            let stream = Broadcasts {
-                app: app.to_vec(alloc)?,
-                name: name.to_vec(alloc)?,
-                count: 0,
-                begun: 0,
-            };
+            let stream = Broadcasts::none(alloc, app, name, 0)?;
             if list.push(stream).is_err() {
                 return Err(AllocError);
             }
@@ -126,14 +122,14 @@ impl Stats {
         })
     }
 
-    // How long ago that was.
+    // Returns how long ago that was.
     fn since(&self, then: u64) -> Seconds {
         Seconds {
             milliseconds: self.now.saturating_sub(then),
         }
     }
 
-    // How far behind its stream a link is, where it plays.
+    // Returns how far a link is behind its stream, if it plays.
     fn behind(&self, sight: &Sight) -> Option<Seconds> {
         (sight.doing == Doing::Plays).then_some(self.since(sight.even))
     }
@@ -173,7 +169,14 @@ impl Stats {
             app: stream.app.as_slice(),
             name: stream.name.as_slice(),
         };
-        let line = format!(in alloc; "{publisher:<22} {players:>7} {count:>10}  {name}\n")?;
+        let Missed {
+            jumps,
+            skipped,
+            left_out,
+        } = stream.missed;
+        let line = format!(in alloc;
+            "{publisher:<22} {players:>7} {count:>10} {jumps:>7} {skipped:>8} {left_out:>8}  {name}\n"
+        )?;
         text.push_str(&line)
     }
 
@@ -219,7 +222,7 @@ impl Stats {
         Ok(())
     }
 
-    /// A line for each link, each stream and each recording.
+    /// Returns a table with a line for each link, each stream and each recording.
     pub fn table(&self, alloc: Global) -> Result<String, AllocError> {
         let mut text = format!(in alloc;
             "runs for {} s, {} links, lost {} lines of the log\n\n{:<22} {:<5} {:<12} {:>13} {:>13} {:>10} {:>8}  {}\n",
@@ -239,8 +242,8 @@ impl Stats {
             self.add_link(alloc, &mut text, sight)?;
         }
         let head = format!(in alloc;
-            "\n{:<22} {:>7} {:>10}  {}\n",
-            "PUBLISHER", "PLAYERS", "BROADCASTS", "STREAM"
+            "\n{:<22} {:>7} {:>10} {:>7} {:>8} {:>8}  {}\n",
+            "PUBLISHER", "PLAYERS", "BROADCASTS", "JUMPS", "SKIPPED", "LEFT OUT", "STREAM"
         )?;
         text.push_str(&head)?;
         for stream in self.broadcasts.as_slice() {
@@ -298,7 +301,16 @@ impl Stats {
         };
         let count = stream.count;
         let line = format!(in alloc;
-            "{{\"app\": {app}, \"name\": {name}, \"publisher\": {publisher}, \"players\": {players}, \"broadcasts\": {count}}}"
+            "{{\"app\": {app}, \"name\": {name}, \"publisher\": {publisher}, \"players\": {players}, \"broadcasts\": {count}, "
+        )?;
+        text.push_str(&line)?;
+        let Missed {
+            jumps,
+            skipped,
+            left_out,
+        } = stream.missed;
+        let line = format!(in alloc;
+            "\"jumps\": {jumps}, \"skipped\": {skipped}, \"left_out\": {left_out}}}"
         )?;
         text.push_str(&line)
     }
@@ -333,7 +345,7 @@ impl Stats {
         text.push_str(&line)
     }
 
-    /// An object with the links, the streams and the recordings.
+    /// Returns a JSON object with the links, the streams and the recordings.
     pub fn json(&self, alloc: Global) -> Result<String, AllocError> {
         let mut text = format!(in alloc;
             "{{\"seconds\": {}, \"lost_lines\": {}, \"links\": [",

@@ -1,4 +1,4 @@
-//! How many lines of one kind the log has.
+//! Limits the lines of one kind in the log.
 
 use crate::cause::Cause;
 use log::Level;
@@ -8,7 +8,7 @@ use std::fmt;
 use std::fmt::{Display, Formatter};
 use std::sync::atomic::{AtomicBool, AtomicU64, Ordering};
 
-/// As many lines of one kind are logged in a second.
+/// The most lines of one kind that are logged in a second.
 const MOST: u64 = 20;
 
 /// Each kind of line, by its number.
@@ -45,7 +45,7 @@ pub struct Kind {
     number: usize,
 }
 
-// The number of an end by a link that failed or closed.
+// Returns the number of the kind for the end of a link that failed or closed.
 fn number_of_cause(cause: Cause, closed: bool) -> usize {
     match cause {
         Cause::Peer if closed => 8,
@@ -76,10 +76,14 @@ fn number_of_end(ending: Ending, cause: Cause) -> usize {
 }
 
 impl Kind {
-    /// That of a line that tells this news of a link which ends for this cause, where it fails or closes.
+    /// Returns the kind of the line for this news of a link. The cause counts if the link failed or closed.
     pub fn of(news: News, cause: Cause) -> Kind {
         let number = match news {
-            News::Connected | News::HeldBack | News::Resumed => 0,
+            News::Connected
+            | News::HeldBack
+            | News::Resumed
+            | News::Skipped(_)
+            | News::LeftOut(_) => 0,
             News::Publishes => 1,
             News::Plays => 2,
             News::Left => 3,
@@ -92,7 +96,7 @@ impl Kind {
         Kind { number }
     }
 
-    /// That of a connection that was turned away.
+    /// Returns the kind of the line for a connection that was turned away.
     pub fn turned_away() -> Kind {
         Kind {
             number: TURNED_AWAY,
@@ -123,7 +127,7 @@ pub struct Grouped {
     pub number: u64,
 }
 
-// The last three digits, behind a comma.
+// Writes the last three digits, behind a comma.
 fn write_three<W: fmt::Write>(f: &mut Formatter<W>, number: u64) -> fmt::Result {
     let (hundreds, tens, ones) = (number / 100 % 10, number / 10 % 10, number % 10);
     write!(f, ",{hundreds}{tens}{ones}")
@@ -151,7 +155,7 @@ struct Tally {
     // Which second, by the clock, from 1 on.
     second: AtomicU64,
     count: AtomicU64,
-    // Those that were left out and not told.
+    // The lines that were left out and aren't reported yet.
     more: AtomicU64,
 }
 
@@ -165,7 +169,7 @@ impl Tally {
     }
 }
 
-// Which second that is.
+// Returns the second of a time in milliseconds, from 1 on.
 fn second(now: u64) -> u64 {
     (now / 1000).saturating_add(1)
 }
@@ -174,12 +178,12 @@ fn second(now: u64) -> u64 {
 #[derive(Drop)]
 pub struct Throttle {
     tallies: Vec<Tally>,
-    // Some were left out and not told.
+    // Lines were left out and aren't reported yet.
     due: AtomicBool,
 }
 
 impl Throttle {
-    /// No line was logged.
+    /// Creates the counts, before any line.
     pub fn new(alloc: Global) -> Result<Throttle, AllocError> {
         let mut tallies = Vec::new(alloc);
         for _ in 0..KINDS.len() {
@@ -193,7 +197,7 @@ impl Throttle {
         })
     }
 
-    /// Whether one more line of that kind is logged, which then counts. Else it is left out.
+    /// Returns whether one more line of that kind is logged, which then counts. Otherwise it is left out.
     pub fn admits(&self, kind: Kind, now: u64) -> bool {
         let Some(tally) = self.tallies.get(kind.number) else {
             return true;
@@ -211,7 +215,8 @@ impl Throttle {
         false
     }
 
-    /// A kind of which lines were left out in a second that is over, and how many. They are told then.
+    /// Returns a kind with lines left out in a second that is over, and their number, which then counts as
+    /// reported.
     pub fn left_out(&self, now: u64) -> Option<(Kind, Grouped)> {
         if !self.due.load(Ordering::SeqCst) {
             return None;

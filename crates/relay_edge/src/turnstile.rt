@@ -1,4 +1,4 @@
-//! Players over HTTP for which no place is left.
+//! HTTP players that find no place.
 
 use mio::net::{TcpListener, TcpStream};
 use std::alloc::Global;
@@ -6,20 +6,21 @@ use std::io;
 use std::io::{Read, Write};
 use std::net::{Shutdown, SocketAddr};
 
-/// What each is answered.
+/// The answer to each of them.
 const FULL: &[u8; 74] =
     b"HTTP/1.1 503 Service Unavailable\r\nContent-Length: 0\r\nConnection: close\r\n\r\n";
 
-/// As many are seen off at a time.
+/// The most players that are seen off at a time.
 const MOST: usize = 64;
 
-/// For so many milliseconds at most.
+/// The longest time to see off a player, in milliseconds.
 const PATIENCE: u64 = 3_000;
 
-/// As many pieces of what each sends are passed over at a time.
+/// The most pieces of a player's bytes that are read and dropped at a time.
 const PIECES: usize = 16;
 
-// One that was answered. It reads the answer, and what it sends is passed over: a connection that is closed with bytes unread is reset.
+// A player that was answered. It reads the answer, and its bytes are read and dropped: a connection that is
+// closed with bytes unread is reset.
 #[derive(Drop)]
 struct Leaving {
     stream: TcpStream,
@@ -27,7 +28,7 @@ struct Leaving {
 }
 
 impl Leaving {
-    // Whether it has closed too.
+    // Returns whether it has closed too.
     fn has_closed(&mut self) -> bool {
         let mut room = [0u8; 4096];
         for _ in 0..PIECES {
@@ -41,7 +42,7 @@ impl Leaving {
     }
 }
 
-/// Answers those who wait at a door that no place is left, and sees them off.
+/// Answers the players that wait at a door that no place is left, and sees them off.
 #[derive(Drop)]
 pub struct Turnstile {
     listener: TcpListener,
@@ -49,7 +50,7 @@ pub struct Turnstile {
 }
 
 impl Turnstile {
-    /// That of a door whose socket this is, too.
+    /// Creates the turnstile of a door, over a handle of its socket.
     pub fn new(alloc: Global, listener: TcpListener) -> Turnstile {
         Turnstile {
             listener,
@@ -57,7 +58,7 @@ impl Turnstile {
         }
     }
 
-    /// Turns away one who waits, if one does.
+    /// Turns away the next player, if one waits, and returns its address.
     pub fn turn_away(&mut self, now: u64) -> Option<SocketAddr> {
         let Ok((mut stream, address)) = self.listener.accept() else {
             return None;
@@ -71,7 +72,7 @@ impl Turnstile {
         Some(address)
     }
 
-    /// Goes on with those who were turned away.
+    /// Goes on with the players that were turned away.
     pub fn see_off(&mut self, now: u64) {
         self.leaving.retain_mut(|one| {
             !one.has_closed() && now.saturating_sub(one.since) < PATIENCE

@@ -1,9 +1,10 @@
-//! What a server tells of itself, and what it is told from outside.
+//! The state of a server that all its workers share: its log, its counts, and the command to stop.
 
 use crate::bounds::Bounds;
 use crate::clock::milliseconds;
 use crate::journal::Journal;
 use crate::listeners::Listeners;
+use crate::missed::Missed;
 use crate::recordings::Recordings;
 use crate::seats::{Seats, Sight, held};
 use crate::shown::Named;
@@ -17,22 +18,24 @@ use std::os::unix::net::UnixListener;
 use std::sync::atomic::{AtomicBool, AtomicU64, Ordering};
 use std::sync::{Arc, Mutex, OnceLock};
 
-/// As many workers as there may be: sixteen, one of HTTP, and an edge.
+/// The most workers: sixteen, one for HTTP, and an edge.
 pub const MOST_WORKERS: usize = 18;
 
 /// The number of the edge.
 pub const EDGE: u32 = 17;
 
-/// So many milliseconds after the first worker runs each of the others has a thread, if it can have one.
+/// The milliseconds after the first worker runs, by which each of the others has a thread if it can have one.
 const STARTING: u64 = 2000;
 
-/// Of so many names broadcasts are counted at most.
+/// The most names whose broadcasts are counted.
 const MOST_NAMES: usize = 1024;
 
-// What the system says where there is no descriptor or no memory for a socket: ENOMEM, ENFILE, EMFILE and ENOBUFS.
+// The errors of the system if there is no descriptor or no memory for a socket: ENOMEM, ENFILE, EMFILE and
+// ENOBUFS.
 const SHORTAGES: [i32; 4] = [12, 23, 24, 105];
 
-/// Whether the system has no room for a socket, so that it is to be asked again later.
+/// Returns whether the error is that the system has no room for a socket, so that the call is made again
+/// later.
 pub fn is_shortage(error: &io::Error) -> bool {
     match error.raw_os_error() {
         Some(number) => SHORTAGES.contains(&number),
@@ -45,18 +48,18 @@ pub fn is_shortage(error: &io::Error) -> bool {
 pub struct Watching {
     /// Which lines its log has.
     pub level: LevelFilter,
-    /// After how many seconds a link that gives nothing ends; 0 stands for never.
+    /// The seconds after which a link that gives nothing ends; 0 sets no limit.
     pub silence: u64,
     /// Whether each line of its log begins with the date and the time.
     pub times: bool,
-    /// What else bounds its links.
+    /// The other limits of its links.
     pub bounds: Bounds,
-    /// Where the Unix socket is by which it is asked how it is and told to stop, if it has one.
+    /// The path of its control socket, if it has one.
     pub control: Option<String>,
 }
 
 impl Watching {
-    /// It has no log and no socket, and a link may be silent for ever.
+    /// Returns settings without a log or a control socket, by which a link may be silent for ever.
     pub fn nothing() -> Watching {
         Watching {
             level: LevelFilter::Off,
@@ -68,18 +71,36 @@ impl Watching {
     }
 }
 
-/// How often somebody has begun to publish under a name.
+/// The number of broadcasts that have begun under a name, and the items that its players have missed.
 #[derive(Drop)]
 pub struct Broadcasts {
     pub app: Vec<u8>,
     pub name: Vec<u8>,
     pub count: u64,
-    /// When that was last, by the clock in milliseconds.
+    /// When the last of them began, by the clock in milliseconds. Before the first, it is when the name was
+    /// added.
     pub begun: u64,
+    pub missed: Missed,
 }
 
 impl Broadcasts {
-    /// Whether they are those of that name.
+    /// Returns the counts of a name that had no broadcast yet and whose players have missed nothing.
+    pub fn none(
+        alloc: Global,
+        app: &[u8],
+        name: &[u8],
+        now: u64,
+    ) -> Result<Broadcasts, AllocError> {
+        Ok(Broadcasts {
+            app: app.to_vec(alloc)?,
+            name: name.to_vec(alloc)?,
+            count: 0,
+            begun: now,
+            missed: Missed::nothing(),
+        })
+    }
+
+    /// Returns whether they are those of that name.
     pub fn are_of(&self, app: &[u8], name: &[u8]) -> bool {
         self.app.as_slice() == app && self.name.as_slice() == name
     }
@@ -90,15 +111,16 @@ impl Broadcasts {
             name: self.name.as_slice().to_vec(alloc)?,
             count: self.count,
             begun: self.begun,
+            missed: self.missed,
         })
     }
 }
 
-/// What all workers of a server share for those who watch it.
+/// The state that all workers of a server share, for its log, its statistics and its control socket.
 #[derive(Drop)]
 pub struct Watch {
     pub log: Logged<(), Journal>,
-    /// How many milliseconds a link may be silent; 0 stands for any number.
+    /// The milliseconds that a link may be silent; 0 sets no limit.
     pub silence: u64,
     pub bounds: Bounds,
     /// When the server began, by the clock.
@@ -107,32 +129,33 @@ pub struct Watch {
     broadcasts: Mutex<Vec<Broadcasts>>,
     // Links that publish.
     publishing: AtomicU64,
-    // Held by who counts the links of an address, and takes a seat for one more.
+    // Held while the links of an address are counted and a seat is taken for one more.
     pub admitting: Mutex<()>,
-    /// How many lines of one kind the log has.
+    /// Limits the lines of one kind in the log.
     pub throttle: Throttle,
     // When it was told to stop, by the clock, or 0.
     stopped: AtomicU64,
-    // Those who told it, and are to wait for its end.
+    // The clients that told it to stop, and wait for its end.
     waiting: Mutex<Vec<UnixStream>>,
     recordings: Recordings,
-    // Where it listens for connections, and for those who ask how it is.
+    // The sockets at which it listens for connections. `control` holds its control socket until a worker
+    // takes it.
     listeners: Listeners,
-    // It has said where.
+    // It has reported its addresses.
     told: AtomicBool,
     control: Mutex<Option<UnixListener>>,
-    // The log has told that all links are taken, and none is gone since.
+    // The log has a line that all links are taken, and none is gone since.
     crowded: AtomicBool,
-    // The log has told that the system has no descriptor or memory for a connection, and none came since.
+    // The log has a line that the system has no descriptor or memory for a connection, and none came since.
     short: AtomicBool,
-    // How many workers run, and since when, by the clock, or 0.
+    // The number of workers that run, and since when, by the clock, or 0.
     running: AtomicU64,
     ran: AtomicU64,
-    // Whether it was looked for workers that don't.
+    // Whether the workers that don't run were counted.
     counted: AtomicBool,
 }
 
-// One more of a list.
+// Adds an item to a list.
 fn add<T: Drop>(list: &mut Vec<T>, item: T) -> Result<(), AllocError> {
     match list.push(item) {
         Ok(()) => Ok(()),
@@ -171,52 +194,52 @@ impl Watch {
         Ok(Arc::new(alloc, watch)?)
     }
 
-    /// For how many milliseconds a publisher may give nothing; 0 stands for any number.
+    /// Returns how many milliseconds a publisher may give nothing; 0 sets no limit.
     pub fn publisher_silence(&self) -> u64 {
         self.bounds.publisher_silence.saturating_mul(1000)
     }
 
-    /// A worker begins.
+    /// Adds the seats of a worker.
     pub fn join(&self, worker: usize, seats: Arc<Seats, Global>) {
         if let Some(place) = self.seats.get(worker) {
             let _ = place.try_set(seats);
         }
     }
 
-    /// It runs.
+    /// Records that a worker runs.
     pub fn run(&self, now: u64) {
         if self.running.fetch_add(1, Ordering::SeqCst) == 0 {
             self.ran.store(now, Ordering::SeqCst);
         }
     }
 
-    /// Whether a worker has run.
+    /// Returns whether a worker has run.
     pub fn has_run(&self) -> bool {
         self.running.load(Ordering::SeqCst) > 0
     }
 
-    /// A line of standard error, whatever the level of the log is. Nobody waits for who reads it: where there
-    /// is no room it is lost and counted.
+    /// Writes a line on standard error, whatever the level of the log is. No thread waits for its reader: if
+    /// there is no room, the line is lost and counted.
     pub fn say<D: Display>(&self, line: &D) {
         self.log.sink().say(line);
     }
 
-    /// The same, of what something is of which a name tells.
+    /// Writes a line with a name and a message about it, likewise.
     pub fn say_of<D: Display>(&self, name: &[u8], what: &D) {
         self.say(&Named { name, what });
     }
 
-    /// What it records.
+    /// Returns its recordings.
     pub fn recordings(&self) -> &Recordings {
         &self.recordings
     }
 
-    /// Where it listens.
+    /// Returns its listening sockets.
     pub fn listeners(&self) -> &Listeners {
         &self.listeners
     }
 
-    /// Says where it listens, once.
+    /// Writes the addresses at which it listens, once.
     pub fn say_addresses(&self, alloc: Global) {
         if self.told.swap(true, Ordering::SeqCst) {
             return;
@@ -228,22 +251,22 @@ impl Watch {
         }
     }
 
-    /// It is asked how it is at this socket, by the first worker that takes it.
+    /// Sets the control socket, which the first worker that runs takes.
     pub fn set_control(&self, socket: UnixListener) {
         if let Some(mut place) = held(&self.control) {
             *place = Some(socket);
         }
     }
 
-    /// The socket at which it is asked how it is, once.
+    /// Returns the control socket, once.
     pub fn take_control(&self) -> Option<UnixListener> {
         let mut place = held(&self.control)?;
         let place = &mut *place;
         place.take()
     }
 
-    /// How many workers don't run, where that is to be told: once, some time after the first one does. The system gave them no
-    /// thread, so each runs when another has ended.
+    /// Returns the number of workers that don't run, once, some time after the first one does. The system
+    /// gave them no thread, so each of them runs when another has ended.
     pub fn waiting(&self, now: u64) -> Option<usize> {
         let ran = self.ran.load(Ordering::SeqCst);
         if ran == 0
@@ -262,7 +285,7 @@ impl Watch {
         Some(all.saturating_sub(running)).filter(|waiting| *waiting > 0)
     }
 
-    /// What is done over all links.
+    /// Returns the states of all links.
     pub fn see(&self, alloc: Global) -> Result<Vec<Sight>, AllocError> {
         let mut sights = Vec::new(alloc);
         for place in self.seats.as_slice() {
@@ -273,7 +296,7 @@ impl Watch {
         Ok(sights)
     }
 
-    /// Somebody begins to publish.
+    /// Counts a broadcast that begins.
     pub fn begin(&self, alloc: Global, app: &[u8], name: &[u8], now: u64) {
         self.publishing.fetch_add(1, Ordering::SeqCst);
         if let Some(mut list) = held(&self.broadcasts) {
@@ -285,26 +308,39 @@ impl Watch {
                     return;
                 }
             }
-            let _ = self.add_name(alloc, list, app, name, now);
+            if let Ok(mut first) = Broadcasts::none(alloc, app, name, now) {
+                first.count = 1;
+                let _ = self.add_name(list, first);
+            }
         }
     }
 
-    // The first broadcast of a name. Where there is no room for it, that is let go of which nobody publishes or plays, and of which a
-    // broadcast began longest ago.
-    fn add_name(
-        &self,
-        alloc: Global,
-        list: &mut Vec<Broadcasts>,
-        app: &[u8],
-        name: &[u8],
-        now: u64,
-    ) -> Result<(), AllocError> {
-        let first = Broadcasts {
-            app: app.to_vec(alloc)?,
-            name: name.to_vec(alloc)?,
-            count: 1,
-            begun: now,
+    /// Counts the items that a player of that name has missed. The name needs no broadcast: at an edge, the
+    /// origin's broadcasts may have another. Returns false if nothing was counted, because there was no
+    /// memory for the name or another thread holds the counts for long.
+    pub fn miss(&self, alloc: Global, app: &[u8], name: &[u8], missed: Missed, now: u64) -> bool {
+        let Some(mut list) = held(&self.broadcasts) else {
+            return false;
         };
+        let list = &mut *list;
+        for one in list.iter_mut() {
+            if one.are_of(app, name) {
+                one.missed = one.missed.and(missed);
+                return true;
+            }
+        }
+        match Broadcasts::none(alloc, app, name, now) {
+            Ok(mut first) => {
+                first.missed = missed;
+                self.add_name(list, first).is_ok()
+            }
+            Err(_) => false,
+        }
+    }
+
+    // Adds a name with its counts. If the list is full, the name replaces the unused one whose last broadcast
+    // began the longest time ago. A name is unused if no link publishes or plays it.
+    fn add_name(&self, list: &mut Vec<Broadcasts>, first: Broadcasts) -> Result<(), AllocError> {
         if list.len() < MOST_NAMES {
             return add(list, first);
         }
@@ -329,17 +365,17 @@ impl Watch {
         oldest.map(|(place, _)| place)
     }
 
-    /// And ends.
+    /// Records that a broadcast ends.
     pub fn end(&self) {
         self.publishing.fetch_sub(1, Ordering::SeqCst);
     }
 
-    /// Whether somebody publishes.
+    /// Returns whether any link publishes.
     pub fn is_published(&self) -> bool {
         self.publishing.load(Ordering::SeqCst) > 0
     }
 
-    /// The broadcasts of each name.
+    /// Returns the broadcasts of each name.
     pub fn broadcasts(&self, alloc: Global) -> Result<Vec<Broadcasts>, AllocError> {
         let mut copies = Vec::new(alloc);
         if let Some(list) = held(&self.broadcasts) {
@@ -350,7 +386,8 @@ impl Watch {
         Ok(copies)
     }
 
-    /// The server is to stop, and listens no more. Who told it is let go at its very end.
+    /// Tells the server to stop, so that it no longer listens. The client's connection is closed only at its
+    /// very end.
     pub fn stop(&self, who: UnixStream, now: u64) {
         if let Some(mut waiting) = held(&self.waiting) {
             let _ = add(&mut *waiting, who);
@@ -361,37 +398,37 @@ impl Watch {
         self.listeners.close();
     }
 
-    /// Whether it was told to stop.
+    /// Returns whether it was told to stop.
     pub fn is_stopped(&self) -> bool {
         self.stopped.load(Ordering::SeqCst) > 0
     }
 
-    /// For how many milliseconds it has been stopping.
+    /// Returns how many milliseconds it has been stopping.
     pub fn stopping(&self, now: u64) -> u64 {
         now.saturating_sub(self.stopped.load(Ordering::SeqCst))
     }
 
-    /// All links are taken, and one more waits. Whether that is new.
+    /// Records that all links are taken and a connection waits. Returns whether that is new.
     pub fn crowd(&self) -> bool {
         !self.crowded.swap(true, Ordering::SeqCst)
     }
 
-    /// A connection couldn't be accepted. The log is told where the system had no descriptor or no memory for
-    /// it, and that is new.
+    /// Handles the error of an accept. If the system had no descriptor or no memory for the connection, and
+    /// that is new, it is logged.
     pub fn lack(&self, error: &io::Error) {
         if is_shortage(error) && !self.short.swap(true, Ordering::SeqCst) {
             warn!(self.log; "relay: a connection waits, since the system refuses it: {error}");
         }
     }
 
-    /// One came.
+    /// Records that a connection was accepted, so the shortage is over.
     pub fn supply(&self) {
         if self.short.load(Ordering::SeqCst) {
             self.short.store(false, Ordering::SeqCst);
         }
     }
 
-    /// One is gone.
+    /// Records that a link is gone.
     pub fn thin(&self) {
         if self.crowded.load(Ordering::SeqCst) {
             self.crowded.store(false, Ordering::SeqCst);

@@ -13,17 +13,18 @@ use std::io::{ErrorKind, Read, Write};
 use std::net::Shutdown;
 use std::sync::Arc;
 
-/// One that was sent all, once its server stops or it was answered why it isn't served, has so many milliseconds to close too.
+/// How long a peer that was sent all has to close too, in milliseconds. Its server stops, or it was answered
+/// why it isn't served.
 pub const FAREWELL: u64 = 3_000;
 
-/// Where the system takes none of what is kept it is tried again after so many milliseconds.
+/// How often kept bytes are tried again if the system takes none of them, in milliseconds.
 const TRY: u64 = 1_000;
 
-/// As many pieces are passed over at a time then.
+/// The most pieces that are read and dropped at a time during a farewell.
 const LAST_PIECES: u32 = 16;
 
-/// What became of the bytes that were kept.
-#[derive(Clone, Copy, PartialEq, Eq)]
+/// The result of handing kept bytes to the system.
+#[derive(Clone, Copy)]
 pub(crate) enum Flushed {
     All,
     // Not all yet.
@@ -31,8 +32,8 @@ pub(crate) enum Flushed {
     Failed,
 }
 
-/// A socket with its cell, the bytes that it is to be sent and those that were received from it. What is kept when it is
-/// dropped is handed to the system once more.
+/// A socket with its cell, the bytes to send to it and the bytes received from it. When it is dropped, the
+/// kept bytes are handed to the system once more.
 pub(crate) struct Wire {
     stream: TcpStream,
     pub cell: Cell,
@@ -42,16 +43,19 @@ pub(crate) struct Wire {
     filled: bool,
     // It took a piece since the last recv.
     fresh: bool,
+    // How long kept bytes wait for more, in milliseconds, and since when the first of them is kept, by the clock.
+    gather: u64,
+    kept: u64,
     // It took nothing of the last piece.
     pub refused: bool,
     // Bytes that were taken couldn't be sent.
     pub broken: bool,
     // Why a call of the system failed.
     pub cause: Option<io::Error>,
-    // Since when the system takes none of what is kept, by the clock, or 0, and when it was tried last.
+    // Since when the system takes none of the kept bytes, by the clock, or 0, and when it was tried last.
     stuck: u64,
     tried: u64,
-    // When the peer was told that no more comes, by the clock, or 0.
+    // When the socket was shut down for writing, by the clock, or 0.
     pub shut: u64,
 }
 
@@ -64,6 +68,8 @@ impl Drop for Wire {
             inbox,
             filled: _,
             fresh: _,
+            gather: _,
+            kept: _,
             refused: _,
             broken: _,
             cause: _,
@@ -82,7 +88,7 @@ impl Drop for Wire {
 }
 
 impl Wire {
-    /// A socket over which nothing went.
+    /// Creates the state of a socket without any bytes so far.
     pub fn new(stream: TcpStream, post: Arc<Post, Global>, token: usize) -> Wire {
         let alloc = post.alloc;
         Wire {
@@ -92,6 +98,8 @@ impl Wire {
             inbox: Inbox::new(alloc),
             filled: false,
             fresh: false,
+            gather: 0,
+            kept: 0,
             refused: false,
             broken: false,
             cause: None,
@@ -101,7 +109,7 @@ impl Wire {
         }
     }
 
-    /// Hands what is kept to the system, by one call.
+    /// Hands the kept bytes to the system, by one call.
     pub fn flush(&mut self) -> Flushed {
         if self.outbox.is_empty() {
             return Flushed::All;
@@ -136,7 +144,7 @@ impl Wire {
         }
     }
 
-    // The system took so many of the bytes that are kept.
+    // Records that the system took `count` of the kept bytes.
     fn sent(&mut self, count: usize) {
         self.outbox.take(count);
         self.stuck = if self.outbox.is_empty() {
@@ -149,14 +157,15 @@ impl Wire {
         }
     }
 
-    /// Its link gave so many bytes.
+    /// Records that its link gave `count` bytes.
     pub fn received(&self, count: usize) {
         if let Some(seat) = self.cell.seat() {
             seat.receive(count);
         }
     }
 
-    /// The turn before this one had nothing to send, where it is so.
+    /// Records that the link has been sent all that there is, if the turn before was `quiet` and no bytes are
+    /// kept.
     pub fn level(&self, quiet: bool) {
         if quiet && self.outbox.is_empty() {
             if let Some(seat) = self.cell.seat() {
@@ -165,23 +174,45 @@ impl Wire {
         }
     }
 
-    /// There is more to send.
+    /// Records that there is more to send.
     pub fn lag(&self) {
         if let Some(seat) = self.cell.seat() {
             seat.lag(self.cell.post.now());
         }
     }
 
-    /// Whether a turn may receive or send something, or find that it is over.
+    /// Sets how long kept bytes wait for more, in milliseconds; 0 sends them at once.
+    pub fn gather(&mut self, milliseconds: u64) {
+        self.gather = milliseconds;
+    }
+
+    // Returns whether bytes are kept that don't wait for more, because they have waited.
+    fn is_due(&self) -> bool {
+        !self.outbox.is_empty() && self.cell.post.now().saturating_sub(self.kept) >= self.gather
+    }
+
+    // Has the worker wait no longer than the bytes that wait for more.
+    fn wait_for_more(&self) {
+        if !self.outbox.is_empty() && self.cell.has(WRITABLE) {
+            let due = self.kept.saturating_add(self.gather);
+            self.cell.post.cells.wait_until(due);
+        }
+    }
+
+    /// Returns whether a turn may receive or send something, or find that it is over.
     pub fn is_ready(&self) -> bool {
-        let more = self.refused || !self.outbox.is_empty();
-        let writable = more && self.cell.has(WRITABLE);
+        let due = self.is_due();
+        if !due {
+            self.wait_for_more();
+        }
+        let writable = (self.refused || due) && self.cell.has(WRITABLE);
         let readable = self.inbox.has_more() || self.cell.has(READABLE);
         writable || readable || self.broken || self.shut > 0
     }
 
-    /// Whether the system has taken none of what is kept for so many milliseconds, and takes none now. It is tried once a second: where
-    /// there is some room, the poll tells of it only once much of the socket's buffer is free, and what is taken late begins the time anew.
+    /// Returns whether the system has taken none of the kept bytes for `milliseconds`, and takes none now. It
+    /// is tried once a second, since the poll reports room only once much of the socket's buffer is free.
+    /// Bytes that are taken late begin the time anew.
     pub fn is_stuck(&mut self, milliseconds: u64) -> bool {
         let now = self.cell.post.now();
         if self.stuck == 0
@@ -197,7 +228,8 @@ impl Wire {
         self.stuck == before && now.saturating_sub(before) >= milliseconds
     }
 
-    /// Whether bytes came that the poll hasn't told of: a wait that a stop of the process ended tells of nothing.
+    /// Returns whether bytes came that the poll hasn't reported: a wait that ended by a stop of the process
+    /// reports nothing.
     pub fn has_bytes(&self) -> bool {
         let mut room = [0u8; 1];
         let came = self.stream.peek(&mut room).is_ok();
@@ -207,8 +239,9 @@ impl Wire {
         came
     }
 
-    /// Tells the peer that no more comes, and passes over what still comes of it: a connection that is closed with bytes unread is
-    /// reset, and the peer may lose the last that it was sent. Whether it has closed too, or had time to.
+    /// Shuts the socket down for writing, then reads and drops further bytes. A connection that is closed
+    /// with bytes unread is reset, and the peer may lose the last bytes sent to it. Returns whether the peer
+    /// has closed too, or had its time to.
     pub fn is_shut(&mut self) -> bool {
         let now = self.cell.post.now();
         if self.shut == 0 {
@@ -236,7 +269,7 @@ impl Wire {
         false
     }
 
-    /// Sends what is kept, and sees the peer off. Whether that is over.
+    /// Sends the kept bytes, and sees the peer off. Returns whether that is over.
     pub fn is_seen_off(&mut self) -> bool {
         let flushed = self.flush();
         self.tell_kept();
@@ -248,14 +281,20 @@ impl Wire {
         }
     }
 
-    /// Tells the cell whether the worker is to go on for what is kept.
+    /// Sets in the cell whether the worker must go on for the kept bytes.
     pub fn tell_kept(&mut self) {
-        let keeps = !self.outbox.is_empty() && self.cell.has(WRITABLE);
-        self.cell.keep(keeps);
+        let due = self.is_due();
+        if !due {
+            self.wait_for_more();
+        }
+        self.cell.keep(due && self.cell.has(WRITABLE));
     }
 
     /// Takes the whole piece or nothing of it.
     pub fn take(&mut self, piece: &[u8]) -> Flushed {
+        if self.outbox.is_empty() {
+            self.kept = self.cell.post.now();
+        }
         if !self.outbox.keep(piece) {
             match self.flush() {
                 Flushed::All => {}
@@ -275,9 +314,9 @@ impl Wire {
         Flushed::All
     }
 
-    /// Hands on what is kept, where the turn before this one had no more to send.
+    /// Hands on the kept bytes, if the turn before this one had no more to send and they don't wait for more.
     pub fn settle(&mut self) -> Flushed {
-        if self.fresh || !self.cell.has(WRITABLE) {
+        if self.fresh || !self.is_due() || !self.cell.has(WRITABLE) {
             self.fresh = false;
             return Flushed::Some;
         }
@@ -308,7 +347,7 @@ impl Wire {
         Ok(self.inbox.give(into))
     }
 
-    // Bytes came. A socket that filled no room has no more.
+    // Marks that nothing is left to read, if a read didn't fill its room.
     fn note(&self, filled: bool) {
         if !filled && !self.cell.has(CLOSING) {
             self.cell.remove(READABLE);

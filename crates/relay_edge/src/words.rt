@@ -1,4 +1,4 @@
-//! The words of the log for what is done over a link.
+//! The words of the log for the news of a link.
 
 use relay_outside::{Denied, Ending, News};
 use std::fmt;
@@ -12,7 +12,7 @@ pub struct Why(pub Denied);
 #[derive(Clone, Copy)]
 pub struct Cause(pub Ending);
 
-/// What is done over a link, in words.
+/// The news of a link, in words.
 #[derive(Clone, Copy)]
 pub struct Words(pub News);
 
@@ -54,6 +54,8 @@ impl Display for Words {
             News::Left => f.write_str("left"),
             News::HeldBack => f.write_str("has to acknowledge what it was sent:"),
             News::Resumed => f.write_str("has acknowledged what it was sent:"),
+            News::Skipped(items) => write!(f, "jumped over {items} items of"),
+            News::LeftOut(items) => write!(f, "was not sent {items} items of"),
             News::Denied(why) => write!(f, "refused: {}", Why(why)),
             News::Ended { ending, at: None } => write!(f, "ended: {}", Cause(ending)),
             News::Ended {

@@ -1,4 +1,4 @@
-//! Readers and writers as sources and sinks. They tell no bytes.
+//! Readers and writers as sources and sinks. Contracts see none of their bytes.
 ghost use Rattle.std.specs.Prelude.{◌≡◌, ◌↔◌, None};
 ghost use Rattle.relay_outside.specs.Get.{GetStep};
 ghost use Rattle.relay_outside.specs.Put.{PutStep};
@@ -41,12 +41,12 @@ impl<R: Read + Drop> Reading<R> {
         }
     }
 
-    /// What it reads from.
+    /// Returns the reader.
     pub fn inner(&self) -> &R {
         &self.inner
     }
 
-    /// The error of the last call that failed. `None` exactly where none has.
+    /// Returns the error of the last call that failed, or `None` exactly if none has.
     pub fn error(&self) -> Option<io::Error>
         ensures { (result ≡ None) ↔ (self.now ≡ 0) }
     {
@@ -105,7 +105,7 @@ impl<W: Write + Drop> Writing<W> {
         }
     }
 
-    /// The error of the last call that failed. `None` exactly where none has.
+    /// Returns the error of the last call that failed, or `None` exactly if none has.
     pub fn error(&self) -> Option<io::Error>
         ensures { (result ≡ None) ↔ (self.now ≡ 0) }
     {

@@ -1,4 +1,4 @@
-//! `relay check-config`: what a configuration allows, or the first test that it fails.
+//! `relay check-config`: prints a summary of a configuration, or the first test that it fails.
 
 use crate::adapters::ConfigFile;
 use crate::spot::{Spot, spot_at, spot_of};
@@ -37,7 +37,7 @@ fn read<R: Files<File = File>>(rt: &R, alloc: Global, name: &str) -> io::Result<
     Ok(bytes)
 }
 
-// What the key's value may be.
+// Returns the words for the values that the key may have.
 fn range(key: Key) -> &'static str {
     match key {
         Key::Relay => "a table",
@@ -71,7 +71,7 @@ struct Refused<'a> {
 }
 
 impl Refused<'_> {
-    // Says in words what is wrong there, or of the whole where no line of its own says it.
+    // Writes the fault in words with its spot, or for the whole file if no line of its own has it.
     fn tell<R: Eprint, D: Display>(&self, rt: &R, spot: Option<Spot>, what: &D) {
         let name = self.name;
         let _ = match spot {
@@ -80,7 +80,7 @@ impl Refused<'_> {
         };
     }
 
-    // Says where and why it is no TOML.
+    // Writes the place and the cause if the text isn't TOML.
     fn tell_toml<R: Eprint>(&self, rt: &R, alloc: Global) {
         let whole = "not TOML of at most 1048576 bytes in UTF-8";
         let error = match str::from_utf8(self.text) {
@@ -97,7 +97,7 @@ impl Refused<'_> {
     }
 }
 
-// What is wrong with a configuration.
+// The fault of a configuration.
 #[derive(Drop)]
 struct Wrong<'a> {
     fail: &'a ConfigFail,
@@ -154,7 +154,7 @@ fn show_grants(alloc: Global, grants: &Grants) -> Result<String, AllocError> {
     }
 }
 
-// A text of the configuration.
+// Returns a text of the configuration, as it is shown.
 fn shown(bytes: &[u8]) -> Shown<'_> {
     Shown {
         text: str::from_utf8(bytes).unwrap_or(""),
@@ -201,7 +201,7 @@ struct Sums {
     links: u64,
 }
 
-// How many names all open tables have.
+// Returns the number of names of all open tables.
 fn names_of(config: &Config) -> u32 {
     let mut names = 0u32;
     for rule in config.opens.as_slice() {
@@ -210,13 +210,13 @@ fn names_of(config: &Config) -> u32 {
     names
 }
 
-/// How many links all workers have, that of the HTTP players too.
+/// Returns the number of links of all workers, with that of HTTP players.
 pub fn all_links(config: &Config) -> u32 {
     let workers = config.workers.saturating_add(http_workers(config));
     workers.saturating_mul(config.links)
 }
 
-// What a configuration allows.
+// Returns the summary of a configuration.
 fn show(alloc: Global, config: &Config, sums: &Sums) -> Result<String, AllocError> {
     let listen = shown(config.listen.as_slice());
     let Config { workers, links, .. } = config;
@@ -276,7 +276,7 @@ fn refuse<R: Eprint>(
     status(BAD_INPUT)
 }
 
-/// Reads the configuration in the file of that name and prints what it allows, or the first test that it fails.
+/// Reads the configuration in the file of that name, and prints its summary or the first test that it fails.
 pub fn command<R: Eprint + Files<File = File>>(host: &HostRuntime, rt: &R, name: &str) -> Status {
     let alloc = host.alloc();
     let bytes = match read(rt, alloc, name) {
@@ -305,7 +305,7 @@ pub fn command<R: Eprint + Files<File = File>>(host: &HostRuntime, rt: &R, name:
     }
 }
 
-/// What the file of that name holds, where it is one that can be read anew.
+/// Returns the content of the file of that name, if it is a regular file, which can be read anew.
 pub fn read_anew<R: Files<File = File>>(rt: &R, alloc: Global, name: &str) -> Option<Vec<u8>> {
     let there = rt.metadata(name).ok()?;
     if !there.is_file() {
@@ -314,8 +314,8 @@ pub fn read_anew<R: Files<File = File>>(rt: &R, alloc: Global, name: &str) -> Op
     read(rt, alloc, name).ok()
 }
 
-/// Whether the configuration in the file of that name has no stream, so that its first place is an open table. What can't be read anew isn't
-/// looked at.
+/// Returns whether the configuration in the file of that name has no stream, so that its first place is an
+/// open table. Returns false for a file that can't be read anew.
 pub fn is_open<R: Files<File = File>>(rt: &R, alloc: Global, name: &str) -> bool {
     let Some(text) = read_anew(rt, alloc, name) else {
         return false;
@@ -326,7 +326,8 @@ pub fn is_open<R: Files<File = File>>(rt: &R, alloc: Global, name: &str) -> bool
     }
 }
 
-/// Says why the configuration in the file of that name is refused. It is read anew, where it is a file that can be.
+/// Writes the fault for which the configuration in the file of that name is refused. The file is read anew,
+/// if it can be.
 pub fn explain<R: Eprint + Files<File = File>>(rt: &R, alloc: Global, name: &str) {
     if let Some(bytes) = read_anew(rt, alloc, name) {
         if let Err(fail) = read_config(alloc, bytes.as_slice()) {

@@ -1,4 +1,4 @@
-//! `relay stop` and `relay stats`: what a server is asked at its socket.
+//! `relay stop` and `relay stats`: the questions to a server at its control socket.
 
 use crate::{BAD_WORDS, LINK_FAULT, WRITE_FAULT, is, status, tell_fault};
 use relay_base::Status;
@@ -7,7 +7,7 @@ use std::io::Write;
 use std::net::Net;
 use std::{io, str};
 
-/// An answer has at most so many pieces.
+/// The most pieces of an answer.
 const MOST_PIECES: u64 = 1_000_000;
 
 // Why a question wasn't answered.
@@ -16,8 +16,8 @@ enum Fault {
     Output(io::Error),
 }
 
-// What a server is asked.
-#[derive(Clone, Copy, PartialEq, Eq)]
+// A question to a server.
+#[derive(Clone, Copy)]
 enum Question {
     Stop,
     Stats,
@@ -34,7 +34,7 @@ impl Question {
     }
 }
 
-// What the words ask at which socket.
+// Returns the question that the words ask, and the path of the socket.
 fn make_question(words: &[Vec<u8>]) -> Option<(Question, &str)> {
     let [command, path, more @ ..] = words else {
         return None;
@@ -48,8 +48,8 @@ fn make_question(words: &[Vec<u8>]) -> Option<(Question, &str)> {
     Some((question, str::from_utf8(path.as_slice()).ok()?))
 }
 
-// Asks, and writes what is answered on standard output. A server that says that it stops may take any time until
-// it has, and then closes.
+// Asks, and writes the answer on standard output. A server that answers that it stops may take any time to
+// end, and then closes.
 fn ask<T: Net>(host: &HostRuntime, rt: &T, path: &str, question: Question) -> Result<(), Fault> {
     let mut asking = Asking::begin(rt, path, question.text()).map_err(Fault::Server)?;
     let mut out = io::writer(host);

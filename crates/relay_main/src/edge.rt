@@ -1,32 +1,26 @@
-//! `relay edge`: a server as `serve` makes it, the link to its origin, and what is said on standard error.
+//! `relay edge`: a server as `serve` makes it, the link to its origin, and the messages on standard error.
 
 use crate::adapters::{ConfigFile, Reading, Writing};
 use crate::check_config::is_open;
+use crate::clients::{addresses, unfit};
+use crate::request::{read_named, spelled};
 use crate::serve::{file_name, tell_end};
 use crate::starting::prepare;
 use crate::watching::{Unfit, tell_unfit, watching};
-use crate::{BAD_WORDS, HOUSE_FAULT, NO_MEMORY, status, tell_fault};
-use edge_serve::{Edged, edge, edge_target};
+use crate::{BAD_WORDS, HOUSE_FAULT, LINK_FAULT, NO_MEMORY, status, tell_fault};
+use edge_serve::{Edged, edge};
 use key_guard::Guards;
 use relay_base::Status;
 use relay_edge::{RealHouse, Shown};
-use relay_peer::peer_address;
 use std::fs::{File, Files};
 use std::io::Eprint;
 use std::net::Net;
 use std::sync::Wait;
 use std::thread::Threads;
-use std::{io, net, str};
+use std::{io, net};
 
-// A word as the words have it.
-fn shown(word: &[u8]) -> Shown<'_> {
-    Shown {
-        text: str::from_utf8(word).unwrap_or(""),
-    }
-}
-
-/// Serves by the configuration in the file that the words name, and publishes there what the origin has that they name. Says why where it
-/// didn't.
+/// Serves by the configuration in the file that the words name, and publishes there the stream that they name
+/// at the origin. Writes the cause if it couldn't.
 pub fn command<
     T: Threads
         + Wait
@@ -36,16 +30,24 @@ pub fn command<
         + Net<Listener = net::TcpListener, Stream = net::TcpStream>,
 >(host: &HostRuntime, rt: &T, words: &[Vec<u8>], guards: &Guards) -> Status {
     let alloc = host.alloc();
-    let Some(target) = edge_target(words) else {
+    let Some((command, more)) = words.split_at_checked(2) else {
         return status(BAD_WORDS);
     };
-    let Some(address) = peer_address(target.address) else {
-        let _ = eprintln!(host;
-            "relay: {}: an IP address and a port are wanted, as 127.0.0.1:1935",
-            shown(target.address)
-        );
+    let Some(named) = read_named(more) else {
         return status(BAD_WORDS);
     };
+    let addresses = match addresses(host, rt, named.address) {
+        Ok(addresses) => addresses,
+        Err(code) => return status(code),
+    };
+    let Some(address) = addresses.first().copied() else {
+        return status(LINK_FAULT);
+    };
+    let words = match spelled(host, rt, command, named) {
+        Ok(words) => words,
+        Err(error) => return status(unfit(host, error)),
+    };
+    let words = words.as_slice();
     let name = file_name(words.get(..2).unwrap_or(words));
     let watching = match watching(host) {
         Ok(watching) => watching,

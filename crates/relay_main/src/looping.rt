@@ -1,4 +1,4 @@
-//! `relay loop`: what is said on standard error.
+//! `relay loop`: its messages on standard error.
 
 use crate::adapters::{Reading, Writing};
 use crate::{BAD_INPUT, NO_MEMORY, READ_FAULT, UNFINISHED, WRITE_FAULT, tell_fault};

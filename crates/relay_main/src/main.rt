@@ -1,4 +1,8 @@
 //! The relay's program: the words of the command line, standard input and output, and the exit code.
+//!
+//! Read `main` and `answer` first, at the end of this file: they read the words and run the command. Most
+//! commands themselves are in other crates. This crate gives them files, sockets and standard streams, and
+//! writes their messages on standard error.
 #![tactic(auto)]
 
 ghost use Rattle.std.specs.Prelude.{◌≡◌};
@@ -9,11 +13,15 @@ mod check_config;
 mod clients;
 mod control;
 mod edge;
+mod hls;
 mod looping;
+mod meter;
+mod request;
 mod script;
 mod segments;
 mod serve;
 mod spot;
+mod standard;
 mod starting;
 mod texts;
 mod usage;
@@ -28,6 +36,7 @@ use relay_edge::{Shown, is_heard};
 use relay_outside::{Sink, Source};
 use relay_program::{Command, command_of, run};
 use script::Script;
+use standard::hold_closed;
 use std::fs::{File, Files};
 use std::io::{Eprint, Read};
 use std::net::Net;
@@ -44,31 +53,31 @@ const BAD_WORDS: u8 = 2;
 /// The exit code of a read of standard input that failed.
 const READ_FAULT: u8 = 3;
 
-/// The exit code of a line that is none of a script, and of a file that is refused.
+/// The exit code of an invalid line of a script, and of a refused file.
 const BAD_INPUT: u8 = 4;
 
 /// The exit code of a write to standard output that failed.
 const WRITE_FAULT: u8 = 5;
 
-/// The exit code of want of memory.
+/// The exit code of a command that ran out of memory.
 const NO_MEMORY: u8 = 6;
 
-/// The exit code of an address, a file or a poll that couldn't be had.
+/// The exit code of an address, a file or a poll that couldn't be opened.
 const HOUSE_FAULT: u8 = 7;
 
-/// The exit code of a file of which a unit was left out.
+/// The exit code of a file with a unit that was left out.
 const LEFT_OUT: u8 = 8;
 
-/// The exit code of a film of which more than 100,000 segments would be made.
+/// The exit code of an FLV file that would give more than 100,000 segments.
 const TOO_MANY: u8 = 9;
 
-/// The exit code of a film that doesn't come back.
+/// The exit code of an FLV file that doesn't come back from the relay.
 const UNFINISHED: u8 = 9;
 
 /// The exit code of a connection that failed, or couldn't be made.
 const LINK_FAULT: u8 = 11;
 
-// The words after the program's name. One that isn't UTF-8 is invalid data.
+// Returns the words after the program's name. Fails with `InvalidData` if one of them isn't UTF-8.
 fn words(rt: &HostRuntime) -> io::Result<Vec<Vec<u8>>> {
     let mut words = Vec::new(rt.alloc());
     for word in env::args(rt)?.skip(1) {
@@ -81,7 +90,7 @@ fn status(code: u8) -> Status {
     Status { code, place: 0 }
 }
 
-// Says on standard error why a stream failed. One whose reader has gone wants no words.
+// Writes on standard error why a stream failed, unless its reader has gone.
 fn tell_fault(rt: &HostRuntime, stream: &str, error: Option<io::Error>) {
     if let Some(error) = error {
         if error.kind() != io::ErrorKind::BrokenPipe {
@@ -101,7 +110,7 @@ fn tell(rt: &HostRuntime, text: &str) -> Status {
     }
 }
 
-// Says on standard error where the input of a command is refused.
+// Writes on standard error the place at which the input of a command is refused.
 fn tell_refusal<R: Read + Drop>(
     rt: &HostRuntime,
     command: Option<Command>,
@@ -126,28 +135,29 @@ fn tell_refusal<R: Read + Drop>(
     };
 }
 
-// Whether the grants allow the key in mode `Plain`.
+// Returns whether the grants allow the key in mode `Plain`.
 fn is_plain(grants: &Grants, name: &[u8], key: &[u8]) -> bool
     ensures { result ≡ is_allowed Mode.Plain grants.now name.now key.now }
 {
     by_name(grants, name, key)
 }
 
-// Whether the grants allow the key in mode `Digest`.
+// Returns whether the grants allow the key in mode `Digest`.
 fn is_digested(grants: &Grants, name: &[u8], key: &[u8]) -> bool
     ensures { result ≡ is_allowed Mode.Digest grants.now name.now key.now }
 {
     by_digest(grants, name, key)
 }
 
-// Whether the grants allow the key for the name in mode `Named`.
+// Returns whether the grants allow the key for the name in mode `Named`.
 fn is_named(grants: &Grants, name: &[u8], key: &[u8]) -> bool
     ensures { result ≡ is_allowed Mode.Named grants.now name.now key.now }
 {
     by_named(grants, name, key)
 }
 
-// Makes a transport stream of a file of FLV, and says on standard error what of the file isn't in it.
+// Makes a transport stream of an FLV file, and writes on standard error which units of the file were left
+// out.
 fn remux<S: Source, K: Sink>(
     rt: &HostRuntime,
     words: &[Vec<u8>],
@@ -194,17 +204,17 @@ fn command(rt: &HostRuntime, words: &[Vec<u8>], guards: &Guards) -> Status {
     ended
 }
 
-// Whether the word is that text.
+// Returns whether the word is that text.
 fn is(word: &[u8], text: &str) -> bool {
     word == text.as_bytes()
 }
 
-// Whether the first of the words is that text.
+// Returns whether the first of the words is that text.
 fn is_first(words: &[Vec<u8>], text: &str) -> bool {
     words.first().is_some_and(|word| is(word, text))
 }
 
-// Whether the words ask for the program's help.
+// Returns whether the words ask for the program's help.
 fn is_help(word: &[u8]) -> bool {
     is(word, "--help") || is(word, "-h") || is(word, "help")
 }
@@ -220,7 +230,7 @@ fn tell_all(rt: &HostRuntime, texts: &[&str]) -> Status {
     told
 }
 
-// The help of the command of that name.
+// Returns the help of the command of that name.
 fn help_of(word: &[u8]) -> Option<&'static str> {
     for (name, text) in COMMANDS {
         if is(word, name) {
@@ -230,7 +240,7 @@ fn help_of(word: &[u8]) -> Option<&'static str> {
     None
 }
 
-// Answers the words that ask about the program. `None` if they ask for something else.
+// Answers the words that ask about the program. Returns `None` if they ask for something else.
 fn about(rt: &HostRuntime, words: &[Vec<u8>]) -> Option<Status> {
     match words {
         [word] if is_help(word) => Some(tell_all(rt, &[ABOUT, "\n", USAGE])),
@@ -284,6 +294,8 @@ fn answer<
         control::command(host, rt, words)
     } else if is_first(words, "segment") {
         segments::command(host, rt, words)
+    } else if is_first(words, "hls") {
+        hls::command(host, rt, words)
     } else if is_first(words, "push") {
         clients::push_command(host, rt, words)
     } else if is_first(words, "pull") {
@@ -295,7 +307,7 @@ fn answer<
     }
 }
 
-// The words of the command line, or the code if they can't be read.
+// Returns the words of the command line, or the exit code if they can't be read.
 fn read_words(rt: &HostRuntime) -> Result<Vec<Vec<u8>>, u8> {
     match words(rt) {
         Ok(words) => Ok(words),
@@ -307,12 +319,13 @@ fn read_words(rt: &HostRuntime) -> Result<Vec<Vec<u8>>, u8> {
     }
 }
 
-// Whether the words are those of a server, which waits for nobody who reads what it says.
+// Returns whether the words are those of a server, which never waits for a reader of its messages.
 fn serves(words: &[Vec<u8>]) -> bool {
     is_first(words, "serve") || is_first(words, "edge")
 }
 
 fn main(rt: HostRuntime) -> ExitCode {
+    hold_closed(&rt);
     let mut heard = true;
     let Status { code, place } = match read_words(&rt) {
         Ok(words) => {

@@ -1,4 +1,4 @@
-//! The lines of a script as they are read, for what is said of one that is refused.
+//! The lines of a script as they are read, for the message about a refused line.
 
 use relay_program::Command;
 use relay_script::{drill_line, replay_line};
@@ -6,16 +6,16 @@ use std::alloc::Global;
 use std::io;
 use std::io::Read;
 
-/// More bytes than a line may have, and what is read at once after them.
+/// More bytes than a line may have with the bytes that are read at once after it.
 const MOST: usize = 1 << 20;
 
-/// A reader that remembers the lines of what it gave last, where it is told to.
+/// A reader that remembers the last lines that it gave, if `remembers` is true.
 #[derive(Drop)]
 pub struct Script<R: Read + Drop> {
     alloc: Global,
     inner: R,
     remembers: bool,
-    // So many lines were given before those that are kept.
+    // The number of lines that were given before the kept ones.
     before: u64,
     kept: Vec<u8>,
 }
@@ -48,7 +48,7 @@ impl<R: Read + Drop> Script<R> {
         self.kept = kept;
     }
 
-    // The line of that number, from 1, where it is one of the last.
+    // Returns the line of that number, from 1, if it is one of the last.
     fn line(&self, number: u64) -> Option<&[u8]> {
         if !self.remembers || number <= self.before {
             return None;
@@ -60,7 +60,7 @@ impl<R: Read + Drop> Script<R> {
             .nth(index as usize)
     }
 
-    /// What is wrong with the line of that number, from 1, which the command refused.
+    /// Returns the fault of the line of that number, from 1, which the command refused.
     pub fn fault(&self, command: Option<Command>, number: u64) -> &'static str {
         let Some(line) = self.line(number) else {
             return "is not a line of a script";

@@ -1,4 +1,4 @@
-//! `relay segment`: the house of its files, and what is said on standard error.
+//! `relay segment`: the house of its files, and the messages on standard error.
 
 use crate::adapters::{Reading, Writing};
 use crate::{

@@ -1,4 +1,5 @@
-//! `relay serve`: the file of the configuration, the real house, and what is said on standard error.
+//! `relay serve`: the file of the configuration, the house over sockets and files, and the messages on
+//! standard error.
 
 use crate::adapters::{ConfigFile, Reading, Writing};
 use crate::check_config::explain;
@@ -16,7 +17,7 @@ use std::sync::Wait;
 use std::thread::Threads;
 use std::{io, net, str};
 
-/// The name of the configuration's file.
+/// Returns the name of the configuration's file.
 pub fn file_name(words: &[Vec<u8>]) -> &str {
     match words {
         [_, name] => str::from_utf8(name.as_slice()).unwrap_or(""),
@@ -24,7 +25,8 @@ pub fn file_name(words: &[Vec<u8>]) -> &str {
     }
 }
 
-/// Says why a server ended whose configuration is in the file of that name, by what was wrong with the file and with standard output.
+/// Writes why a server ended. `file` and `output` are the faults of the configuration's file, which has this
+/// name, and of standard output.
 pub fn tell_end<R: Eprint + Files<File = File>>(
     host: &HostRuntime,
     rt: &R,
@@ -47,7 +49,7 @@ pub fn tell_end<R: Eprint + Files<File = File>>(
     }
 }
 
-/// Serves by the configuration in the file that the words name, and says why where it didn't.
+/// Serves by the configuration in the file that the words name. Writes the cause if it couldn't.
 pub fn command<
     T: Threads
         + Wait

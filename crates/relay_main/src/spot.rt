@@ -1,4 +1,4 @@
-//! Where in the text of a configuration a fault stands.
+//! The line and column of a fault in the text of a configuration.
 
 use relay_config::{ConfigFail, Key, read_config};
 use std::alloc::{AllocError, Global};
@@ -19,7 +19,7 @@ impl Display for Spot {
     }
 }
 
-/// The spot of the byte at a place of a text.
+/// Returns the spot of the byte at a place of a text.
 pub fn spot_at(text: &[u8], place: usize) -> Spot {
     let mut spot = Spot { line: 1, column: 1 };
     for byte in text.iter().take(place) {
@@ -33,8 +33,8 @@ pub fn spot_at(text: &[u8], place: usize) -> Spot {
     spot
 }
 
-// What a part of a text is.
-#[derive(Clone, Copy, PartialEq, Eq)]
+// The kind of a part of a text.
+#[derive(Clone, Copy)]
 enum List {
     // No table of a list.
     Nothing,
@@ -50,7 +50,7 @@ struct Part {
 }
 
 impl Part {
-    // Whether it is one of a list of tables.
+    // Returns whether it is one of a list of tables.
     fn is_listed(&self) -> bool {
         self.list != List::Nothing
     }
@@ -97,7 +97,8 @@ fn lines_of<'a>(text: &'a [u8], part: &Part) -> &'a [u8] {
     text.get(part.lines.start..part.lines.end).unwrap_or(&[])
 }
 
-// Whether a configuration of the tables that are no list, and of one that is, fails the same test.
+// Returns whether a configuration fails the same test if it has only the tables outside lists, and this one
+// of a list.
 fn fails_so(
     alloc: Global,
     text: &[u8],
@@ -117,7 +118,7 @@ fn fails_so(
     }
 }
 
-// Where a line of these begins with a key, or names a table so.
+// Returns the byte of the text at which a line of the part begins with a key, or names a table by it.
 fn key_in(text: &[u8], part: &Part, key: &[u8]) -> Option<usize> {
     let mut at = part.lines.start;
     for line in lines_of(text, part).split(|byte| *byte == b'\n') {
@@ -140,14 +141,14 @@ fn key_in(text: &[u8], part: &Part, key: &[u8]) -> Option<usize> {
     None
 }
 
-// The table at this place, the streams first.
+// Returns the table at this place, streams first.
 fn nth(parts: &[Part], place: usize) -> Option<&Part> {
     let streams = parts.iter().filter(|part| part.list == List::Stream);
     let opens = parts.iter().filter(|part| part.list == List::Open);
     streams.chain(opens).nth(place)
 }
 
-// The part in which the test fails, where it is one part's.
+// Returns the part in which the test fails, if it fails in a single part.
 fn part_of<'a>(
     alloc: Global,
     text: &[u8],
@@ -166,7 +167,7 @@ fn part_of<'a>(
         .find(|part| fails_so(alloc, text, parts, Some(*part), fail))
 }
 
-// The table `relay`, where it lacks the key.
+// Returns the table `relay`, for a key that it lacks.
 fn relay_part<'a>(text: &[u8], parts: &'a [Part], key: &Key) -> Option<&'a Part> {
     match key {
         Key::Relay | Key::Stream | Key::Open => None,
@@ -176,8 +177,8 @@ fn relay_part<'a>(text: &[u8], parts: &'a [Part], key: &Key) -> Option<&'a Part>
     }
 }
 
-/// Where a configuration fails a test: at the key, or at the table that lacks it. None where no line of its own says so, as
-/// where a value stands within another.
+/// Returns the spot at which a configuration fails a test: the key, or the table that lacks it. Returns
+/// `None` if no line of its own has the fault, for example if a value is within another.
 pub fn spot_of(alloc: Global, text: &[u8], fail: &ConfigFail) -> Option<Spot> {
     let parts = parts(alloc, text).ok()?;
     let parts = parts.as_slice();
@@ -192,7 +193,7 @@ pub fn spot_of(alloc: Global, text: &[u8], fail: &ConfigFail) -> Option<Spot> {
     Some(spot_at(text, place))
 }
 
-// Where the part has the key, or the first of those that are no list.
+// Returns the byte at which the part has the key, or else the first part outside lists that has it.
 fn key_of(text: &[u8], parts: &[Part], part: Option<&Part>, key: &[u8]) -> Option<usize> {
     match part {
         Some(part) => key_in(text, part, key),

@@ -1,4 +1,4 @@
-//! What a configuration needs of the system: descriptors, and a thread for each worker.
+//! The needs of a configuration that the system must meet: descriptors, and a thread for each worker.
 
 use crate::check_config::{all_links, read_anew};
 use crate::{HOUSE_FAULT, status};
@@ -13,18 +13,18 @@ use std::sync::atomic::{AtomicBool, Ordering};
 use std::thread;
 use std::thread::Threads;
 
-/// A thread that is tried goes on for so many milliseconds at most.
+/// The longest time that a tried thread goes on, in milliseconds.
 const LONGEST: u32 = 60_000;
 
 /// How many descriptors a worker has: its poll, a handle of that, its waker, and a handle of the socket at which
 /// it listens.
 const OF_WORKER: u64 = 4;
 
-/// How many a server has besides: the standard streams, two sockets at which it listens with two handles of each,
-/// the one at which it is asked how it is, 16 who ask, and some of the C library's.
+/// The further descriptors of a server: the standard streams, two listening sockets with two handles of each,
+/// the control socket and its 16 clients. Some are the C library's.
 const OF_SERVER: u64 = 32;
 
-/// What a server needs of the system.
+/// The needs of a server.
 #[derive(Clone, Copy)]
 struct Needs {
     /// Descriptors, when all links are taken.
@@ -34,7 +34,7 @@ struct Needs {
     pub workers: u32,
 }
 
-// How many files the configuration has recordings in.
+// Returns the number of files that the configuration records to.
 fn recordings(config: &Config) -> u64 {
     let mut count = 0u64;
     for rule in config.places.as_slice() {
@@ -44,8 +44,8 @@ fn recordings(config: &Config) -> u64 {
     count
 }
 
-// What the configuration in the file of that name needs, with so many origins of an edge. `None` where it is
-// refused, or can't be read anew.
+// Returns the needs of the configuration in the file of that name, with `edges` origins. Returns `None` if it
+// is refused, or can't be read anew.
 fn needs_of<R: Files<File = File>>(rt: &R, alloc: Global, name: &str, edges: u32) -> Option<Needs> {
     let text = read_anew(rt, alloc, name)?;
     let config = read_config(alloc, text.as_slice()).ok()?;
@@ -64,7 +64,7 @@ fn needs_of<R: Files<File = File>>(rt: &R, alloc: Global, name: &str, edges: u32
     })
 }
 
-// Goes on until it is told to end.
+// Goes on until `over` is set.
 fn go_on(over: &AtomicBool) {
     for _ in 0..LONGEST {
         if over.load(Ordering::SeqCst) {
@@ -74,7 +74,7 @@ fn go_on(over: &AtomicBool) {
     }
 }
 
-// How many threads the system gives at once beside this one, of so many.
+// Returns how many threads the system gives at once besides this one, up to `most`.
 fn threads<R: Threads>(rt: &R, alloc: Global, most: u32) -> u32 {
     let Ok(over) = Arc::new(alloc, AtomicBool::new(false)) else {
         return 0;
@@ -98,9 +98,9 @@ fn threads<R: Threads>(rt: &R, alloc: Global, most: u32) -> u32 {
     count
 }
 
-/// Says where the system gives fewer descriptors than the configuration in the file of that name needs. Where it
-/// gives fewer threads than there are workers the server can't start: that is said too, and `Some` of the status
-/// it ends with. A file that can't be read anew is looked at only when it is served.
+/// Writes a message if the system gives fewer descriptors than the configuration in the file of that name
+/// needs. If it gives fewer threads than there are workers, the server can't start: that is written too, and
+/// the exit status is returned. A file that can't be read anew is checked only when it is served.
 pub fn prepare<R: Threads + Eprint + Files<File = File>>(
     rt: &R,
     alloc: Global,

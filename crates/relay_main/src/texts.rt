@@ -1,4 +1,4 @@
-//! What the program says of itself: the list of its commands, the help of each, and the exit statuses.
+//! The texts of the program about itself: the list of its commands, the help of each, and the exit statuses.
 
 pub const VERSION: &str = "relay 0.2.0\n";
 
@@ -18,6 +18,7 @@ Files
   remux < FLV > TS               FLV to MPEG-TS
   check < TS                     list the frames of an MPEG-TS file
   segment NAME MS < FLV > M3U8   FLV to HLS segments of at least MS milliseconds
+  hls NAME MS LAST < FLV         FLV to HLS while it is read, over reconnections
 Without a network
   replay < SCRIPT                run recorded connections again
   drill < SCRIPT                 ask one stream, line by line
@@ -35,7 +36,7 @@ pub const ABOUT: &str = "relay: a live video relay, whose rules are proved\n";
 pub const MORE: &str = "Exit status: 0 for success; relay help exit-codes lists the others.\n";
 
 /// Each command with its help.
-pub const COMMANDS: [(&str, &str); 14] = [
+pub const COMMANDS: [(&str, &str); 15] = [
     ("serve", SERVE),
     ("edge", EDGE),
     ("stats", STATS),
@@ -47,6 +48,7 @@ pub const COMMANDS: [(&str, &str); 14] = [
     ("remux", REMUX),
     ("check", CHECK),
     ("segment", SEGMENT),
+    ("hls", HLS),
     ("push", PUSH),
     ("pull", PULL),
     ("loop", LOOP),
@@ -68,25 +70,31 @@ Environment:
                        connection that neither publishes nor plays by then, and
                        a player that reads none of the data waiting for it for
                        3 times N; default 20, 8 for a publisher; 0 is never
-  RELAY_WAIT=N         closes a player that has waited N seconds for a broadcast;
+  RELAY_WAIT=N         closes a player that waited N seconds for a broadcast;
                        default 0, which is never
   RELAY_ADDRESS_LINKS=N
                        the most connections of one IP address at a time; default
                        0, which is any number
-  RELAY_SEND_BUFFER=N  bytes that the system buffers for each connection; default
-                       262144, and 0 is as many as it likes
+  RELAY_SEND_BUFFER=N  bytes that the system buffers for each connection;
+                       default 262144, and 0 is as many as it likes
+  RELAY_GATHER=N       lets the data for a player wait up to N milliseconds for
+                       more, so that fewer and larger packets are sent; default
+                       0, at most 500
   RELAY_CONTROL=PATH   the Unix socket for stats and stop, which only its owner
                        may use; default none
 ";
 
 const EDGE: &str = "usage: relay edge FILE ADDRESS APP NAME
+       relay edge FILE rtmp://ADDRESS/APP/NAME
 
 Runs a server as 'relay serve FILE' does, and pulls the stream NAME of the
 application APP from the RTMP server at ADDRESS, its origin. The first stream of
-FILE broadcasts it. ADDRESS is an IP address and a port, as 127.0.0.1:1935. NAME
-may carry a key behind '?'. The log says when the origin plays the stream and
-why it no longer does; the broadcast ends then, and the server goes on. The
-report has one more line:
+FILE broadcasts it. ADDRESS is HOST or HOST:PORT, as 127.0.0.1:1935: an IP
+address, or a name that the system looks up once, at the start. The default port
+is 1935. NAME may carry a key behind '?'; else RELAY_KEY is the key, or the
+first line of the file RELAY_KEY_FILE. The log says when the origin plays the
+stream and why it no longer does; the broadcast ends then, and the server goes
+on. The report has one more line:
 
   edge E
       E is peerclosed, linkfault, badversion AT, badchunk CAUSE AT,
@@ -102,8 +110,9 @@ const STATS: &str = "usage: relay stats PATH [--json]
 Asks the server whose RELAY_CONTROL is PATH, and prints a line for each
 connection, each stream and each recording: its address, what it does, its bytes
 in each direction, its age, how far a player is behind its stream, in seconds,
-and what ended a recording. With --json it prints the same as JSON. It gives up
-after 10 seconds without an answer.
+what the players of a stream have missed, and what ended a recording. With
+--json it prints the same as JSON. It gives up after 10 seconds without an
+answer.
 ";
 
 const STOP: &str = "usage: relay stop PATH
@@ -111,8 +120,8 @@ const STOP: &str = "usage: relay stop PATH
 Tells the server whose RELAY_CONTROL is PATH to stop, and waits until it has
 exited: it closes its listening sockets, publishers are closed, players are sent
 what is left and the end of the stream, recordings are completed, and the report
-is printed. It gives up if the server doesn't say within 10 seconds that it stops.
-The script contrib/relay-run does the same at a signal.
+is printed. It gives up if the server doesn't say within 10 seconds that it
+stops. The script contrib/relay-run does the same at a signal.
 ";
 
 const CHECK_CONFIG: &str = "usage: relay check-config FILE
@@ -295,20 +304,75 @@ replaces one of that name. NAME is 1 to 64 letters, digits, '.', '_' or '-', MS
 is 1 to 3600000. There are at most 100000 segments.
 ";
 
-const PUSH: &str = "usage: relay push ADDRESS APP NAME < FLV
+const HLS: &str = "usage: relay hls NAME MS LAST < FLV
 
-Publishes the FLV of standard input as the stream NAME of the application APP at
-the RTMP server at ADDRESS, an IP address and a port, as 127.0.0.1:1935. Each
-tag is sent as it is read, so the writer of its input sets the pace. NAME may
-carry a key behind '?'. A file has at most 68719476736 bytes.
+Cuts FLV at keyframes into the MPEG-TS files NAME-0.ts, NAME-1.ts and so on, in
+the current folder, while it is read. As each file ends, the playlist NAME.m3u8
+is replaced by one of the last LAST files, or of all files if LAST is 0. When the
+times step back, as after an encoder's reconnection, the next keyframe begins a
+file that the playlist marks. A file spans MS milliseconds, rounded up to whole
+seconds, if the keyframes allow it. A file that has left the playlist is removed
+when LAST + 1 further files have ended. NAME is 1 to 64 letters, digits, '.', '_'
+or '-', MS is 1 to 3600000, LAST is 0 to 1000.
 ";
 
-const PULL: &str = "usage: relay pull ADDRESS APP NAME > FLV
+const PUSH: &str = "usage: relay push [--pace] ADDRESS APP NAME < FLV
+       relay push [--pace] rtmp://ADDRESS/APP/NAME < FLV
 
-Plays the stream NAME of the application APP of the RTMP server at ADDRESS, an
-IP address and a port, as 127.0.0.1:1935, and writes each tag as FLV when it
-comes. It ends when the server says that the stream is over. NAME may carry a
-key behind '?'.
+Publishes the FLV of standard input as the stream NAME of the application APP at
+the RTMP server at ADDRESS. ADDRESS is HOST or HOST:PORT, as 127.0.0.1:1935: an
+IP address, or a name that the system looks up. The default port is 1935. NAME
+may carry a key behind '?'. It connects when the first byte has come. A file has
+at most 68719476736 bytes.
+
+  --pace  sends each tag at its time in the film, as a live stream. A jump of
+          that time by more than 10 seconds sets the clock anew. Without it the
+          film is sent as fast as it can be read, and a server's recordings and
+          players may miss a part of it: give it unless the input has a pace of
+          its own. Without it, the last line says if the film went more than 10
+          times as fast as it plays.
+
+It succeeds if the server took the whole film. Then it waits for the server to
+close the connection, for at most 8 seconds. If the connection fails in that
+time, the status is 11; if the server sends a status of level error, it is 13.
+
+Environment:
+  RELAY_KEY=KEY        the key behind NAME, if NAME has none. Everybody on the
+                       machine can read the words of a command, but not this
+  RELAY_KEY_FILE=PATH  a file whose first line is the key
+  RELAY_SILENCE=N      gives up if the server doesn't answer for N seconds, or
+                       takes nothing for as long; default 20, 0 is never
+  RELAY_LOG=LEVEL      with info, standard error says that it is connected, that
+                       the film is taken, and every 10 seconds how much was
+                       sent. On a terminal one line shows that, except with off
+";
+
+const PULL: &str = "usage: relay pull [--for SECONDS] [--from-zero] ADDRESS APP NAME > FLV
+       relay pull [--for SECONDS] [--from-zero] rtmp://ADDRESS/APP/NAME > FLV
+
+Plays the stream NAME of the application APP of the RTMP server at ADDRESS, and
+writes each tag as FLV when it comes. ADDRESS is HOST or HOST:PORT, as
+127.0.0.1:1935: an IP address, or a name that the system looks up. The default
+port is 1935. It ends when the server says that the stream is over. NAME may
+carry a key behind '?'.
+
+  --for SECONDS  ends with status 0 after that time, counted from the connection
+  --from-zero    gives the first audio or video frame the time 0, and each later
+                 tag its distance to it. Without it a tag has the time that the
+                 stream gives it
+
+If it ends and no tag came, standard error says so, and the status is 0.
+
+Environment:
+  RELAY_KEY=KEY        the key behind NAME, if NAME has none. Everybody on the
+                       machine can read the words of a command, but not this
+  RELAY_KEY_FILE=PATH  a file whose first line is the key
+  RELAY_SILENCE=N      gives up if the server doesn't answer for N seconds, or
+                       sends nothing for as long during a broadcast; default 20,
+                       0 is never. It waits for a broadcast for ever
+  RELAY_LOG=LEVEL      with info, standard error says that it is connected, that
+                       the stream begins, and every 10 seconds how much came. On
+                       a terminal one line shows that, except with off
 ";
 
 const LOOP: &str = "usage: relay loop < FLV > FLV
@@ -321,7 +385,8 @@ bytes.
 
 pub const STATUS: &str = "Exit status:
   0   success. serve, edge: the server stopped, and its report is complete.
-      soak: the run is done. pull: the stream ended. loop: the file came back
+      soak: the run is done. push: the server took the film. pull: the stream
+      or the time of --for ended. loop: the file came back
   2   the command line or an environment variable is wrong; nothing was read or
       written
   3   standard input or the configuration file could not be read
@@ -330,22 +395,23 @@ pub const STATUS: &str = "Exit status:
       what precedes it is written, except by replay. serve, edge, check-config:
       the configuration is refused; standard output has the first test that it
       fails
-  5   standard output could not be written; segment: or a file
+  5   standard output could not be written; segment, hls: or a file
   6   out of memory
   7   an address or a file could not be had; serve, edge: or a thread for each
       worker, and nobody was served
-  8   remux, segment: the file was read to its end, and an audio or video frame
-      was left out
+  8   remux, segment, hls: the file was read to its end, and an audio or video
+      frame was left out
   9   segment: there would be more than 100000 segments; loop: the file did not
       come back
   10  push, pull: the server closed the connection
-  11  push, pull, stats, stop: there was no connection, or it failed; stats, stop:
-      or there was no answer
+  11  push, pull, stats, stop: there was no connection, it failed, or there was
+      no answer
   12  push, pull: the server sent invalid RTMP at byte PLACE
-  13  push, pull: the server refused the request
+  13  push, pull: the server refused the request; push: or it said at the end
+      that there is an error
 
 If it isn't 0, the last line on standard error is 'relay: status CODE at PLACE'.
 With code 4 PLACE is the number of the script's line, from 1, or the offset in
-the file; with 12 the offset in what the server sent; else 0. Lines before it
-say why, unless the reader of a pipe has gone.
+the file; with 12 the offset of the invalid byte in what the server sent; else
+0. Lines before it say why, unless the reader of a pipe has gone.
 ";

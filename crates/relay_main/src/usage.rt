@@ -1,45 +1,54 @@
-//! What is wrong with the words of a command line.
+//! The messages about faults in the words of a command line.
 
 use crate::is;
+use crate::request::{read_named, read_options};
 use crate::texts::{COMMANDS, USAGE};
+use client_owed::Wish;
 use relay_edge::Shown;
 use std::str;
 
-/// An app or a name of the command line has at most this many bytes.
-const MOST_NAMED: usize = 255;
-
 const NOTHING_MORE: &str = "no further word: it reads standard input";
 
-// The words that a command wants after its name.
+// Returns the words that a command wants after its name.
 fn wanted_by(command: &str) -> &'static str {
     match command {
         "serve" | "check-config" => "a FILE",
-        "edge" => "FILE ADDRESS APP NAME, APP and NAME of 1 to 255 bytes",
+        "edge" =>
+            "FILE ADDRESS APP NAME or FILE rtmp://ADDRESS/APP/NAME, APP and NAME of 1 to 255 bytes",
         "stats" => "a PATH, and --json or nothing",
         "stop" => "a PATH",
-        "push" | "pull" => "ADDRESS APP NAME, APP and NAME of 1 to 255 bytes",
+        "push" | "pull" =>
+            "ADDRESS APP NAME or rtmp://ADDRESS/APP/NAME, APP and NAME of 1 to 255 bytes",
         "segment" =>
             "NAME MS, NAME of 1 to 64 letters, digits, '.', '_' or '-', MS from 1 to 3600000",
+        "hls" =>
+            "NAME MS LAST, NAME of 1 to 64 letters, digits, '.', '_' or '-', MS from 1 to 3600000, LAST from 0 to 1000",
         "soak" => "a number N from 1 to 100000",
         _ => NOTHING_MORE,
     }
 }
 
-fn has_length(name: &[u8]) -> bool {
-    !name.is_empty() && name.len() <= MOST_NAMED
+// Returns whether these are the words behind `push` or `pull`.
+fn asks(wish: Wish, words: &[Vec<u8>]) -> bool {
+    match read_options(wish, words) {
+        Some((_, more)) => read_named(more).is_some(),
+        None => false,
+    }
 }
 
-// Whether the command has said what is wrong: an address that is none, or a variable of the environment.
+// Returns whether the command has reported the fault itself: an address that isn't one, or a variable of the
+// environment.
 fn is_said(command: &str, more: &[Vec<u8>]) -> bool {
     match (command, more) {
         ("serve", [_]) => true,
-        ("edge", [_, _, app, name]) => has_length(app) && has_length(name),
-        ("push" | "pull", [_, app, name]) => has_length(app) && has_length(name),
+        ("edge", [_, more @ ..]) => read_named(more).is_some(),
+        ("push", more) => asks(Wish::Push, more),
+        ("pull", more) => asks(Wish::Pull, more),
         _ => false,
     }
 }
 
-// The command's name, if there is a command of that name.
+// Returns the command's name, if there is a command of that name.
 fn command_named(word: &[u8]) -> Option<&'static str> {
     for (name, _) in COMMANDS {
         if is(word, name) {
@@ -49,7 +58,7 @@ fn command_named(word: &[u8]) -> Option<&'static str> {
     None
 }
 
-// The word that names no command: that after `help`, or the first.
+// Returns the word that names no command: the word after `help`, or the first.
 fn no_command<'a>(words: &'a [Vec<u8>]) -> &'a [u8] {
     match words {
         [asks, word] if is(asks, "help") => word,
@@ -58,7 +67,7 @@ fn no_command<'a>(words: &'a [Vec<u8>]) -> &'a [u8] {
     }
 }
 
-/// Says on standard error what is wrong with the words of a command line, unless their command has said it.
+/// Writes the fault in the words of a command line on standard error, unless their command has reported it.
 pub fn tell_misuse(rt: &HostRuntime, words: &[Vec<u8>]) {
     let Some((first, more)) = words.split_first() else {
         let _ = eprint!(rt; "{USAGE}");

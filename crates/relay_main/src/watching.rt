@@ -7,32 +7,41 @@ use std::env::VarError;
 /// The log's level.
 const LOG: &str = "RELAY_LOG";
 
-/// After how many seconds a silent link ends.
+/// The seconds after which a silent link ends.
 const SILENCE: &str = "RELAY_SILENCE";
 
-/// Where the socket is by which the server is asked how it is and told to stop.
+/// The path of the control socket.
 const CONTROL: &str = "RELAY_CONTROL";
 
 /// Whether each line of the log begins with the date and the time.
 const TIMES: &str = "RELAY_LOG_TIME";
 
-/// They are so many where the variable isn't set.
+/// The seconds of [`SILENCE`] if the variable isn't set.
 const SECONDS: u64 = 20;
 
-/// And so many for one that publishes.
+/// The same for a link that publishes.
 const PUBLISHER_SECONDS: u64 = 8;
 
-/// For how many seconds a player may wait for a broadcast.
+/// The seconds that a player may wait for a broadcast.
 const WAIT: &str = "RELAY_WAIT";
 
-/// How many links one address may have.
+/// The most links of one address.
 const ADDRESS_LINKS: &str = "RELAY_ADDRESS_LINKS";
 
-/// How many bytes of what a link is sent the system keeps.
+/// The size in bytes of a link's send buffer in the system.
 const SEND_BUFFER: &str = "RELAY_SEND_BUFFER";
 
-/// They are so many where the variable isn't set.
+/// The bytes of [`SEND_BUFFER`] if the variable isn't set.
 const BYTES: u64 = 262_144;
+
+/// The milliseconds that bytes for a player may wait for more.
+const GATHER: &str = "RELAY_GATHER";
+
+/// The most milliseconds of [`GATHER`].
+const MOST_GATHER: u64 = 500;
+
+/// The levels of the log.
+const LEVELS: &str = "off, error, warn, info or debug";
 
 /// A variable that can't be had, or has a value that it may not have.
 #[derive(Clone, Copy)]
@@ -44,8 +53,8 @@ pub enum Unfit {
     OutOfMemory,
 }
 
-// The value of a variable, where it is set and isn't empty.
-fn variable(host: &HostRuntime, name: &'static str) -> Result<Option<String>, Unfit> {
+/// Returns the value of a variable, if it is set and isn't empty.
+pub fn variable(host: &HostRuntime, name: &'static str) -> Result<Option<String>, Unfit> {
     match env::var(host, name) {
         Ok(value) => Ok((!value.is_empty()).then_some(value)),
         Err(VarError::NotPresent) => Ok(None),
@@ -57,7 +66,7 @@ fn variable(host: &HostRuntime, name: &'static str) -> Result<Option<String>, Un
     }
 }
 
-// The number that a variable says, where it is set and isn't empty.
+// Returns the number in a variable, if it is set and isn't empty.
 fn number(
     host: &HostRuntime,
     name: &'static str,
@@ -72,18 +81,28 @@ fn number(
     }
 }
 
-// What bounds the links of a server, where one may be silent for so many seconds, if that is said.
+// Returns the limits of a server's links. `silence` is the seconds that a link may be silent, if they are
+// set.
 fn bounds(host: &HostRuntime, silence: Option<u64>) -> Result<Bounds, Unfit> {
     let buffer = number(host, SEND_BUFFER, "a number of bytes")?.unwrap_or(BYTES);
+    let wanted = "a number of milliseconds, 0 to 500";
+    let gather = number(host, GATHER, wanted)?.unwrap_or(0);
+    if gather > MOST_GATHER {
+        return Err(Unfit::Variable {
+            name: GATHER,
+            wanted,
+        });
+    }
     Ok(Bounds {
         publisher_silence: silence.unwrap_or(PUBLISHER_SECONDS),
         wait: number(host, WAIT, "a number of seconds")?.unwrap_or(0),
         address_links: number(host, ADDRESS_LINKS, "a number of links")?.unwrap_or(0),
         send_buffer: u32::try_from(buffer).unwrap_or(u32::MAX),
+        gather,
     })
 }
 
-// Whether each line of the log begins with the date and the time.
+// Returns whether each line of the log begins with the date and the time.
 fn has_times(host: &HostRuntime) -> Result<bool, Unfit> {
     match variable(host, TIMES)? {
         None => Ok(false),
@@ -98,7 +117,7 @@ fn has_times(host: &HostRuntime) -> Result<bool, Unfit> {
     }
 }
 
-/// What the variables say, or which of them says nothing that it may.
+/// Returns the settings of the variables, or the variable with a value that it may not have.
 pub fn watching(host: &HostRuntime) -> Result<Watching, Unfit> {
     let level = match variable(host, LOG)? {
         None => "info".parse(),
@@ -107,7 +126,7 @@ pub fn watching(host: &HostRuntime) -> Result<Watching, Unfit> {
     let Ok(level) = level else {
         return Err(Unfit::Variable {
             name: LOG,
-            wanted: "off, error, warn, info or debug",
+            wanted: LEVELS,
         });
     };
     let silence = number(host, SILENCE, "a number of seconds")?;
@@ -120,7 +139,42 @@ pub fn watching(host: &HostRuntime) -> Result<Watching, Unfit> {
     })
 }
 
-/// Says on standard error what is wanted of a variable.
+/// How a client of a server is watched.
+#[derive(Clone, Copy)]
+pub struct Watched {
+    /// The seconds that its server may be silent. 0 is for ever.
+    pub silence: u64,
+    /// The log has lines of level `info`.
+    pub informs: bool,
+    /// There is no log.
+    pub is_off: bool,
+}
+
+/// Returns the settings of the variables for a client, or the variable with a value that it may not have. A
+/// client's log has the level `warn` if the variable isn't set.
+pub fn read_watched(host: &HostRuntime) -> Result<Watched, Unfit> {
+    let (informs, is_off) = match variable(host, LOG)? {
+        None => (false, false),
+        Some(value) => match value.as_str() {
+            "off" => (false, true),
+            "error" | "warn" => (false, false),
+            "info" | "debug" => (true, false),
+            _ => {
+                return Err(Unfit::Variable {
+                    name: LOG,
+                    wanted: LEVELS,
+                });
+            }
+        },
+    };
+    Ok(Watched {
+        silence: number(host, SILENCE, "a number of seconds")?.unwrap_or(SECONDS),
+        informs,
+        is_off,
+    })
+}
+
+/// Writes on standard error the value that a variable must have.
 pub fn tell_unfit(host: &HostRuntime, name: &str, wanted: &str) {
     if is_heard() {
         let _ = eprintln!(host; "relay: {}: {wanted} is wanted", Shown { text: name });

@@ -1,21 +1,23 @@
-//! What the window of a stream holds, in seconds.
+//! The length of a stream's window, in seconds.
 
 use relay_base::Limits;
 use std::fmt;
 use std::fmt::{Display, Formatter};
 
-/// The stream by which it is told: 4 Mbit/s, and 70 items a second, as 30 pictures and 43 frames of sound are. Each item counts 64 bytes more.
+/// The bytes a second of the stream for which it is given: 4 Mbit/s and 70 items a second, about 30 video
+/// frames and 43 audio frames. Each item counts 64 bytes more.
 const BYTES: u64 = 500_000 + ITEMS * 64;
 
 const ITEMS: u64 = 70;
 
-/// How many seconds of such a stream the window of these limits holds, and after how many a player lags.
+/// The seconds of such a stream that the window of these limits holds, and the seconds after which a player
+/// lags.
 #[derive(Clone, Copy)]
 pub struct Window<'a> {
     pub limits: &'a Limits,
 }
 
-// The quotient, rounded.
+// Returns the quotient, rounded.
 fn rounded(count: u64, a_second: u64) -> u64 {
     count
         .saturating_add(a_second / 2)

@@ -31,7 +31,7 @@ impl Calls {
         }
     }
 
-    /// Counts a call, and says whether it fails.
+    /// Counts a call, and returns whether it fails.
     pub(crate) fn fails_next(&mut self) -> bool
         ensures answer { result ≡ next_fails self.old }
         ensures after { self.new ≡ called self.old }
@@ -44,7 +44,7 @@ impl Calls {
         fails
     }
 
-    /// How many calls have failed.
+    /// Returns the number of calls that have failed.
     pub(crate) fn failed(&self) -> u64
         ensures { result ≡ self.now.faults }
     {

@@ -15,18 +15,19 @@ pub trait Rest: Drop {
 
     /// Called after a unit may have been pushed to this stream, or its publisher may have left. It never waits.
     ///
-    /// `stream` is a number of the stream, for hints alone: two streams may share one, which costs time and nothing else.
+    /// `stream` is a number of the stream, for hints alone. Two streams may share one, which costs time and
+    /// nothing else.
     fn pushed(&mut self, stream: u32);
 
     /// Called when a link or a recorder of this worker begins to play this stream. It never waits.
     fn plays(&mut self, stream: u32);
 
-    /// The number of times that `pushed` was called for this stream by any worker, as far as this worker knows. A hint that comes
-    /// late, or never, costs time and nothing else.
+    /// Returns the number of times that `pushed` was called for this stream by any worker, as far as this
+    /// worker knows. A hint that comes late, or never, costs time and nothing else.
     fn pushes(&self, stream: u32) -> u64;
 }
 
-/// Gives workers their doors and rests and recorders their files, and takes doors and files back.
+/// Gives workers their doors and rests, gives recorders their files, and takes doors and files back.
 pub trait House: Drop {
     type Door: Door + Send;
 
@@ -34,19 +35,19 @@ pub trait House: Drop {
 
     type File: Sink + Send;
 
-    /// How often it has failed, how many files were kept that had faults and, where it tells them, the
-    /// files that were kept and the doors that were shut. Its counts never fall; one that stands at the
-    /// last value of a u64 stays there, and is said to rise.
+    /// The number of its faults and the number of kept files that had faults. If it tells them: the files
+    /// that were kept and the doors that were shut. Its counts never fall; a count that stands at the last
+    /// value of a u64 stays there, and is said to rise.
     ghost told: { Self → HouseTold };
 
-    /// The doors that it gave, as they were asked for, in order, where it tells them.
+    /// If it tells them: the doors that it gave, in order, each as it was asked for.
     ghost asked: { Self → Option (List Asked) };
 
-    /// The names of the files that it gave, in order, where it tells them.
+    /// If it tells them: the names of the files that it gave, in order.
     ghost named: { Self → Option (List (List ℕ)) };
 
-    /// Gives the door of a worker, which is new. It is to listen at that address and to close after so many
-    /// links, 0 being any number. `None` comes only where the house's faults rose.
+    /// Gives the door of a worker, which is new. It is to listen at this address and to close after `accept`
+    /// links; 0 means any number. `None` comes only if the house's faults rose.
     fn door(&mut self, worker: u32, listen: &[u8], accept: u32) -> Option<Self::Door>
         ensures new { IfSome result (λ d. IsNewDoor (Self.Door.told d) × (told self.new ≡ told self.old)) }
         ensures none { IfNone result (Refuses (told self.old) (told self.new)) }
@@ -54,14 +55,14 @@ pub trait House: Drop {
         ensures unasked { IfNone result (asked self.new ≡ asked self.old) }
         ensures named { named self.new ≡ named self.old };
 
-    /// Gives the rest of a worker. `None` comes only where the house's faults rose.
+    /// Gives the rest of a worker. `None` comes only if the house's faults rose.
     fn rest(&mut self, worker: u32) -> Option<Self::Rest>
         ensures new { IfSome result (λ _. told self.new ≡ told self.old) }
         ensures none { IfNone result (Refuses (told self.old) (told self.new)) }
         ensures asked { asked self.new ≡ asked self.old }
         ensures named { named self.new ≡ named self.old };
 
-    /// Gives a new file of that name. `None` comes only where the house's faults rose.
+    /// Gives a new file of this name. `None` comes only if the house's faults rose.
     fn file(&mut self, name: &[u8]) -> Option<Self::File>
         ensures new { IfSome result (λ f. IsNewFile (Self.File.holds f) (Self.File.faults f) × (told self.new ≡ told self.old)) }
         ensures none { IfNone result (Refuses (told self.old) (told self.new)) }
@@ -69,8 +70,8 @@ pub trait House: Drop {
         ensures named { IfSome result (λ _. named self.new ≡ with_one (named self.old) (Some name.now)) }
         ensures unnamed { IfNone result (named self.new ≡ named self.old) };
 
-    /// Keeps a file under a name. It counts as spoiled exactly where the file has faults. A refusal, for
-    /// want of memory, drops the file and changes nothing.
+    /// Keeps a file under a name. It counts as spoiled exactly if the file has faults. If memory is refused,
+    /// the file is dropped and nothing changes.
     fn keep(&mut self, name: &[u8], file: Self::File) -> Result<(), AllocError>
         ensures kept { OnOk result (Keeps (told self.old) (told self.new) (Self.File.faults file)
             (kept_file name.now (Self.File.holds file) (Self.File.faults file))) }
@@ -78,8 +79,8 @@ pub trait House: Drop {
         ensures asked { asked self.new ≡ asked self.old }
         ensures named { named self.new ≡ named self.old };
 
-    /// Takes back the door of a worker, which is closed or has given 2^40 links. A refusal, for want of
-    /// memory, drops the door and changes nothing.
+    /// Takes back the door of a worker, which is closed or has given 2^40 links. If memory is refused, the
+    /// door is dropped and nothing changes.
     fn shut(&mut self, worker: u32, door: Self::Door) -> Result<(), AllocError>
         requires { IsDone (Self.Door.told door) }
         ensures shut { OnOk result (told self.new ≡ with_shut (told self.old) (shut_door worker (Self.Door.told door))) }

@@ -10,8 +10,8 @@ ghost use Rattle.relay_outside.specs.MemLinkAnswers.{Same, one_heard, one_said};
 ghost use Rattle.relay_outside.specs.RoseLaws.{rose_then, rose_after};
 ghost use Rattle.relay_outside.specs.MemLinks.{MemLinkState, MemHears, MemSays, IsFaultless};
 
-/// What a link gave and what is left are together what they were, whatever it answers, and what it
-/// took changes only by a send.
+/// The bytes that a link gave, followed by those that are left, stay the same with each answer. The bytes that
+/// it took change only by a send.
 pub fn input_law()
     ensures recv { (t u : LinkTold) (answer : Came) → CameTold (Some t) (Some u) answer
         → (u.gave ++ u.left ≡ t.gave ++ t.left) × (u.took ≡ t.took) }
@@ -19,14 +19,14 @@ pub fn input_law()
         → (u.gave ≡ t.gave) × (u.left ≡ t.left) }
 {}
 
-/// A link in memory of which no call was told to fail has no faults, and its calls keep that so.
+/// A link in memory has no faults if no call was told to fail, and its calls keep that so.
 pub fn faultless_law()
     ensures recv { (l m : MemLinkState) (room : ℕ) (answer : Came) → MemHears l room answer m → IsFaultless l → IsFaultless m }
     ensures send { (l m : MemLinkState) (piece : List ℕ) (answer : Said) → MemSays l piece answer m → IsFaultless l → IsFaultless m }
 {}
 
-/// A step of a link in memory has one answer and leaves the link one way. A send may besides answer want
-/// of memory.
+/// A step of a link in memory has one answer and leaves the link one way. A send may instead answer that it
+/// is out of memory.
 #[tactic(auto, using(crate::specs::MemLinkAnswers::one_heard, crate::specs::MemLinkAnswers::one_said))]
 pub fn one_answer_law()
     ensures recv { (l m n : MemLinkState) (room : ℕ) (a b : Came) → MemHears l room a m → MemHears l room b n → Same a b m n }

@@ -11,7 +11,7 @@ use std::alloc::{AllocError, Global};
 use std::collections::VecDeque;
 use std::marker::Model;
 
-/// A link that a door in memory gave: a link in memory that keeps all that it took.
+/// A link from a door in memory: a link in memory that keeps all bytes that it took.
 #[derive(Drop)]
 pub struct DoorLink {
     link: MemLink,
@@ -36,14 +36,14 @@ impl DoorLink {
         DoorLink { link }
     }
 
-    /// All that it took.
+    /// Returns all bytes that it took.
     pub fn took(&self) -> &[u8]
         ensures { result.now ≡ (mem_told self.now).took }
     {
         self.link.sent()
     }
 
-    /// Hands over the lines of what it was told, and keeps none.
+    /// Hands over the lines of the news that it received, and keeps none.
     pub fn take_told(&self) -> Vec<u8> {
         self.link.take_told()
     }
@@ -83,7 +83,7 @@ impl Link for DoorLink {
 
 /// A door in memory. It tells the links that were handed back.
 ///
-/// A call of `next` that doesn't fail gives the next of its links, and answers `Closed` where none is left.
+/// A call of `next` that doesn't fail gives the next of its links, and answers `Closed` if none is left.
 #[derive(Drop)]
 pub struct MemDoor {
     queue: VecDeque<MemLink>,
@@ -111,8 +111,8 @@ impl Model for MemDoor {
 }
 
 impl MemDoor {
-    /// A door that gives these links in order. `fails` has the numbers, from 0, of the calls of `next` that
-    /// fail. The links are new: their counts are 0, and they have given and taken nothing.
+    /// Makes a door that gives these links in order. `fails` has the numbers, from 0, of the calls of `next`
+    /// that fail. The links are new: their counts are 0, and they have given and taken nothing.
     pub fn new(alloc: Global, links: Vec<MemLink>, fails: Vec<u64>) -> MemDoor
         requires { All IsNewMemLink links.items }
         ensures { result ≡ record {
@@ -132,8 +132,8 @@ impl MemDoor {
         }
     }
 
-    /// What the link with that place, from 0, among those that were handed back had taken. `None` exactly
-    /// where there are fewer.
+    /// Returns the bytes that a link had taken when it was handed back: the link at this place, from 0, among
+    /// those that were. `None` exactly if there are fewer.
     pub fn link_took(&self, link: u32) -> Option<&[u8]>
         ensures { option_copied result ≡ link_took self.now.home link }
     {

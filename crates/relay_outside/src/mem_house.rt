@@ -60,7 +60,7 @@ impl Model for ShutDoor {
     ghost view = { λ s. record { worker = s.by; door = s.shut } };
 }
 
-// A door that was given, as only clauses see it, of no bytes for its address.
+// A door that was given, as only clauses see it. Its address takes no bytes.
 #[derive(Drop)]
 struct GivenDoor {
     by: u32,
@@ -90,7 +90,7 @@ impl GivenDoor {
     }
 }
 
-// The name under which a file was given, as only clauses see it, of no bytes.
+// The name under which a file was given, as only clauses see it. It takes no bytes.
 #[derive(Drop)]
 struct GivenName {
     at: Flow<u8>,
@@ -116,8 +116,9 @@ impl GivenName {
 
 /// A house in memory. It tells the files that were kept and the doors that were shut.
 ///
-/// A call that doesn't fail gives the worker with a number the door with that number, and a door without
-/// links where there is none or it was given before; a [`MemRest`]; and a new [`MemSink`] for each file.
+/// A call that doesn't fail gives as follows. The worker with a number gets the door with that number, or a
+/// door without links if there is none or it was given before. A rest is a [`MemRest`]. Each file is a new
+/// [`MemSink`].
 #[derive(Drop)]
 pub struct MemHouse {
     alloc: Global,
@@ -150,9 +151,9 @@ impl Model for MemHouse {
 }
 
 impl MemHouse {
-    /// A house with these doors, by the numbers of their workers. `fails` has the numbers, from 0, of those
-    /// calls of `door`, `rest` and `file` that fail, counted together. The doors are new: they have given no
-    /// link, have no link back and no faults, and aren't closed.
+    /// Makes a house with these doors, by the numbers of their workers. `fails` has the numbers, from 0, of
+    /// the calls of `door`, `rest` and `file` that fail, counted together. The doors are new: they have given
+    /// no link, have no link back and no faults, and aren't closed.
     pub fn new(alloc: Global, doors: Vec<MemDoor>, fails: Vec<u64>) -> MemHouse
         requires { All IsNewMemDoor doors.items }
         ensures { result ≡ record {
@@ -177,7 +178,7 @@ impl MemHouse {
         }
     }
 
-    /// The bytes of the first file that was kept under that name. `None` exactly where none was.
+    /// Returns the bytes of the first file that was kept under this name. `None` exactly if there is none.
     pub fn file_bytes(&self, name: &[u8]) -> Option<&[u8]>
         ensures { option_copied result ≡ bytes_kept self.now.files name.now }
     {
@@ -185,8 +186,8 @@ impl MemHouse {
         Some(file.bytes.bytes())
     }
 
-    /// What the link with that place, from 0, in the first door that the worker shut had taken when it was
-    /// handed back. `None` exactly where none was handed back there.
+    /// Returns the bytes that a link had taken when it was handed back to the first door that the worker
+    /// shut: the link at place `link`, from 0. `None` exactly if none was handed back there.
     pub fn link_sent(&self, worker: u32, link: u32) -> Option<&[u8]>
         ensures { option_copied result ≡ took_back self.now.gone worker link }
     {
@@ -196,7 +197,7 @@ impl MemHouse {
         }
     }
 
-    // The first door that the worker shut.
+    // Finds the first door that the worker shut.
     fn door_of(&self, worker: u32) -> Option<&MemDoor>
         ensures { option_copied result ≡ door_of self.now.gone worker }
     {

@@ -13,9 +13,9 @@ use std::marker::Model;
 
 /// A link in memory. It tells its bytes.
 ///
-/// A recv that doesn't fail gives as much of the first piece left that isn't empty as the slice
-/// holds. A send that doesn't fail takes as much as there is room for, or answers want of memory and
-/// changes nothing. It tells all that it took, also what it has handed over.
+/// A recv that doesn't fail gives as much of the first nonempty piece left as the slice holds. A send that
+/// doesn't fail takes as many bytes as there is room for, or answers that it is out of memory and changes
+/// nothing. It tells all bytes that it took, also those that it has handed over.
 #[derive(Drop)]
 pub struct MemLink {
     alloc: Global,
@@ -49,7 +49,7 @@ impl Model for MemLink {
     } };
 }
 
-// How many of so many bytes there is room for.
+// Returns the number of bytes, of `len`, that there is room for.
 fn fitting(space: Option<u64>, len: usize) -> usize
     ensures { result ≡ room_for space len }
 {
@@ -59,7 +59,7 @@ fn fitting(space: Option<u64>, len: usize) -> usize
     }
 }
 
-// The room that is left after so many bytes.
+// Returns the room that is left after `count` bytes.
 fn lessened(space: Option<u64>, count: usize) -> Option<u64>
     ensures { result ≡ option_map (λ room. room - count) space }
 {
@@ -69,7 +69,7 @@ fn lessened(space: Option<u64>, count: usize) -> Option<u64>
     }
 }
 
-// Adds a line of what a link was told.
+// Adds a line for a piece of news.
 fn add_line(
     alloc: Global,
     lines: &mut Vec<u8>,
@@ -86,7 +86,7 @@ fn add_line(
 }
 
 impl MemLink {
-    /// A link without input that has room for all.
+    /// Makes a link without input that has room for any number of bytes.
     pub fn new(alloc: Global) -> MemLink
         ensures { result ≡ record {
           pieces = [];
@@ -115,7 +115,7 @@ impl MemLink {
         }
     }
 
-    /// Adds a piece of input. Where there is no memory for it, it is dropped and nothing changes.
+    /// Adds a piece of input. If memory is refused, the piece is dropped and nothing changes.
     pub fn give(&mut self, piece: Vec<u8>) -> Result<(), AllocError>
         ensures ok { OnOk result (self.new ≡ record self.old { pieces = self.old.pieces ++ piece.items ∷ [] }) }
         ensures err { OnErr result (self.new ≡ self.old) }
@@ -130,7 +130,7 @@ impl MemLink {
         self.closed = true;
     }
 
-    /// Sets how many bytes it takes from now on, None being any number.
+    /// Sets the number of bytes that it takes from now on; `None` means any number.
     pub fn room(&mut self, bytes: Option<u64>)
         ensures { self.new ≡ record self.old { room = bytes } }
     {
@@ -151,14 +151,14 @@ impl MemLink {
         self.send_due = true;
     }
 
-    /// What it took and hasn't handed over.
+    /// Returns the bytes that it took and hasn't handed over.
     pub fn sent(&self) -> &[u8]
         ensures { result.now ≡ self.now.sent }
     {
         &self.output
     }
 
-    /// Hands over what it took, and keeps nothing of it.
+    /// Hands over the bytes that it took, and keeps none of them.
     pub fn take_sent(&mut self) -> Vec<u8>
         ensures handed { result.items ≡ self.old.sent }
         ensures left { self.new ≡ record self.old { handed = self.old.handed ++ self.old.sent; sent = [] } }
@@ -167,7 +167,8 @@ impl MemLink {
         std::mem::replace(&mut self.output, Vec::new(self.alloc))
     }
 
-    /// Hands over the lines of what it was told, `NEWS APP/NAME` each, and keeps none. A line for which there was no memory lacks.
+    /// Hands over the lines of the news that it received, `NEWS APP/NAME` each, and keeps none. A line is
+    /// missing if memory was refused for it.
     pub fn take_told(&self) -> Vec<u8> {
         self.told.replace(Vec::new(self.alloc))
     }

@@ -1,4 +1,4 @@
-//! What a link is told of what is done over it, for those who watch a relay run.
+//! The news that a link receives about its connection, for observers of a running relay.
 
 /// Why a publish or a play was refused.
 #[derive(Clone, Copy, Debug, PartialEq, Eq)]
@@ -7,20 +7,20 @@ pub enum Denied {
     NoName,
     /// Its key is wrong, or it has none.
     WrongKey,
-    /// Somebody publishes under that name.
+    /// There is a publisher under that name already.
     InUse,
     /// No place is left.
     Full,
 }
 
-/// Why what was done over a link ended.
+/// Why a connection ended.
 #[derive(Clone, Copy, Debug, PartialEq, Eq)]
 pub enum Ending {
     /// The peer closed the link.
     PeerClosed,
     /// The link failed.
     LinkFault,
-    /// The first byte asks for another version of the protocol.
+    /// The first byte is that of another version of the protocol.
     BadVersion,
     /// A byte of a chunk is refused.
     BadChunk,
@@ -36,7 +36,7 @@ pub enum Ending {
     Worn,
     /// Out of memory.
     OutOfMemory,
-    /// A request was answered with an HTTP status, and that was all.
+    /// A request was answered with an HTTP status, and nothing else.
     Answered(u16),
 }
 
@@ -51,12 +51,18 @@ pub enum News {
     Plays,
     /// It publishes or plays no longer, and is still there.
     Left,
-    /// What it is sent waits until it acknowledges more of what it was sent before.
+    /// The messages for it wait until it acknowledges more of those that it was sent before.
     HeldBack,
     /// It has acknowledged enough, and is sent more.
     Resumed,
+    /// It plays, and that number of items was jumped over, because the ring had dropped them.
+    Skipped(u64),
+    /// It plays, and that number of items was left out of what it was sent: it lags, their reference is missing, or it has
+    /// switched their kind off.
+    LeftOut(u64),
     /// It was refused.
     Denied(Denied),
-    /// It ended. `at` is the byte of what the peer sent at which it did, where one is to blame.
+    /// It ended. `at` is the offset, in the bytes that the peer sent, of the byte at fault, if there is such
+    /// a byte.
     Ended { ending: Ending, at: Option<u64> },
 }

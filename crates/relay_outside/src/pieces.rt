@@ -7,11 +7,11 @@ use std::alloc::AllocError;
 use std::collections::VecDeque;
 use std::marker::Model;
 
-/// The pieces that are left. One that was given whole is dropped when more is asked for.
+/// The pieces that are left. A piece that was given whole is dropped when more is asked for.
 #[derive(Drop)]
 pub(crate) struct Pieces {
     queue: VecDeque<Vec<u8>>,
-    // How much of the first was given.
+    // The number of bytes of the first piece that were given.
     used: usize,
 }
 
@@ -26,7 +26,8 @@ impl Model for Pieces {
     ghost invariant = { λ p. p.used ≤ length (first_piece (map (λ v. v.items) p.queue.items)) };
 }
 
-// Drops the pieces of which nothing is left, and says how much of the first was given then.
+// Drops the pieces of which nothing is left, and returns the number of bytes given of the first piece that
+// remains.
 fn drop_used(queue: &mut VecDeque<Vec<u8>>, mut used: usize) -> usize
     ensures same { cut_first result (map (λ v. v.items) queue.new.items)
         ≡ nonempty_from (cut_first used (map (λ v. v.items) queue.old.items)) }
@@ -43,7 +44,7 @@ fn drop_used(queue: &mut VecDeque<Vec<u8>>, mut used: usize) -> usize
     0
 }
 
-// Copies as much of the piece from there on as there is room for.
+// Copies as much of the piece, from `used` on, as there is room for. Returns the number of bytes.
 fn copy_from(piece: &[u8], used: usize, into: &mut [u8]) -> usize
     requires { used < length piece.now }
     ensures count { result ≡ min (length piece.now - used) (length into.new) }
@@ -64,7 +65,7 @@ impl Pieces {
         }
     }
 
-    /// Adds a piece at the end. Where there is no memory for that, the piece is dropped.
+    /// Adds a piece at the end. If memory is refused, the piece is dropped.
     pub(crate) fn add(&mut self, piece: Vec<u8>) -> Result<(), AllocError>
         ensures ok { OnOk result (self.new ≡ self.old ++ piece.items ∷ []) }
         ensures err { OnErr result (self.new ≡ self.old) }
@@ -73,7 +74,8 @@ impl Pieces {
         Ok(())
     }
 
-    /// Gives as much of the first piece that isn't empty as there is room for, and says how much. None where nothing is left.
+    /// Gives as much of the first nonempty piece as there is room for, and returns the number of bytes.
+    /// `None` if nothing is left.
     pub(crate) fn give(&mut self, into: &mut [u8]) -> Option<usize>
         requires { 0 < length into.old }
         ensures count { IfSome result (λ n. (0 < n) × (n ≤ length into.new)) }

@@ -6,24 +6,24 @@ use libc::net::{
 use mio::net::TcpStream;
 use std::os::fd::AsRawFd;
 
-/// A server that is silent for so many seconds is asked whether it is there.
+/// The seconds of silence after which the system probes whether a server is still there.
 const IDLE: i32 = 60;
 
-/// It is asked again after so many.
+/// The seconds between two probes.
 const AGAIN: i32 = 15;
 
-/// So often, and the connection then fails.
+/// The number of probes without an answer after which the connection fails.
 const TIMES: i32 = 4;
 
-// An option's value, as the system reads it.
+// Returns an option's value, as the system reads it.
 fn value(number: i32) -> [u8; 16] {
     let mut bytes = [0u8; 16];
     bytes[..4].copy_from_slice(&number.to_ne_bytes());
     bytes
 }
 
-/// The system asks a server that says nothing whether it is there, so that a machine that is gone is found. Where it can't, all is as
-/// it was.
+/// Has the system probe a silent server, so that a machine that is gone is found. If the option can't be set,
+/// the socket stays as it was.
 pub fn keep_alive(stream: &TcpStream) {
     let fd = stream.as_raw_fd();
     unsafe { setsockopt(fd, SOL_SOCKET, SO_KEEPALIVE, &value(1), 4) };

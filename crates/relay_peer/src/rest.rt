@@ -1,5 +1,6 @@
 //! Rests over a poll.
 
+use crate::clock::milliseconds;
 use mio::{Events, Poll};
 use relay_outside::Rest;
 use std::time::Duration;
@@ -12,10 +13,12 @@ const LONGEST: u64 = 1000;
 pub struct PeerRest {
     pub(crate) poll: Option<Poll>,
     pub(crate) events: Events,
+    // When the link ends by itself.
+    pub(crate) until: Option<u64>,
 }
 
 impl PeerRest {
-    /// Waits at most so long.
+    /// Waits for an event at most `milliseconds`.
     pub(crate) fn wait(&mut self, milliseconds: u64) {
         if let Some(poll) = &mut self.poll {
             let _ = poll.poll(&mut self.events, Some(Duration::from_millis(milliseconds)));
@@ -25,7 +28,11 @@ impl PeerRest {
 
 impl Rest for PeerRest {
     fn pause(&mut self) {
-        self.wait(LONGEST);
+        let most = match self.until {
+            Some(until) => until.saturating_sub(milliseconds()).min(LONGEST),
+            None => LONGEST,
+        };
+        self.wait(most);
     }
 
     fn moved(&mut self) {}

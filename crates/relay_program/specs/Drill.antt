@@ -155,8 +155,8 @@ state_from (line ∷ lines) s = state_then (after_line (line_says meaning line) 
 abbrev pub made_by : List ℕ → Option State
 made_by script = state_from (lines script) fresh
 
--- What is known of a script that is read to its end. Each call at its stream or its pool was answered by the rules, after the
--- calls before it; and what each player was sent at a slot keeps the viewer's law.
+-- What is known of a script that is read to its end. Each call at its stream or its pool was answered by the
+-- rules, after the calls before it; and what each player was sent at a slot keeps the viewer's law.
 pub record DrillKept (script : List ℕ) : Type 0 where
   pub state : State
   pub made : made_by script ≡ Some state

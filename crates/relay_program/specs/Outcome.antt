@@ -11,7 +11,8 @@ use Rattle.relay_script.specs.Script.{NoLineFeed}
 abbrev pub IsWholeLines : List ℕ → Type 0
 IsWholeLines text = (text ≡ []) ⊎ ((front : List ℕ) × (text ≡ front ++ 10 ∷ []))
 
--- what is seen of a source and a sink: what is left of the one and what the other holds, where they tell it, and their faults
+-- what is seen of a source and a sink: what is left of the one and what the other holds, where they tell it,
+-- and their faults
 pub record InOut : Type 0 where
   pub left : Option (List ℕ)
   pub held : Option (List ℕ)
@@ -41,7 +42,8 @@ module _ (printed : List ℕ → List ℕ) (outside : List ℕ → Option ℕ) w
       ≡ Some rest →
       (now ≡ append_known before (printed whole)) × (outside whole ≡ None)
 
-  -- what a status says of the source and the sink before and after, where `asked` says whether the words ask for the command
+  -- what a status says of the source and the sink before and after, where `asked` says whether the words ask
+  -- for the command
   pub record Outcome (asked : Bool) (old new : InOut) (status : Status) : Type 0 where
     pub words : (status.code ≡ 2) ↔ (asked ≡ false)
     pub read : status.code ≡ 0 → IsAtEnd new.left

@@ -20,7 +20,8 @@ pub record WritesPartPrinted (script : List ℕ) (before now : Option (List ℕ)
   pub printed : Printed script text
   pub part : WritesPart text before now
 
--- what a status says of the source and the sink before and after, where `asked` says whether the words ask for the command
+-- what a status says of the source and the sink before and after, where `asked` says whether the words ask
+-- for the command
 pub record Replayed (asked : Bool) (old new : InOut) (status : Status) : Type 0 where
   pub words : (status.code ≡ 2) ↔ (asked ≡ false)
   pub read : status.code ≡ 0 → IsAtEnd new.left

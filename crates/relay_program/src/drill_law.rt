@@ -3,8 +3,9 @@ ghost use Rattle.relay_program.specs.Drill.{outside_line, DrillKept};
 
 use stream_law::tables_law;
 
-/// What a [`drill`](crate::drill) has made of a script within the grammar. Each call at its stream or its pool was answered by
-/// the rules, after the calls before it; and what each player was sent at a slot keeps the viewer's law.
+/// The outcome of a [`drill`](crate::drill) of a script within the grammar. Each call at its stream or its
+/// pool was answered by the rules, after the calls before it. The items that each player was sent at a slot
+/// keep the viewer's law.
 pub fn what_a_drill_answers()
     ensures { (script : List ℕ) → outside_line script ≡ None → DrillKept script }
 {

@@ -50,7 +50,7 @@ pub(crate) fn put_all<K: Sink>(out: &mut K, text: &[u8]) -> Result<(), DrillFail
     }
 }
 
-// Does what the line says, and gives what it prints.
+// Does the action of the line, and returns the text that it prints.
 fn said(alloc: Global, made: &mut Made, line: &[u8]) -> Result<Bytes, LineFail>
     requires { length (table_of made.old).past < 2 ^ 62 }
     ensures { MatchResult result (λ text. after_line (meaning line.now) made.old ≡ Some (done made.new text))
@@ -84,7 +84,7 @@ fn answer<K: Sink>(
 struct Drilling {
     alloc: Global,
     made: Made,
-    // What stands after the last LF.
+    // The bytes after the last LF.
     line: Bytes,
     // How many bytes of the script were read.
     place: u64,
@@ -198,7 +198,7 @@ impl Drilling {
         self.extend(left)
     }
 
-    // Answers what stands after the last LF.
+    // Answers the bytes after the last LF.
     fn finish<K: Sink>(&mut self, out: &mut K) -> Result<(), DrillFail>
         requires { Fit self.old }
         ensures ends { MatchResult result (λ _. Writes (text_ahead self.old []) [] (K.holds out.old) (K.holds out.new) × (outside_ahead self.old [] ≡ None))
@@ -299,20 +299,21 @@ fn is_drill(words: &[Vec<u8>]) -> bool
 
 /// Answers a script of calls at one stream, or at one pool of slots: it puts the reply line of each call as it goes.
 ///
-/// The one word is `drill`. A first line `ring` says the limits of the stream, or of each slot of the pool; without it they
-/// are the default ones: 33,554,432 bytes, 16,384 items and 256 players. The calls are made at a pool where the line `pool`
-/// comes first of the others, and else at a stream. A line is outside the grammar where [`drill_line`] says so, where it is
-/// a `ring` after a line that did something, a `pool` after any but `ring`, a `begin` or `join` that has a name at a stream
-/// or none at a pool, or where it has a byte past the script's first 2^28. The code of the answer tells how the drill ended:
+/// The one word is `drill`. A first line `ring` says the limits of the stream, or of each slot of the pool.
+/// Without it they are the default ones: 33,554,432 bytes, 16,384 items and 256 players. The calls are made
+/// at a pool if the line `pool` comes first of the others, and else at a stream. A line is outside the
+/// grammar if [`drill_line`] says so, or if it has a byte past the script's first 2^28. Also outside are a
+/// `ring` after a line that did something, a `pool` after any but `ring`, and a `begin` or `join` that has
+/// a name at a stream or none at a pool. The code of the answer tells how the drill ended:
 ///
 /// | Code | Comes | Written |
 /// |---|---|---|
 /// | 0 | the script was read to its end, and no line is outside the grammar | all replies |
-/// | 2 | exactly where the words aren't `drill` alone; nothing is read | nothing |
-/// | 3 | only where the source's faults rose | the replies to all whole lines that were read, and nothing of the line that was begun |
+/// | 2 | exactly if the words aren't `drill` alone; nothing is read | nothing |
+/// | 3 | only if the source's faults rose | the replies to all whole lines that were read, and nothing of the line that was begun |
 /// | 4 | line `place`, counted from 1, is the first outside the grammar | the replies to the lines before it |
-/// | 5 | only where the sink's faults rose | a first part of the replies to what was read |
-/// | 6 | for want of memory | a first part of the replies to what was read |
+/// | 5 | only if the sink's faults rose | a first part of the replies to the lines that were read |
+/// | 6 | for want of memory | a first part of the replies to the lines that were read |
 ///
 /// `place` is 0 but for code 4.
 pub fn drill<S: Source, K: Sink>(

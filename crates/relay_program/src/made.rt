@@ -1,4 +1,4 @@
-//! What the lines of a drill have made so far.
+//! The stream or pool that the lines of a drill have made so far.
 ghost use Rattle.std.specs.Prelude.{◌≡◌, ◌<◌, ◌≤◌, ◌^◌, length, Some, is_some, MatchResult, IfOk};
 ghost use Rattle.stream_model.specs.Shape.{shape_reply, shape_held, stream_shape, new_table, table_answered};
 ghost use Rattle.stream_core.specs.Table.{known};
@@ -23,7 +23,7 @@ fn default_limits() -> StreamLimits
     }
 }
 
-/// What a script has said and made: its limits, and its stream or its pool.
+/// The state of a script so far: its limits, and its stream or its pool.
 #[derive(Drop)]
 pub(crate) struct Made {
     limits: Option<StreamLimits>,
@@ -83,7 +83,7 @@ impl Made {
         Ok(Bytes::new(alloc))
     }
 
-    // Makes a pool of so many slots, before any call.
+    // Makes a pool of `slots` slots, before any call.
     fn take_slots(&mut self, alloc: Global, slots: u32) -> Result<Bytes, LineFail>
         requires { slots ≤ 64 }
         ensures { MatchResult result (λ text. pool_does slots self.old ≡ Some (done self.new text)) (λ fail. ActFails fail (pool_does slots self.old)) }
@@ -149,7 +149,7 @@ impl Made {
         }
     }
 
-    // The line of what is held.
+    // Returns the line of the bytes that are held.
     fn tell_held(&mut self, alloc: Global) -> Result<Bytes, LineFail>
         ensures { MatchResult result (λ text. held_does self.old ≡ done self.new text) (λ fail. fail ≡ LineFail.OutOfMemory) }
     {
@@ -173,7 +173,8 @@ impl Made {
         Ok(text)
     }
 
-    /// Does what the line says, and gives what it prints. `Outside` comes exactly where the line may not stand there.
+    /// Does the action of the line, and returns the text that it prints. `Outside` comes exactly if the
+    /// line may not stand there.
     pub fn act(&mut self, alloc: Global, line: DrillLine) -> Result<Bytes, LineFail>
         requires room { length (table_of self.old).past < 2 ^ 62 }
         requires slots { HasFewSlots line }

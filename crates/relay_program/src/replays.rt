@@ -31,7 +31,7 @@ fn is_replay(words: &[Vec<u8>]) -> bool
 struct Replaying {
     alloc: Global,
     scene: Scene,
-    // What stands after the last LF.
+    // The bytes after the last LF.
     line: Bytes,
     // How many bytes of the script were read.
     place: u64,
@@ -39,7 +39,7 @@ struct Replaying {
     number: u64,
 }
 
-// Does what the line with that number says.
+// Does the action of the line with that number.
 fn obey(
     alloc: Global,
     guards: &Guards,
@@ -158,7 +158,7 @@ impl Replaying {
         self.extend(left)
     }
 
-    // Obeys what stands after the last LF.
+    // Obeys the bytes after the last LF.
     fn last_line(&mut self, guards: &Guards) -> Result<(), DrillFail>
         requires { Fit self.old }
         ensures sound { OnOk result (IsSound self.new.scene) }
@@ -176,7 +176,7 @@ impl Replaying {
         )
     }
 
-    // Obeys what stands after the last LF, and gives what is then printed.
+    // Obeys the bytes after the last LF, and returns the text that is then printed.
     fn finish(&mut self, guards: &Guards) -> Result<Bytes, DrillFail>
         requires { Fit self.old }
         ensures { MatchResult result (λ text. EndsPrinted self.old text) (λ fail. Stops fail self.old []) }
@@ -189,7 +189,7 @@ impl Replaying {
     }
 }
 
-// What a script prints, by a replay that has read nothing.
+// Returns the output for a script, by a replay that has read nothing.
 fn replay_lines<S: Source>(
     replay: &mut Replaying,
     guards: &Guards,
@@ -214,7 +214,7 @@ fn replay_lines<S: Source>(
     }
 }
 
-// What a script prints.
+// Returns the output for a script.
 fn replayed<S: Source>(alloc: Global, guards: &Guards, script: &mut S) -> Result<Bytes, DrillFail>
     ensures read { OnOk result (IsAtEnd (S.left script.new)) }
     ensures ends { (text : List ℕ) → S.left script.old ≡ Some text
@@ -229,21 +229,22 @@ fn replayed<S: Source>(alloc: Global, guards: &Guards, script: &mut S) -> Result
     printed
 }
 
-/// Replays a script of connections, and prints at its end what each was sent and how it ended, what each recorder wrote,
-/// and what the streams hold.
+/// Replays a script of connections. At its end it prints the bytes that each was sent and its ending, the
+/// bytes that each recorder wrote, and those that the streams hold.
 ///
-/// The one word is `replay`. A line is outside the grammar where [`replay_line`] says so, where it may not stand in its
-/// place or names what isn't there, or where it has a byte past the script's first 2^28. `limits` is the first line that
-/// does something, if it is there; then `stream`, `guard` and `record` stand in any order, and then the others. The code of
-/// the answer tells how the replay ended:
+/// The one word is `replay`. A line is outside the grammar if [`replay_line`] says so, or if it has a byte
+/// past the script's first 2^28. A line that may not stand in its place, or that names a thing that isn't
+/// there, is outside too. `limits` is the first line that does something, if it is there. Then `stream`,
+/// `guard` and `record` stand in any order, and then the others. The code of the answer tells how the
+/// replay ended:
 ///
 /// | Code | Comes | Written |
 /// |---|---|---|
 /// | 0 | the script was read to its end, and no line is outside the grammar | all |
-/// | 2 | exactly where the words aren't `replay` alone; nothing is read | nothing |
-/// | 3 | only where the source's faults rose | nothing |
+/// | 2 | exactly if the words aren't `replay` alone; nothing is read | nothing |
+/// | 3 | only if the source's faults rose | nothing |
 /// | 4 | line `place`, counted from 1, is the first outside the grammar | nothing |
-/// | 5 | only where the sink's faults rose | a first part |
+/// | 5 | only if the sink's faults rose | a first part |
 /// | 6 | for want of memory, also of a session or a recorder | nothing, or a first part |
 ///
 /// `place` is 0 but for code 4.

@@ -55,17 +55,18 @@ pub fn command_of(words: &[Vec<u8>]) -> Option<Command>
     None
 }
 
-/// Runs the command that the words name, which are those after the program's name. What it writes by each code is told at
-/// [`drill`], [`replay`], [`soak`], [`remux`] and [`check`]. A soak reads nothing. The guards judge keys. The code is
+/// Runs the command that the words name, which are those after the program's name. Its output by each code
+/// is told at [`drill`], [`replay`], [`soak`], [`remux`] and [`check`]. A soak reads nothing. The guards
+/// judge keys. The code is
 ///
-/// - 0 where the input was read to its end, or the soak was made;
-/// - 2 exactly where the words aren't those of a command: nothing is read or written;
-/// - 3 only where the input's faults rose;
-/// - 4 where the input is refused at `place`: that of the first line outside a script's grammar, counted from 1, or that of
-///   the first byte of a file that is refused, counted from 0;
-/// - 5 only where the output's faults rose;
-/// - 6 for want of memory, or where a session of a soak isn't idle after 1,000,000 turns;
-/// - 8 for `remux` alone, where the input was read to its end and a unit of sound or pictures was left out.
+/// - 0 if the input was read to its end, or the soak was made;
+/// - 2 exactly if the words aren't those of a command: nothing is read or written;
+/// - 3 only if the input's faults rose;
+/// - 4 if the input is refused at `place`: that of the first line outside a script's grammar, counted from
+///   1, or that of the first byte of a file that is refused, counted from 0;
+/// - 5 only if the output's faults rose;
+/// - 6 for want of memory, or if a session of a soak isn't idle after 1,000,000 turns;
+/// - 8 for `remux` alone, if the input was read to its end and a unit of audio or video was left out.
 ///
 /// `place` is 0 but for code 4.
 pub fn run<S: Source, K: Sink>(

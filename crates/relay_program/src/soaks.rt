@@ -37,18 +37,20 @@ pub(crate) fn units_asked(words: &[Vec<u8>]) -> Option<u32>
     }
 }
 
-/// Runs one session that publishes and three that play over links in memory, and prints what the run came to: how many units were
-/// published and how many the stream took, of each player how many items it was sent, how often it skipped and how many bytes it
-/// was sent, and what all hold at the end, beside the most that they may.
+/// Runs one session that publishes and three that play over links in memory, and prints the outcome of the
+/// run. It has the number of units that were published, and the number that the stream took. Of each player
+/// it has the number of items it was sent, the number of its skips and the number of bytes it was sent. It
+/// also has the number of bytes that all hold at the end, beside the most that they may.
 ///
-/// The words are `soak N`, with N from 1 to 100,000 the number of units. The code of the answer tells how the soak ended:
+/// The words are `soak N`, with N from 1 to 100,000 the number of units. The code of the answer tells how
+/// the soak ended:
 ///
 /// | Code | Comes | Written |
 /// |---|---|---|
 /// | 0 | the run was made | all |
-/// | 2 | exactly where the words aren't `soak N` | nothing |
-/// | 5 | only where the sink's faults rose | a first part |
-/// | 6 | for want of memory, or where a session isn't idle after 1,000,000 turns | nothing, or a first part |
+/// | 2 | exactly if the words aren't `soak N` | nothing |
+/// | 5 | only if the sink's faults rose | a first part |
+/// | 6 | for want of memory, or if a session isn't idle after 1,000,000 turns | nothing, or a first part |
 #[tactic(auto, using(crate::proofs::SoakEnds::soak_refused, crate::proofs::SoakEnds::soak_stopped, crate::proofs::SoakEnds::soak_finished, crate::proofs::SoakEnds::soak_unwritten))]
 pub fn soak<K: Sink>(alloc: Global, words: &[Vec<u8>], guards: &Guards, out: &mut K) -> Status
     ensures outcome { Soaked (units_asked (map (λ w. w.items) words.now)) (K.holds out.old) (K.holds out.new) (K.faults out.old) (K.faults out.new) result }

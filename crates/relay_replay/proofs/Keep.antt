@@ -15,7 +15,7 @@ use Rattle.stream_model.specs.Names.{is_name}
 use Rattle.stream_registry.specs.Names.{PortRules, places}
 use Rattle.media_recorder.specs.Ports.{FitsIf}
 use Rattle.relay_session.specs.Acting.{ActsBy}
-use Rattle.relay_session.specs.Grants.{Keys, granted_from, has_app, is_named, judged, opened_from, stream_keys, table_keys, tables_from, takes_key}
+use Rattle.config_desk.specs.Grants.{Keys, granted_from, has_app, is_named, judged, opened_from, stream_keys, table_keys, tables_from, takes_key}
 use Rattle.relay_session.specs.Places.{IsGrantThere, IsOffered, IsThere}
 use Rattle.relay_session.specs.SeatState.{GoOn, HasFit}
 use Rattle.relay_session.specs.SessionState.{BeginsOwed, IsWhole, SessionState, StandsFor, ended_by, lasting_of, life_at}

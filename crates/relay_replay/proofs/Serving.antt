@@ -16,7 +16,7 @@ use Rattle.relay_outside.specs.MemLinks.{MemLinkState}
 use Rattle.session_owed.specs.Standing.{Past}
 use Rattle.stream_registry.specs.Books.{SoleState, SeenState}
 use Rattle.relay_session.specs.Acting.{Acting, ActsBy}
-use Rattle.relay_session.specs.Grants.{granted_from}
+use Rattle.config_desk.specs.Grants.{granted_from}
 use Rattle.relay_session.specs.Session.{session}
 use Rattle.relay_session.specs.SeatState.{SeatState}
 use Rattle.relay_session.specs.SessionState.{BeginsOwed, SessionState, StandsFor, gone_but_kept, life_at}

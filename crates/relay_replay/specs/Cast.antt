@@ -116,9 +116,9 @@ abbrev pub HasMemory : End → Type 0
 HasMemory end.OutOfMemory = ⊥
 HasMemory _ = Unit {0}
 
--- It was closed: its last calls were made, and it has left. Where its calls stood in the histories they do so after it, and where they
--- were those of one that asks for nothing but what it was granted they are so after it. These calls came to the history of the place where
--- it was, and no other came to any
+-- It was closed: its last calls were made, and it has left. Where its calls stood in the histories they do so
+-- after it, and where they were those of one that asks for nothing but what it was granted they are so after
+-- it. These calls came to the history of the place where it was, and no other came to any
 pub record IsClosed (port : SoleState) (s : SessionState SeenState) (port' : SoleState) (s' : SessionState SeenState) : Type 0 where
   pub leaving : Leaving
   pub leaves : LeavesFrom (place_of s.seat.spot) s.parts.who s.parts.fed s.parts.kept s.seat.active s.seat.visits
@@ -144,9 +144,9 @@ AfterTurn Moved s port s' ended port' = (s' ≡ s) × (port' ≡ port) × (ended
 AfterTurn Idle s port s' ended port' = (s' ≡ s) × (port' ≡ port) × (ended ≡ None)
 AfterTurn (Ended e) s port s' ended port' = HasMemory e × (ended ≡ Some e) × IsClosed port s port' s'
 
--- a turn of a session at these streams: the one of `Session::turn`, with a link in memory. Where the session stood for what it was
--- fed and its calls it does so after it, what it sent begins what it owes, its pushes are the units that its messages publish, and it
--- asks for nothing but what it was granted
+-- a turn of a session at these streams: the one of `Session::turn`, with a link in memory. Where the session
+-- stood for what it was fed and its calls it does so after it, what it sent begins what it owes, its pushes
+-- are the units that its messages publish, and it asks for nothing but what it was granted
 pub record Turned (desk : Ask → Grant) (port : SoleState) (c : ConnState) (port' : SoleState) (d : ConnState) : Type 0 where
   pub answer : Turn
   pub between : SoleState
@@ -259,8 +259,8 @@ ServesAt place port port' =
 abbrev pub OneAsk : SoleState → SoleState → RecSeat SeenState → RecSeat SeenState → Type 0
 OneAsk = OneAtMost (λ (s : SoleState). sole_rules s.rules) SoleAdds (λ s. journal_at s.books) (λ (p : SeenState). p.seen) no_kin no_branches
 
--- a recorder's turn. A call of its own at most comes to the history of its place, and no other to any. A file that had what was sent has
--- it, and what is written is the text
+-- a recorder's turn. A call of its own at most comes to the history of its place, and no other to any. A file
+-- that had what was sent has it, and what is written is the text
 pub record RecorderTurn (port : SoleState) (c : RecState) (port' : SoleState) (d : RecState) : Type 0 where
   pub answer : RecTurn
   pub form : d.form ≡ c.form

@@ -188,7 +188,8 @@ text_of limits streams opens c total =
     ((sessions_text 0 c.sessions ++ recorders_text 0 c.recorders) ++ streams_text c.port (length streams) ++ opens_text c.port (length streams) (length opens))
     ++ held_line total (most_of limits streams opens c)
 
--- EACH STREAM holds at most its window and three configurations, and EACH OPEN TABLE the same for each of its names, and the name
+-- EACH STREAM holds at most its window and three configurations, and EACH OPEN TABLE the same for each of its
+-- names, and the name
 pub record AreWithin (limits : Limits) (streams : List PlaceRule) (opens : List OpenRule) (port : SoleState) : Type 0 where
   pub streams_are : (n : ℕ) → n < length streams → held_at port n ≤ stream_bytes limits
   pub tables_are : (n : ℕ) (o : OpenRule) → slice_get opens n ≡ Some o → held_at port (length streams + n) ≤ o.names * name_bytes limits

@@ -3,7 +3,8 @@ use Rattle.std.specs.Prelude.{◌≡◌, All, Option, None, Some}
 use Rattle.relay_replay.specs.Cast.{RecState, CastState, IsText}
 use Rattle.relay_replay.specs.Scenes.{SceneState}
 
--- A RECORDER'S FILE has what was sent, and that, with what is pending, is the text of the items that its Takes were sent
+-- A RECORDER'S FILE has what was sent, and that, with what is pending, is the text of the items that its
+-- Takes were sent
 pub record IsRecorded (r : RecState) : Type 0 where
   pub took : r.file.bytes ≡ r.recorder.tape.sent
   pub text : IsText r.form r.recorder

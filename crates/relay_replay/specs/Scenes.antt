@@ -13,7 +13,7 @@ use Rattle.stream_registry.specs.Books.{SoleState, SeenState, FitsSole, journal_
 use Rattle.stream_registry.specs.Names.{PortRules, places}
 use Rattle.stream_registry.specs.declared.names.Name.{Name}
 use Rattle.stream_registry.specs.declared.names.OpenName.{OpenName}
-use Rattle.relay_session.specs.Grants.{granted_from}
+use Rattle.config_desk.specs.Grants.{granted_from}
 use Rattle.relay_session.specs.Places.{IsAt}
 use Rattle.relay_session.specs.SessionState.{SessionState}
 use Rattle.relay_session.specs.declared.end.End.{End}
@@ -196,7 +196,8 @@ max_of (guest.Session c) = c.session.parts.reader.max
 max_of (guest.Player c) = c.player.parts.longest
 max_of (guest.Edge c) = c.edge.client.parts.reader.max
 
--- WHAT RUNS KEEPS THE LIMITS of its script: those of the places, and the longest message of the sessions and the recorders
+-- WHAT RUNS KEEPS THE LIMITS of its script: those of the places, and the longest message of the sessions and
+-- the recorders
 pub record IsLimited (l : AllLimits) (c : CastState) : Type 0 where
   pub streams : HaveLimits l (sole_rules c.port.rules)
   pub sessions : All (λ g. max_of g ≡ l.max_message) c.sessions
@@ -211,8 +212,8 @@ abbrev pub LimitedBy : Bool → AllLimits → Option CastState → Type 0
 LimitedBy true l c = c ≡ None
 LimitedBy false l c = LimitedIf l c
 
--- The streams and the names of the open tables are at most 64. No stream has a longer name than a call may carry, and no open table
--- has none
+-- The streams and the names of the open tables are at most 64. No stream has a longer name than a call may
+-- carry, and no open table has none
 pub record AreNamed (streams : List PlaceRule) (opens : List OpenRule) : Type 0 where
   pub few : length streams + names_of opens ≤ 64
   pub short : All (λ p. length p.name ≤ 64) streams

@@ -21,8 +21,9 @@ abbrev pub StandsIf : Option End → (Ask → Grant) → SessionState SeenState 
 StandsIf None desk s = StandsFor desk s
 StandsIf (Some e) desk s = Unit {0}
 
--- WHAT A SESSION WAS SENT BEGINS WHAT IT OWES before this desk: for the bytes that it was fed, the messages that they read as, and
--- its calls with their replies. Its link took just that. It asked for nothing but what it was granted
+-- WHAT A SESSION WAS SENT BEGINS WHAT IT OWES before this desk: for the bytes that it was fed, the messages
+-- that they read as, and its calls with their replies. Its link took just that. It asked for nothing but what
+-- it was granted
 pub record IsServed (desk : Ask → Grant) (c : ConnState) : Type 0 where
   pub stands : StandsIf c.ended desk c.session
   pub owed : BeginsOwed desk c.session.parts

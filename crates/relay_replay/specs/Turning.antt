@@ -34,8 +34,8 @@ abbrev pub Asks : SoleState → SeatState SeenState → ℕ → Entry → Made �
 Asks = Asked FitsSole (λ (s : SoleState). sole_rules s.rules) (λ s. journal_at s.books) (λ (p : SeenState). p.seen) (λ p. length p.seen)
     (λ (_ : Entry). Unit {0}) (λ _. 0)
 
--- A SEAT WAS LEFT, named so at so many bytes of input: its last calls were made. Where its calls stood in the histories they do so after
--- it, and no history has more but that of the place where it was
+-- A SEAT WAS LEFT, named so at so many bytes of input: its last calls were made. Where its calls stood in the
+-- histories they do so after it, and no history has more but that of the place where it was
 pub record IsLeft (port : SoleState) (who fed : ℕ) (kept : Option Entry) (s : SeatState SeenState) (port' : SoleState) (kept' : Option Entry)
     (s' : SeatState SeenState) : Type 0 where
   pub leaving : Leaving

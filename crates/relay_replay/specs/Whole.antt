@@ -1,4 +1,5 @@
--- THE WHOLE OF A RUN on one thread that opens sessions alone, from the bytes of its script to what each session was sent and each file has.
+-- THE WHOLE OF A RUN on one thread that opens sessions alone, from the bytes of its script to what each
+-- session was sent and each file has.
 use Rattle.std.specs.Prelude.{◌≡◌, ◌⊎◌, ◌<◌, ◌≤◌, ◌+◌, ◌^◌, ◌++◌, ℕ, if◌then◌else◌, nat_eq, List, [], length, reverse, slice_get, All, Option, None, Some}
 use Rattle.std.specs.List.{concat}
 use Rattle.command_dialog.specs.declared.types.Ask.{Ask}
@@ -42,9 +43,10 @@ abbrev pub IsMadeBy : Option End → List Own → List Own → Type 0
 IsMadeBy None calls all = all ≡ calls
 IsMadeBy (Some e) calls all = Begins calls all
 
--- THE SESSION OF THAT NUMBER, to which the lines gave these bytes. They are those that its link gave and those that wait there. What it was
--- sent begins what it owes for the messages that the bytes fed read as and for its calls, its pushes are the units that these publish, it
--- asked for nothing but what it was granted, and its calls are all that bear its number in the streams' histories
+-- THE SESSION OF THAT NUMBER, to which the lines gave these bytes. They are those that its link gave and
+-- those that wait there. What it was sent begins what it owes for the messages that the bytes fed read as and
+-- for its calls, its pushes are the units that these publish, it asked for nothing but what it was granted,
+-- and its calls are all that bear its number in the streams' histories
 pub record Follows (desk : Ask → Grant) (histories : Histories) (given : List ℕ) (n : ℕ) (c : ConnState) : Type 0 where
   pub who : c.session.parts.who ≡ n
   pub named : (e : Entry) → c.session.parts.kept ≡ Some e → e.who ≡ n
@@ -65,8 +67,8 @@ pub record Follows (desk : Ask → Grant) (histories : Histories) (given : List 
 abbrev pub recorder_name : ℕ → ℕ
 recorder_name m = 2 ^ 60 + m
 
--- THE RECORDER OF THAT NUMBER: its calls are all that bear its name, and its file has the text of the items that its Takes among them
--- were sent, but for what is pending
+-- THE RECORDER OF THAT NUMBER: its calls are all that bear its name, and its file has the text of the items
+-- that its Takes among them were sent, but for what is pending
 pub record Records (histories : Histories) (m : ℕ) (r : RecState) : Type 0 where
   pub who : r.recorder.seat.who ≡ recorder_name m
   pub calls : (q : ℕ) → own (recorder_name m) (reverse (histories q)) ≡ (if nat_eq q r.recorder.seat.place then reverse r.recorder.seat.calls else [])
@@ -78,8 +80,8 @@ pub record Records (histories : Histories) (m : ℕ) (r : RecState) : Type 0 whe
 abbrev pub IsOurs : CastState → ℕ → Type 0
 IsOurs c who = (who < length c.sessions) ⊎ ((m : ℕ) × ((m < length c.recorders) × (who ≡ recorder_name m)))
 
--- A RUN, of which the lines gave these bytes to each session. Each history was answered by the rules, and what each player was sent in it
--- keeps the viewer's law; all its calls are those of the sessions and recorders
+-- A RUN, of which the lines gave these bytes to each session. Each history was answered by the rules, and
+-- what each player was sent in it keeps the viewer's law; all its calls are those of the sessions and recorders
 pub record IsRun (desk : Ask → Grant) (given : ℕ → List ℕ) (c : CastState) : Type 0 where
   pub lawful : (q : ℕ) → Keeps ((sole_rules c.port.rules).limits q) (journal_at c.port.books q)
   pub ours : (q : ℕ) → All (λ step. IsOurs c step.0.who) (journal_at c.port.books q)
@@ -88,7 +90,8 @@ pub record IsRun (desk : Ask → Grant) (given : ℕ → List ℕ) (c : CastStat
   pub sessions : (n : ℕ) (s : ConnState) → slice_get c.sessions n ≡ Some (guest.Session s) → Follows desk (journal_at c.port.books) (given n) n s
   pub recorders : (m : ℕ) (r : RecState) → slice_get c.recorders m ≡ Some r → Records (journal_at c.port.books) m r
 
--- so at each stream and open table EACH PUSH OF A SESSION WAS ANSWERED Pushed and each End Ended, and none of its Takes and Leaves NotPlayer
+-- so at each stream and open table EACH PUSH OF A SESSION WAS ANSWERED Pushed and each End Ended, and none of
+-- its Takes and Leaves NotPlayer
 abbrev pub SessionsAnswered : CastState → Type 0
 SessionsAnswered c = (n : ℕ) (s : ConnState) → slice_get c.sessions n ≡ Some (guest.Session s) → (q : ℕ) → AreAnswered (calls_at q s.session.seat.visits)
 

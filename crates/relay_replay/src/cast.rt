@@ -1,5 +1,5 @@
 ghost use Rattle.std.specs.Prelude.{◌≡◌, ◌<◌, ◌≤◌, [], length, IfOk, OnOk};
-ghost use Rattle.relay_session.specs.Grants.{granted_from};
+ghost use Rattle.config_desk.specs.Grants.{granted_from};
 ghost use Rattle.relay_replay.specs.Cast.{AnsweredTurn, Each, Round, RecTurnOf, SettledBy, Times, TurnOf, is_moved};
 ghost use Rattle.relay_replay.specs.Plays.{Opens, OpensEdge, OpensHttp, PutFails, Told};
 ghost use Rattle.relay_replay.specs.Scenes.{AreShort, Sits};
@@ -10,9 +10,9 @@ use crate::playing::Playing;
 use crate::pulling::Pulling;
 use crate::recording::Recording;
 use av_unit::{Bytes, OutOfMemory};
+use config_desk::PlaceDesk;
 use relay_base::Limits;
 use relay_script::ReplayLine;
-use relay_session::PlaceDesk;
 use std::alloc::Global;
 use std::marker::Model;
 use stream_registry::Sole;
@@ -120,7 +120,7 @@ impl Cast {
         Ok(())
     }
 
-    // Does what a line says of a session.
+    // Does the action of a line at a session.
     pub(crate) fn tell(&mut self, n: u32, line: ReplayLine) -> Result<(), OutOfMemory>
         requires { n < length self.old.sessions }
         ensures { OnOk result (Told line n self.old self.new) }
@@ -136,7 +136,7 @@ impl Cast {
         self.recorders[n as usize].fail_put();
     }
 
-    // One turn of a session, and what it was answered; none of one that has ended.
+    // Takes one turn of a session, and returns the turn's answer. A session that has ended takes none.
     fn turn(&mut self, n: usize, desk: &PlaceDesk<'_>) -> Result<Answered, OutOfMemory>
         requires there { n < length self.old.sessions }
         requires sits { Sits desk.now.list.now desk.now.opens.now (length self.old.recorders) self.old }
@@ -147,7 +147,7 @@ impl Cast {
         self.sessions[n].turn(self.alloc, &mut self.port, desk)
     }
 
-    // Turns of a session until it is idle or has ended. False where so many turns all moved something.
+    // Takes turns of a session until it is idle or has ended. False if `most` turns all moved something.
     pub(crate) fn settle(
         &mut self,
         n: u32,
@@ -181,7 +181,7 @@ impl Cast {
         self.recorders[n].turn(&mut self.port)
     }
 
-    // So many turns of a session.
+    // Takes the given number of turns of a session.
     pub(crate) fn turns(
         &mut self,
         n: u32,
@@ -200,7 +200,7 @@ impl Cast {
         Ok(())
     }
 
-    // So many turns of a recorder at the desk's streams.
+    // Takes the given number of turns of a recorder at the desk's streams.
     pub(crate) fn recs(
         &mut self,
         n: u32,
@@ -256,7 +256,7 @@ impl Cast {
         self.each_recorder(desk)
     }
 
-    // So many rounds.
+    // Makes the given number of rounds.
     pub(crate) fn rounds(&mut self, count: u32, desk: &PlaceDesk<'_>) -> Result<(), OutOfMemory>
         requires sits { Sits desk.now.list.now desk.now.opens.now (length self.old.recorders) self.old }
         ensures rounds { OnOk result (Times count (Round (granted_from 0 desk.now.list.now desk.now.opens.now)) self.old self.new) }

@@ -1,5 +1,5 @@
 ghost use Rattle.std.specs.Prelude.{◌≡◌, ◌≤◌, ℕ, IfOk, OnOk, Some, None};
-ghost use Rattle.relay_session.specs.Grants.{granted_from};
+ghost use Rattle.config_desk.specs.Grants.{granted_from};
 ghost use Rattle.relay_session.specs.Places.{IsAt, IsOffered};
 ghost use Rattle.relay_session.specs.SeatState.{HasFit};
 ghost use Rattle.stream_registry.specs.Books.{FitsSole, SeenState, sole_rules};
@@ -11,10 +11,11 @@ ghost use Rattle.relay_replay.specs.Scenes.{Ready, ReadyBy};
 
 use crate::guest::Answered;
 use av_unit::OutOfMemory;
+use config_desk::PlaceDesk;
 use relay_base::Limits;
 use relay_outside::MemLink;
 use relay_script::ReplayLine;
-use relay_session::{End, Leaving, PlaceDesk, Session, Turn};
+use relay_session::{End, Leaving, Session, Turn};
 use std::alloc::Global;
 use std::marker::Model;
 use stream_registry::Sole;
@@ -45,7 +46,7 @@ fn quits(line: &ReplayLine) -> bool
     }
 }
 
-// Does what a line says of a link.
+// Does the action of a line at a link.
 pub(crate) fn tell(link: &mut MemLink, line: ReplayLine) -> Result<(), OutOfMemory>
     ensures { OnOk result (link.new ≡ told_link line link.old) }
 {
@@ -101,7 +102,7 @@ impl Connection {
         self.ended
     }
 
-    // What it holds, in bytes: nothing, where it has ended.
+    // The number of bytes that it holds: 0 if it has ended.
     pub(crate) fn held(&self) -> u64
         ensures { Holds self.now result }
     {
@@ -111,7 +112,7 @@ impl Connection {
         }
     }
 
-    // Does what a line says of the session.
+    // Does the action of a line at the session.
     pub(crate) fn take(&mut self, line: ReplayLine) -> Result<(), OutOfMemory>
         ensures { OnOk result (self.new ≡ told_of line self.old) }
     {
@@ -123,7 +124,8 @@ impl Connection {
         Ok(())
     }
 
-    // One turn, and what it was answered; none of one that has ended. One that ends is closed at once.
+    // Takes one turn, and returns the turn's answer. A session that has ended takes none. A session that
+    // ends is closed at once.
     pub(crate) fn turn(
         &mut self,
         alloc: Global,
@@ -148,7 +150,7 @@ impl Connection {
     }
 }
 
-// What a turn's answer leads to.
+// Takes the step that follows a turn's answer.
 fn after(
     session: &mut Session<Sole>,
     ended: &mut Option<End>,
@@ -170,7 +172,8 @@ fn after(
     }
 }
 
-// Closes a session that has ended so. Where the streams don't let it leave there was no memory for its calls.
+// Closes a session that has ended with this ending. If the streams don't let it leave there was no memory
+// for its calls.
 fn close(
     session: &mut Session<Sole>,
     ended: &mut Option<End>,

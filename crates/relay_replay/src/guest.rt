@@ -1,5 +1,5 @@
 ghost use Rattle.std.specs.Prelude.{◌≡◌, ℕ, IfOk, OnOk};
-ghost use Rattle.relay_session.specs.Grants.{granted_from};
+ghost use Rattle.config_desk.specs.Grants.{granted_from};
 ghost use Rattle.relay_session.specs.Places.{IsOffered};
 ghost use Rattle.stream_registry.specs.Books.{FitsSole, SeenState, sole_rules};
 ghost use Rattle.stream_registry.specs.Names.{places};
@@ -12,12 +12,12 @@ use crate::connection::Connection;
 use crate::playing::Playing;
 use crate::pulling::Pulling;
 use av_unit::OutOfMemory;
+use config_desk::PlaceDesk;
 use relay_script::ReplayLine;
-use relay_session::PlaceDesk;
 use std::alloc::Global;
 use stream_registry::Sole;
 
-/// What a turn was answered; nothing, where it has ended before.
+/// The answer of a turn; nothing, if the guest has ended before.
 #[derive(Clone, Copy)]
 pub enum Answered {
     Nothing,
@@ -26,7 +26,7 @@ pub enum Answered {
     Ended,
 }
 
-/// What was opened, with its link.
+/// The guest that was opened, with its link.
 #[derive(Drop)]
 pub enum Guest {
     Session(Connection),
@@ -45,7 +45,7 @@ impl Guest {
         }
     }
 
-    // What it holds, in bytes: nothing, where it has ended.
+    // The number of bytes that it holds: 0 if it has ended.
     pub(crate) fn held(&self) -> u64
         ensures { GuestHolds self.now result }
     {
@@ -56,7 +56,7 @@ impl Guest {
         }
     }
 
-    // Does what a line says of it.
+    // Does the action of a line at it.
     pub(crate) fn take(&mut self, line: ReplayLine) -> Result<(), OutOfMemory>
         ensures { OnOk result (self.new ≡ told_guest line self.old) }
     {
@@ -67,7 +67,8 @@ impl Guest {
         }
     }
 
-    // One turn, and what it was answered; none of one that has ended. One that ends is closed at once.
+    // Takes one turn, and returns the turn's answer. A guest that has ended takes none. A guest that ends
+    // is closed at once.
     pub(crate) fn turn(
         &mut self,
         alloc: Global,

@@ -1,10 +1,11 @@
-//! What the script of a replay does: its streams and open tables with their keys, its recorders, its sessions, players over HTTP and edges,
-//! and what is printed of them at its end.
+//! The run of a replay's script: its streams and open tables with their keys, its recorders, its sessions,
+//! players over HTTP and edges, and the text that is printed of them at its end.
 //!
-//! A [`Scene`] takes the lines of a script one after another. Links and files are in memory, and the streams and open tables are
-//! those of one thread. What is printed of a script that opens sessions alone follows from it but for TOTAL, by the law of crate
-//! `replay_law`. Read `specs/Stand.antt` first (where a line may stand), then `specs/Scenes.antt` (what it does) and
-//! `specs/Prints.antt` (what is printed). What the lines are is `relay_script`'s.
+//! A [`Scene`] takes the lines of a script one after another. Links and files are in memory, and the
+//! streams and open tables are those of one thread. The printed text of a script that opens sessions alone
+//! follows from it but for TOTAL, by the law of crate `replay_law`. Read `specs/Stand.antt` first (the
+//! places at which a line may stand), then `specs/Scenes.antt` (its action) and `specs/Prints.antt` (the
+//! printed text). The forms of the lines are `relay_script`'s.
 #![tactic(auto)]
 
 mod cast;
@@ -22,7 +23,7 @@ mod served;
 mod summary;
 mod whole;
 
-// Named by laws of two runs: what a turn was answered, what was opened, and a recorder that is to be.
+// Named by laws of two runs: the answer of a turn, the guest that was opened, and a recorder that is to be.
 pub use guest::{Answered, Guest};
 pub use recorded::what_was_recorded_is_the_text_of_what_was_taken;
 pub use recording::Plan;

@@ -15,7 +15,7 @@ use std::alloc::Global;
 use stream_model::ShortName;
 use stream_registry::{Name, NameList, OpenList, OpenName, Sole};
 
-// ---- what has which name
+// ---- the names
 
 fn is_pair(app: &[u8], name: &[u8], rule: &PlaceRule) -> bool
     ensures { result ≡ is_pair app.now name.now rule.now }
@@ -226,7 +226,7 @@ pub(crate) fn open_table(app: Bytes, names: u32) -> OpenRule
     }
 }
 
-// ---- what the port to them has
+// ---- the state of the port to them
 
 fn copied(alloc: Global, bytes: &[u8]) -> Result<Bytes, OutOfMemory>
     ensures { IfOk result (λ b. b ≡ bytes.now) }

@@ -1,5 +1,5 @@
 ghost use Rattle.std.specs.Prelude.{◌≡◌, ◌≤◌, ℕ, IfOk, OnOk, Some, None};
-ghost use Rattle.relay_session.specs.Grants.{granted_from};
+ghost use Rattle.config_desk.specs.Grants.{granted_from};
 ghost use Rattle.relay_session.specs.Places.{IsOffered};
 ghost use Rattle.relay_session.specs.SeatState.{HasFit};
 ghost use Rattle.http_flv.specs.Keeping.{IsAt};
@@ -14,11 +14,12 @@ ghost use Rattle.relay_replay.specs.Turning.{AfterHttpTurn, PlayerClosed};
 use crate::connection::tell;
 use crate::guest::Answered;
 use av_unit::OutOfMemory;
+use config_desk::PlaceDesk;
 use http_flv::{HttpEnd, HttpPlayer, HttpTurn};
 use relay_base::Limits;
 use relay_outside::MemLink;
 use relay_script::ReplayLine;
-use relay_session::{Leaving, PlaceDesk};
+use relay_session::Leaving;
 use std::alloc::Global;
 use std::marker::Model;
 use stream_registry::Sole;
@@ -76,7 +77,7 @@ impl Playing {
         self.ended
     }
 
-    // What it holds, in bytes: nothing, where it has ended.
+    // The number of bytes that it holds: 0 if it has ended.
     pub(crate) fn held(&self) -> u64
         ensures { PlayerHolds self.now.ended self.now result }
     {
@@ -86,14 +87,15 @@ impl Playing {
         }
     }
 
-    // Does what a line says of it.
+    // Does the action of a line at it.
     pub(crate) fn take(&mut self, line: ReplayLine) -> Result<(), OutOfMemory>
         ensures { OnOk result (self.new ≡ record self.old { link = told_link line self.old.link }) }
     {
         tell(&mut self.link, line)
     }
 
-    // One turn, and what it was answered; none of one that has ended. One that ends is closed at once.
+    // Takes one turn, and returns the turn's answer. A player that has ended takes none. A player that ends
+    // is closed at once.
     pub(crate) fn turn(
         &mut self,
         alloc: Global,
@@ -118,7 +120,7 @@ impl Playing {
     }
 }
 
-// What a turn's answer leads to.
+// Takes the step that follows a turn's answer.
 fn after(
     player: &mut HttpPlayer<Sole>,
     ended: &mut Option<HttpEnd>,
@@ -140,7 +142,8 @@ fn after(
     }
 }
 
-// Closes a player that has ended so. Where the streams don't let it leave there was no memory for its calls.
+// Closes a player that has ended with this ending. If the streams don't let it leave there was no memory
+// for its calls.
 fn close(
     player: &mut HttpPlayer<Sole>,
     ended: &mut Option<HttpEnd>,

@@ -89,7 +89,7 @@ impl Pulling {
         self.edge.client_end()
     }
 
-    // What it holds, in bytes: nothing, where it has ended.
+    // The number of bytes that it holds: 0 if it has ended.
     pub(crate) fn held(&self) -> u64
         ensures { EdgeHolds self.now.ended self.now result }
     {
@@ -99,14 +99,15 @@ impl Pulling {
         }
     }
 
-    // Does what a line says of it.
+    // Does the action of a line at it.
     pub(crate) fn take(&mut self, line: ReplayLine) -> Result<(), OutOfMemory>
         ensures { OnOk result (self.new ≡ record self.old { link = told_link line self.old.link }) }
     {
         tell(&mut self.link, line)
     }
 
-    // One turn, and what it was answered; none of one that has ended. One that ends is closed at once.
+    // Takes one turn, and returns the turn's answer. An edge that has ended takes none. An edge that ends
+    // is closed at once.
     pub(crate) fn turn(&mut self, alloc: Global, port: &mut Sole) -> Result<Answered, OutOfMemory>
         requires { EdgeReady self.old.ended port.old self.old.edge }
         ensures turn { IfOk result (λ a. EdgeAnsweredBy a self.old.ended port.old self.old port.new self.new) }
@@ -123,7 +124,7 @@ impl Pulling {
     }
 }
 
-// What a turn's answer leads to.
+// Takes the step that follows a turn's answer.
 fn after(
     edge: &mut Edge<Sole>,
     ended: &mut Option<EdgeEnd>,
@@ -145,7 +146,8 @@ fn after(
     }
 }
 
-// Closes an edge that has ended so. Where the streams don't let it leave there was no memory for its calls.
+// Closes an edge that has ended with this ending. If the streams don't let it leave there was no memory for
+// its calls.
 fn close(
     edge: &mut Edge<Sole>,
     ended: &mut Option<EdgeEnd>,

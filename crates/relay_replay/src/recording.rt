@@ -47,7 +47,7 @@ impl Writer {
         }
     }
 
-    // What was written is the text of what was taken, but where there was no memory.
+    // The bytes that were written are the text of the items that were taken, unless memory was lacking.
     fn law(&self)
         ensures { (recorder_of self.now).end ≢ Some RecEnd.OutOfMemory → IsText (form_of self.now) (recorder_of self.now) }
     {
@@ -163,7 +163,7 @@ impl Recording {
     }
 }
 
-// What a recorder's turn leads to.
+// Takes the step that follows a recorder's turn.
 fn rested(ended: &mut Option<RecEnd>, answer: RecTurn) -> Result<(), OutOfMemory>
     ensures { OnOk result (AfterRecTurn answer ended.old ended.new) }
 {

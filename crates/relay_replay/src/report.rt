@@ -95,7 +95,7 @@ fn edge_end_text(
     }
 }
 
-// How what was opened ended.
+// The words for the ending of a guest.
 fn end_words(alloc: Global, guest: &Guest) -> Result<String, OutOfMemory>
     ensures { IfOk result (λ text. string_bytes text ≡ end_words guest.now) }
 {
@@ -198,7 +198,7 @@ fn all_recorders(alloc: Global, recorders: &[Recording], out: &mut Bytes) -> Res
     Ok(())
 }
 
-// Adds the lines of so many streams.
+// Adds the lines of the first `streams` streams.
 #[tactic(auto, using(crate::proofs::Totals::each_stream))]
 fn all_streams(alloc: Global, streams: u32, port: &Sole, out: &mut Bytes) -> Result<(), OutOfMemory>
     requires { streams ≤ length port.now.rules.names }
@@ -244,7 +244,7 @@ fn more(total: u64, n: u64) -> Result<u64, OutOfMemory>
     }
 }
 
-// What the sessions hold that are open.
+// The number of bytes that the open sessions hold.
 fn sessions_hold(sessions: &[Guest]) -> Result<u64, OutOfMemory>
     ensures { IfOk result (λ n. AllHold GuestHolds sessions.now n) }
 {
@@ -255,7 +255,7 @@ fn sessions_hold(sessions: &[Guest]) -> Result<u64, OutOfMemory>
     Ok(total)
 }
 
-// What the recorders hold.
+// The number of bytes that the recorders hold.
 fn recorders_hold(recorders: &[Recording]) -> Result<u64, OutOfMemory>
     ensures { IfOk result (λ n. AllHold RecHolds recorders.now n) }
 {
@@ -266,7 +266,7 @@ fn recorders_hold(recorders: &[Recording]) -> Result<u64, OutOfMemory>
     Ok(total)
 }
 
-// What so many streams hold.
+// The number of bytes that the first `streams` streams hold.
 #[tactic(auto, using(crate::proofs::Totals::streams_more))]
 fn streams_hold(streams: u32, port: &Sole) -> Result<u64, OutOfMemory>
     requires { streams ≤ length port.now.rules.names }
@@ -280,7 +280,7 @@ fn streams_hold(streams: u32, port: &Sole) -> Result<u64, OutOfMemory>
     Ok(total)
 }
 
-// What the open tables hold, whose places are behind those of the streams.
+// The number of bytes that the open tables hold, whose places are behind those of the streams.
 #[tactic(auto, using(crate::proofs::Totals::tables_more))]
 fn opens_hold(streams: u32, tables: u32, port: &Sole) -> Result<u64, OutOfMemory>
     requires streams { length port.now.rules.names ≡ streams }
@@ -296,7 +296,7 @@ fn opens_hold(streams: u32, tables: u32, port: &Sole) -> Result<u64, OutOfMemory
     Ok(total)
 }
 
-// What all hold together.
+// The number of bytes that all hold together.
 fn total_of(streams: u32, tables: u32, cast: &Cast) -> Result<u64, OutOfMemory>
     requires streams { length cast.now.port.rules.names ≡ streams }
     requires tables { length cast.now.port.rules.opens ≡ tables }
@@ -312,7 +312,7 @@ fn total_of(streams: u32, tables: u32, cast: &Cast) -> Result<u64, OutOfMemory>
     more(more(sessions, recorders)?, more(streamed, opened)?)
 }
 
-// Adds the line of what all hold together, and the most that they may. The answer is the total.
+// Adds the line of the bytes that all hold together, and the most that they may. Returns the total.
 pub(crate) fn all_held(
     alloc: Global,
     limits: &Limits,
@@ -343,7 +343,7 @@ pub(crate) fn all_held(
     Ok(total)
 }
 
-// What is printed of these streams and open tables, of the sessions and of the recorders.
+// The printed text of these streams and open tables, of the sessions and of the recorders.
 #[tactic(auto, using(crate::proofs::Totals::all_within_limits))]
 pub(crate) fn report(
     alloc: Global,

@@ -1,6 +1,6 @@
 ghost use Rattle.std.specs.Prelude.{◌≡◌, ◌↔◌, ◌<◌, ◌≤◌, ◌+◌, ◌^◌, ◌++◌, [], length, All, IfOk, OnOk, Some, None, Ok, Err, true};
 ghost use Rattle.std.specs.Prelude.{false, ◌∷◌, option_map, slice_get, slice_index_or};
-ghost use Rattle.relay_session.specs.Grants.{granted_from};
+ghost use Rattle.config_desk.specs.Grants.{granted_from};
 ghost use Rattle.relay_replay.specs.Stand.{defaults, allows, is_setting, names_in, takes_at, takes_stream, takes_table, table_takes, keyed_at, table_keyed_at};
 ghost use Rattle.relay_replay.specs.Stand.{count, has_recorder, has_room, has_session, is_short, no_plan, open_place, open_table, plan};
 ghost use Rattle.relay_replay.specs.Plays.{Plays, session_in};
@@ -18,11 +18,11 @@ use crate::recording::{Plan, Recording};
 use crate::report::report;
 use crate::summary::summary;
 use av_unit::{Bytes, OutOfMemory};
+use config_desk::PlaceDesk;
 use key_guard::{Guards, Mode};
 use relay_base::Limits;
 use relay_config::{OpenRule, OpenRules, PlaceList, PlaceRule};
 use relay_script::{Form, LineFail, ReplayLine, Side};
-use relay_session::PlaceDesk;
 use std::alloc::Global;
 use std::marker::Model;
 use stream_core::StreamLimits;
@@ -50,8 +50,9 @@ fn default_limits() -> Limits
     }
 }
 
-/// A replay between two lines of its script: what the lines have said, and what runs by them. Players over HTTP and edges are numbered
-/// among the sessions, and what is said of a session below is said of them too.
+/// A replay between two lines of its script: the settings of the lines so far, and the sessions and
+/// recorders that run by them. Players over HTTP and edges are numbered among the sessions, and each
+/// statement about a session below holds of them too.
 #[derive(Drop)]
 pub struct Scene {
     alloc: Global,
@@ -73,7 +74,7 @@ impl Model for Scene {
     ghost view = { λ s. record { fresh = s.fresh; limits = s.limits; places = s.places; opens = s.opens; recorders = s.recorders.items; cast = s.cast } };
 }
 
-// ---- what runs at first
+// ---- the parts that run at first
 
 fn stream_limits(limits: Limits) -> StreamLimits
     ensures { result ≡ stream_limits limits }
@@ -154,7 +155,7 @@ fn session_in(line: &ReplayLine) -> Option<u32>
     }
 }
 
-// Does what a line says that acts.
+// Does the action of a line that acts.
 #[tactic(auto, using(crate::proofs::Opening::by_session, crate::proofs::Opening::by_http, crate::proofs::Opening::by_edge, crate::proofs::Opening::by_line))]
 fn play(
     desk: &PlaceDesk<'_>,
@@ -221,8 +222,8 @@ impl Scene {
         }
     }
 
-    /// Lets the scene go. Who makes a scene ends it by this call: where it is dropped, that crate's check proves again how each of
-    /// its parts is let go.
+    /// Lets the scene go. A caller that makes a scene ends it by this call: if it is dropped, the check of
+    /// the caller's crate proves again the release of each of its parts.
     pub fn end(self) {}
 
     fn has_session(&self, n: u32) -> bool
@@ -286,7 +287,7 @@ impl Scene {
             && (self.names() < MOST && !is_listed(app, name, self.places.as_slice()))
     }
 
-    // Whether an open table may have this application, and so many names.
+    // Whether an open table may have this application, and that number of names.
     fn takes_table(&self, app: &[u8], names: u32) -> bool
         requires { names_in (stand_of self.now) ≤ 64 }
         ensures { result ≡ takes_table app.now names (stand_of self.now) }
@@ -414,7 +415,7 @@ impl Scene {
         Ok(())
     }
 
-    // What runs; from the first line that acts on.
+    // Returns the parts that run; from the first line that acts on.
     fn opened(&mut self) -> Result<Cast, OutOfMemory>
         requires { IsSound self.old }
         ensures open { IfOk result (λ c. IsOpen self.old.cast self.old c) }
@@ -435,7 +436,7 @@ impl Scene {
         }
     }
 
-    // Does what a line says that acts.
+    // Does the action of a line that acts.
     #[tactic(auto, using(crate::proofs::Limiting::acted_limited))]
     fn play(&mut self, guards: &Guards, line: ReplayLine) -> Result<(), OutOfMemory>
         requires sound { IsSound self.old }
@@ -458,7 +459,7 @@ impl Scene {
         Ok(())
     }
 
-    // Does what a line says that may stand here.
+    // Does the action of a line that may stand here.
     #[tactic(auto, using(crate::proofs::Limiting::limited_if, crate::proofs::Limiting::none_limited, crate::proofs::Naming::named_so))]
     fn obey(&mut self, guards: &Guards, line: ReplayLine) -> Result<(), OutOfMemory>
         requires sound { IsSound self.old }
@@ -503,8 +504,8 @@ impl Scene {
         }
     }
 
-    /// Does what a line says. The answer is `Outside` exactly where the line may not stand here, or names a stream, an open table, a
-    /// recorder or a session that isn't there; then nothing is done.
+    /// Does the action of a line. The answer is `Outside` exactly if the line may not stand here, or names
+    /// a stream, an open table, a recorder or a session that isn't there. With `Outside` nothing is done.
     pub fn act(&mut self, guards: &Guards, line: ReplayLine) -> Result<(), LineFail>
         requires sound { IsSound self.old }
         ensures does { OnOk result (Does line self.old self.new) }
@@ -521,8 +522,9 @@ impl Scene {
         }
     }
 
-    /// Turns of a session until one is answered `Idle`, or it has ended. The answer is false where `most` turns all moved
-    /// something, and `Outside` exactly where the session isn't there; then nothing is done.
+    /// Takes turns of a session until one is answered `Idle`, or it has ended. The answer is false if
+    /// `most` turns all moved something, and `Outside` exactly if the session isn't there. With `Outside`
+    /// nothing is done.
     pub fn settle(&mut self, guards: &Guards, session: u32, most: u32) -> Result<bool, LineFail>
         requires sound { IsSound self.old }
         ensures settled { IfOk result (λ done. SettledIn done most session self.old self.new) }
@@ -561,9 +563,10 @@ impl Scene {
         Ok(done)
     }
 
-    /// What a run comes to: how many units the first stream was given, of each session but the first how many items it was
-    /// sent of that stream, how often it skipped and how many bytes it was sent, and what all hold together, beside the most that
-    /// they may. Nothing runs then.
+    /// Returns the outcome of a run. It has the number of units that the first stream was given. Of each
+    /// session but the first it has three numbers: of the items it was sent of that stream, of its skips
+    /// and of the bytes it was sent. It also has the number of bytes that all hold together, beside the
+    /// most that they may. Nothing runs then.
     #[tactic(auto, using(crate::proofs::Limiting::opened_limited))]
     pub fn summary(&mut self) -> Result<Bytes, OutOfMemory>
         requires sound { IsSound self.old }
@@ -583,8 +586,10 @@ impl Scene {
         text
     }
 
-    /// What is printed at the script's end: of each session what it was sent and how it ended, of each recorder its file
-    /// and how it ended, what each stream and each open table holds, and what all hold together, beside the most that they may. Nothing runs then.
+    /// Returns the text printed at the script's end. Of each session it has the bytes it was sent and its
+    /// ending, and of each recorder its file and its ending. It also has the bytes that each stream and
+    /// each open table holds, and those that all hold together, beside the most that they may. Nothing runs
+    /// then.
     #[tactic(auto, using(crate::proofs::Limiting::opened_limited))]
     pub fn report(&mut self) -> Result<Bytes, OutOfMemory>
         requires { IsSound self.old }

@@ -56,7 +56,7 @@ fn items_to(who: u64, calls: &[(Entry, Reply)]) -> usize
         .count()
 }
 
-// How many of that caller's went on past what the window had passed.
+// The number of that caller's calls that went on past the items that the window had passed.
 fn skips_to(who: u64, calls: &[(Entry, Reply)]) -> usize
     ensures { result ≡ skips_to who calls.now }
 {
@@ -117,7 +117,7 @@ fn all_players(
     Ok(())
 }
 
-// What a run at these streams and open tables comes to.
+// The outcome of a run at these streams and open tables.
 pub(crate) fn summary(
     alloc: Global,
     limits: &Limits,

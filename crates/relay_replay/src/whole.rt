@@ -9,11 +9,13 @@ ghost use Rattle.relay_replay.specs.Whole.{IsRun, RunOf, Runs, SessionsAnswered,
 
 use relay_session::alone_law;
 
-/// What a run on one thread that opens sessions alone comes to, as one statement: the bytes of a session's `in` lines are those that it was
-/// fed and those that wait; the units that their messages publish are its pushes; its calls are all that bear its number in the streams'
-/// histories, which have the calls of the sessions and recorders alone; each player's items in them keep the viewer's law; what was sent
-/// begins what is owed; and a recording is the text of the items that its own Takes were sent. Each push of a session was answered Pushed,
-/// each End Ended, and none of its Takes and Leaves NotPlayer. Of a run with a player over HTTP or an edge it says nothing.
+/// The outcome of a run on one thread that opens sessions alone, as one statement. The bytes of a session's
+/// `in` lines are those that it was fed and those that wait. The units that their messages publish are its
+/// pushes. Its calls are all that bear its number in the streams' histories, which have the calls of the
+/// sessions and recorders alone. Each player's items in them keep the viewer's law. The bytes that were
+/// sent begin the bytes that are owed, and a recording is the text of the items that its own Takes were
+/// sent. Each push of a session was answered Pushed, each End Ended, and none of its Takes and Leaves
+/// NotPlayer. Of a run with a player over HTTP or an edge it says nothing.
 pub fn what_a_run_comes_to()
     ensures start { Runs (λ _. []) start }
     ensures line { (line : ReplayLine) (s t : SceneState) (given : ℕ → List ℕ) → allows line (stand_of s) ≡ true → Does line s t → Runs given s

@@ -25,7 +25,8 @@ pub record AreLines (script : List ℕ) (lines : List Line) : Type 0 where
   pub clean : EachWithoutFeed lines
   pub joined : (with_feeds lines ≡ script) ⊎ ((with_feeds lines ≡ script ++ 10 ∷ []) × EndsWithBytes lines)
 
--- each line ends, its LF included, after so many of the script's `total` bytes, where the first of the lines begins after `start` of them
+-- each line ends, its LF included, after so many of the script's `total` bytes, where the first of the lines
+-- begins after `start` of them
 abbrev pub EndFrom : ℕ → ℕ → List Line → Type 0
 EndFrom total start [] = Unit {0}
 EndFrom total start (line ∷ lines) = (line.end ≡ min (start + length line.text + 1) total) × EndFrom total (start + length line.text + 1) lines

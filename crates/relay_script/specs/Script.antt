@@ -30,6 +30,7 @@ lines_from place line (c ∷ cs) =
 abbrev pub lines : List ℕ → List Line
 lines script = lines_from 0 [] script
 
--- what a line of a script says, by what its text means: one that contains a byte past the first 2^28 is outside the grammar
+-- what a line of a script says, by what its text means: one that contains a byte past the first 2^28 is
+-- outside the grammar
 abbrev pub line_says : {L : Type 0} → (List ℕ → Option L) → Line → Option L
 line_says meaning line = if nat_le line.end (2 ^ 28) then meaning line.text else None

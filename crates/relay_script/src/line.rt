@@ -13,23 +13,23 @@ use std::alloc::Global;
 use stream_model::{Call, Entry, ShortName, StreamLimits, is_name};
 use thiserror::Error;
 
-/// What a line of a drill's script says.
+/// The meaning of a line of a drill's script.
 #[derive(Drop)]
 pub enum DrillLine {
     /// An empty line or a comment.
     Nothing,
     /// The limits of the stream, or of each slot of the pool.
     Ring(StreamLimits),
-    /// The script is of a pool with so many slots.
+    /// The script is of a pool with that number of slots.
     Pool(u32),
     /// A call, made before its caller was fed any byte.
     Step(Entry),
-    /// What the stream or the pool holds.
+    /// The bytes that the stream or the pool holds.
     Held,
 }
 
 /// Why a line gives nothing.
-#[derive(Clone, Copy, Debug, PartialEq, Eq, Error)]
+#[derive(Clone, Copy, Debug, Error)]
 pub enum LineFail {
     /// The line has none of the forms of a line, or has more than 65,536 bytes.
     #[error("no line of a script")]
@@ -110,7 +110,7 @@ fn first_space(text: &[u8]) -> Option<usize>
     text.iter().position(|c| *c == b' ')
 }
 
-// The first word, and what follows the space after it.
+// Returns the first word, and the text that follows the space after it.
 pub(crate) fn first_word(text: &[u8]) -> (&[u8], Option<&[u8]>)
     ensures word { result.0.now ≡ (first_word text.now).word }
     ensures rest { option_copied result.1 ≡ (first_word text.now).rest }
@@ -162,7 +162,7 @@ fn want_of(word: &[u8]) -> Option<Want>
     Some(Want { audio, video })
 }
 
-/// The word, where it is a name: 1 to 64 letters, digits, `.`, `_` or `-`.
+/// Returns the word if it is a name: 1 to 64 letters, digits, `.`, `_` or `-`.
 pub(crate) fn name_of(word: &[u8]) -> Option<&[u8]>
     ensures value { option_copied result ≡ name_of word.now }
     ensures few { IfSome result (λ name. length name.now ≤ 64) }
@@ -469,18 +469,19 @@ fn worded_line(alloc: Global, word: &[u8], rest: Option<&[u8]>) -> Result<DrillL
     plain_line(word, rest).ok_or(LineFail::Outside)
 }
 
-/// What a line of a drill's script says, its LF left out.
+/// Returns the meaning of a line of a drill's script, its LF left out.
 ///
-/// The answer is `Outside` exactly where the line has none of the forms of a line, or has more than
-/// 65,536 bytes. A line that begins with `#` is a comment. The other forms are `ring BYTES ITEMS PLAYERS`, `pool SLOTS`,
-/// `begin WHO`, `begin WHO NAME`, `push WHO KIND TIME LEN`, `end WHO`, `join WHO`, `join WHO NAME`, `take WHO PLAYER WANT`,
-/// `leave WHO PLAYER`, `count` and `held`, with one space between two words. BYTES is at most 268,435,456, ITEMS
-/// 1 to 65,536, PLAYERS 1 to 256, and SLOTS 1 to 64. WHO and TIME are below 2^32, PLAYER is below 256, and LEN is at most
-/// what a unit of that KIND has; TIME is in milliseconds, and LEN in bytes, which are all 0. NAME is 1 to 64 letters, digits,
-/// `.`, `_` or `-`. Numbers are decimal, without a sign or a leading zero. Where in a script a line may stand is no matter
+/// The answer is `Outside` exactly if the line has none of the forms of a line, or has more than 65,536
+/// bytes. A line that begins with `#` is a comment. The other forms are `ring BYTES ITEMS PLAYERS`, `pool
+/// SLOTS`, `begin WHO`, `begin WHO NAME`, `push WHO KIND TIME LEN`, `end WHO`, `join WHO`, `join WHO NAME`,
+/// `take WHO PLAYER WANT`, `leave WHO PLAYER`, `count` and `held`, with one space between two words. BYTES
+/// is at most 268,435,456, ITEMS 1 to 65,536, PLAYERS 1 to 256, and SLOTS 1 to 64. WHO and TIME are below
+/// 2^32, PLAYER is below 256, and LEN is at most the length that a unit of that KIND has. TIME is in
+/// milliseconds, and LEN in bytes, which are all 0. NAME is 1 to 64 letters, digits, `.`, `_` or `-`.
+/// Numbers are decimal, without a sign or a leading zero. The place of a line in a script is no matter
 /// here.
 ///
-/// `OutOfMemory` comes only at a push, and where a name is given.
+/// `OutOfMemory` comes only at a push, and if a name is given.
 pub fn drill_line(alloc: Global, line: &[u8]) -> Result<DrillLine, LineFail>
     ensures says { IfOk result (λ l. meaning line.now ≡ Some l) }
     ensures outside { (result ≡ Err LineFail.Outside) ↔ (meaning line.now ≡ None) }

@@ -21,7 +21,7 @@ use std::alloc::Global;
 use stream_model::is_name;
 
 /// Whom a key lets in.
-#[derive(Clone, Copy, Debug, PartialEq, Eq)]
+#[derive(Clone, Copy)]
 pub enum Side {
     /// Publishers.
     Publish,
@@ -30,7 +30,7 @@ pub enum Side {
 }
 
 /// How a recording is written.
-#[derive(Clone, Copy, Debug, PartialEq, Eq)]
+#[derive(Clone, Copy)]
 pub enum Form {
     /// As an FLV file.
     Flv,
@@ -38,8 +38,8 @@ pub enum Form {
     Ts,
 }
 
-/// What a line of a replay's script says. Sessions, recorders, streams and open tables are numbered from 0; players over HTTP and edges are
-/// numbered among the sessions.
+/// The meaning of a line of a replay's script. Sessions, recorders, streams and open tables are numbered
+/// from 0; players over HTTP and edges are numbered among the sessions.
 #[derive(Drop)]
 pub enum ReplayLine {
     /// An empty line or a comment.
@@ -69,12 +69,13 @@ pub enum ReplayLine {
         mode: Mode,
         key: Bytes,
     },
-    /// An open table, with so many names at a time.
+    /// An open table, with at most `names` names at a time.
     OpenApp {
         app: Bytes,
         names: u32,
     },
-    /// A further key of an open table for that side. In modes `Digest` and `Named` it is the 32 bytes that its digits name.
+    /// A further key of an open table for that side. In modes `Digest` and `Named` it is the 32 bytes that
+    /// its digits name.
     GuardOpen {
         table: u32,
         side: Side,
@@ -90,7 +91,8 @@ pub enum ReplayLine {
     Session,
     /// A player over HTTP, with room for all that is sent.
     OpenHttp,
-    /// An edge that publishes at a stream what another relay has under these names, with room for all that is sent.
+    /// An edge that publishes at a stream the content of another relay's stream under these names, with
+    /// room for all that is sent.
     OpenEdge {
         stream: u32,
         app: Bytes,
@@ -103,7 +105,7 @@ pub enum ReplayLine {
     },
     /// The session's link ends after its pieces.
     Eof(u32),
-    /// How many bytes the session may still send, None where all.
+    /// The number of bytes that the session may still send, None for all.
     Room {
         session: u32,
         left: Option<u64>,
@@ -114,17 +116,17 @@ pub enum ReplayLine {
     FailSend(u32),
     /// The recorder's next put fails.
     FailPut(u32),
-    /// So many turns of the session.
+    /// A number of turns of the session.
     Turn {
         session: u32,
         count: u32,
     },
-    /// So many turns of the recorder.
+    /// A number of turns of the recorder.
     Rec {
         recorder: u32,
         count: u32,
     },
-    /// So many rounds: a turn of each session that hasn't ended, then one of each recorder.
+    /// A number of rounds: a turn of each session that hasn't ended, then one of each recorder.
     All(u32),
     /// The session quits.
     Quit(u32),
@@ -753,20 +755,22 @@ fn worded_line(alloc: Global, word: &[u8], rest: Option<&[u8]>) -> Result<Replay
     plain_line(word, rest).ok_or(LineFail::Outside)
 }
 
-/// What a line of a replay's script says, its LF left out.
+/// Returns the meaning of a line of a replay's script, its LF left out.
 ///
-/// The answer is `Outside` exactly where the line has none of the forms of a line, or has more than
-/// 65,536 bytes. A line that begins with `#` is a comment. The other forms, with one space between two words, are
-/// `limits M R N P W`, `stream APP NAME`, `guard S ROLE MODE KEY`, `openapp APP N`, `guardopen O ROLE MODE KEY`,
-/// `record S FORM`, `open`, `openhttp`, `openedge S APP NAME`, `in S HEX`, `eof S`, `room S N`, `room S all`, `failrecv S`,
-/// `failsend S`, `failput R`, `turn S K`, `rec R K`, `all K` and `quit S`.
+/// The answer is `Outside` exactly if the line has none of the forms of a line, or has more than 65,536
+/// bytes. A line that begins with `#` is a comment. The other forms, with one space between two words, are
+/// `limits M R N P W`, `stream APP NAME`, `guard S ROLE MODE KEY`, `openapp APP N`, `guardopen O ROLE MODE
+/// KEY`, `record S FORM`, `open`, `openhttp`, `openedge S APP NAME`, `in S HEX`, `eof S`, `room S N`, `room
+/// S all`, `failrecv S`, `failsend S`, `failput R`, `turn S K`, `rec R K`, `all K` and `quit S`.
 ///
-/// M is 4,096 to 4,194,304, R in `limits` at most 268,435,456, N there 1 to 65,536, P 1 to 256, and W 1,000 to 2^31 - 1.
-/// APP and NAME are 1 to 64 letters, digits, `.`, `_` or `-`. N in `openapp` is 1 to 64. ROLE is `publish` or `play`. MODE is
-/// `plain`, and KEY has the form of NAME, or `digest`, and KEY is 64 lower-case hexadecimal digits; in `guardopen` it may be
-/// `named` too, with a KEY of such digits. FORM is `flv` or `ts`. S, O and the R of a recorder are below 2^32, N in `room` below 2^64, and K is 1 to 1,000,000. HEX is an even number of lower-case hexadecimal digits, at least two. Numbers
-/// are decimal, without a sign or a leading zero. Where in a script a line may stand, and whether what it names is there, is
-/// no matter here.
+/// M is 4,096 to 4,194,304, R in `limits` at most 268,435,456, N there 1 to 65,536, P 1 to 256, and W 1,000
+/// to 2^31 - 1. APP and NAME are 1 to 64 letters, digits, `.`, `_` or `-`. N in `openapp` is 1 to 64. ROLE
+/// is `publish` or `play`. MODE is `plain`, and KEY has the form of NAME, or `digest`, and KEY is 64
+/// lower-case hexadecimal digits. In `guardopen` it may be `named` too, with a KEY of such digits. FORM is
+/// `flv` or `ts`. S, O and the R of a recorder are below 2^32, N in `room` below 2^64, and K is 1 to
+/// 1,000,000. HEX is an even number of lower-case hexadecimal digits, at least two. Numbers are decimal,
+/// without a sign or a leading zero. The place of a line in a script is no matter here, nor whether the
+/// things that it names are there.
 ///
 /// `OutOfMemory` comes only at `stream`, `guard`, `openapp`, `guardopen`, `openedge` and `in`.
 pub fn replay_line(alloc: Global, line: &[u8]) -> Result<ReplayLine, LineFail>

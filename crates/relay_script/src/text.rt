@@ -124,7 +124,7 @@ pub fn reply_text(alloc: Global, reply: &Reply, out: &mut Bytes) -> Result<(), O
     out.append(text.as_str().as_bytes())
 }
 
-/// Adds the line of what a stream or a pool holds, with its LF. A refusal changes nothing.
+/// Adds the line of the bytes that a stream or a pool holds, with its LF. A refusal changes nothing.
 pub fn held_text(alloc: Global, bytes: u64, out: &mut Bytes) -> Result<(), OutOfMemory>
     ensures ok { OnOk result (out.new ≡ out.old ++ held_text bytes) }
     ensures err { OnErr result (out.new ≡ out.old) }
@@ -133,7 +133,7 @@ pub fn held_text(alloc: Global, bytes: u64, out: &mut Bytes) -> Result<(), OutOf
     out.append(text.as_str().as_bytes())
 }
 
-/// Reply lines can't run together: the line of a reply, and of what is held, has one LF, which stands at
+/// Reply lines can't run together: the line of a reply, and of the bytes held, has one LF, which stands at
 /// its end.
 #[tactic(auto, using(crate::proofs::OneLine::one_line, crate::proofs::OneLine::held_line))]
 pub fn reply_line_law()

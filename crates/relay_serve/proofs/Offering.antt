@@ -6,7 +6,7 @@ use Rattle.command_dialog.specs.declared.types.Ask.{Ask}
 use Rattle.command_dialog.specs.declared.types.Grant.{Grant}
 use Rattle.command_dialog.specs.declared.types.Grant.TheVariants.{NoName, Place, Refused}
 use Rattle.stream_model.specs.Names.{is_name}
-use Rattle.relay_session.specs.Grants.{Keys, granted_from, has_app, is_named, judged, stream_keys, table_keys, tables_from, takes_key}
+use Rattle.config_desk.specs.Grants.{Keys, granted_from, has_app, is_named, judged, stream_keys, table_keys, tables_from, takes_key}
 use Rattle.relay_session.specs.Places.{IsGrantThere}
 
 chosen : (count : ℕ) (b : Bool) (x y : Grant) → IsGrantThere count x → IsGrantThere count y → IsGrantThere count (if b then x else y)

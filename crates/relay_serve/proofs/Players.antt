@@ -8,7 +8,7 @@ use Rattle.relay_config.specs.declared.config.Config.{Config}
 use Rattle.relay_outside.specs.Doors.{DoorTold, with_one}
 use Rattle.relay_outside.specs.Houses.{Asked, Shut, asked_door, shut_door}
 use Rattle.relay_outside.specs.Told.{LinkCounts, LinkTold}
-use Rattle.relay_session.specs.Grants.{granted_from}
+use Rattle.config_desk.specs.Grants.{granted_from}
 use Rattle.http_worker.proofs.Booking.{settled_later}
 use Rattle.http_worker.specs.Benches.{WorkerState}
 use Rattle.relay_serve.specs.Beside.{RunsIf}

@@ -5,7 +5,7 @@ use Rattle.std.proofs.lemmas.List.Elements.{All-nil}
 use Rattle.relay_config.specs.declared.config.Config.{Config}
 use Rattle.relay_outside.specs.Doors.{DoorTold}
 use Rattle.relay_outside.specs.Told.{LinkCounts, LinkTold}
-use Rattle.relay_session.specs.Grants.{granted_from}
+use Rattle.config_desk.specs.Grants.{granted_from}
 use Rattle.relay_worker.specs.Benches.{WorkerState}
 use Rattle.relay_worker.specs.declared.bench.Bench.{Bench}
 use Rattle.relay_worker.specs.Books.{HasBooks, Works}

@@ -7,7 +7,7 @@ use Rattle.std.proofs.lemmas.List.FromFn.{map-range_with_len_more}
 use Rattle.relay_config.specs.declared.config.Config.{Config}
 use Rattle.relay_outside.specs.Doors.{DoorTold}
 use Rattle.relay_outside.specs.Houses.{Asked, Shut, asked_door, shut_door}
-use Rattle.relay_session.specs.Grants.{granted_from}
+use Rattle.config_desk.specs.Grants.{granted_from}
 use Rattle.relay_session.specs.SeatState.{GoOn}
 use Rattle.relay_worker.proofs.Booking.{settled_later}
 use Rattle.relay_worker.specs.Books.{Settled}

@@ -30,8 +30,8 @@ RunsIf fits rules root seen told counts doors desk (Some w) (Some w') = HttpRun 
 RunsIf fits rules root seen told counts doors desk None (Some w) = ⊥
 RunsIf fits rules root seen told counts doors desk (Some w) None = ⊥
 
--- ALL WORKERS OF SESSIONS HAVE RUN: they are as many, no session of theirs lives, their doors are done, and each has its books and the
--- tallies of its recorders kept
+-- ALL WORKERS OF SESSIONS HAVE RUN: they are as many, no session of theirs lives, their doors are done, and
+-- each has its books and the tallies of its recorders kept
 pub record SessionsRun {P D K Q L : Type 0} (fits : P → ℕ → Q → Type 0) (rules : P → PortRules) (root : P → Histories) (seen : Q → List Step)
     (told : L → Option LinkTold) (counts : L → LinkCounts) (doors : D → DoorTold) (desk : Ask → Grant)
     (count : Q → ℕ) (holds : K → Option (List ℕ)) (faults : K → ℕ) (ws ws' : List (WorkerState P D K Q L)) : Type 0 where

@@ -43,8 +43,8 @@ HouseCause opened.OutOfMemory before now = now ≡ before
 
 -- ---- the codes
 
--- what is seen of a report and a house: what the report holds, where it tells it, its faults, what the house tells, how its doors
--- were asked for, and under which names it gave files
+-- what is seen of a report and a house: what the report holds, where it tells it, its faults, what the house
+-- tells, how its doors were asked for, and under which names it gave files
 pub record Seen : Type 0 where
   pub held : Option (List ℕ)
   pub sink_faults : ℕ
@@ -69,8 +69,8 @@ abbrev pub WritesOrFails : List ℕ → Option (List ℕ) → ℕ → Option (Li
 WritesOrFails text held faults held' faults' = ((held' ≡ append_known held text) × (faults' ≡ faults))
     ⊎ (WritesPart text held held' × Rose faults faults')
 
--- WHAT IS SEEN WHERE ALL WERE SERVED, by what each stream and each open table was asked to the end, with what memory refused: the report, the doors that were shut
--- and the files that were kept
+-- WHAT IS SEEN WHERE ALL WERE SERVED, by what each stream and each open table was asked to the end, with what
+-- memory refused: the report, the doors that were shut and the files that were kept
 pub record Reports (config : Config) (attempts : ℕ → List Attempt) (old new : Seen) : Type 0 where
   pub counts : List (Option Counts)
   pub each : length counts ≡ places_in config
@@ -78,21 +78,24 @@ pub record Reports (config : Config) (attempts : ℕ → List Attempt) (old new 
   -- what stands at each place: a stream, or the pool of an open table
   pub streams : ℕ → Shape
   pub shaped : AreShaped config streams
-  -- the line of a place tells what the last call of its history was answered: the server's own Count. Each reply of that
-  -- history is the one that the rules give after the calls before it. Or the line tells that the history is full, and it is: the
-  -- place was asked as often as it can count
+  -- the line of a place tells what the last call of its history was answered: the server's own Count. Each
+  -- reply of that history is the one that the rules give after the calls before it. Or the line tells that
+  -- the history is full, and it is: the place was asked as often as it can count
   pub last : AllEnd streams counts attempts
   -- the histories once neither a session nor a player lived any more
   pub joined : Histories
   pub later : Later joined (tells attempts)
-  -- each worker's door was asked for with the configured address and number of links, and then that of the HTTP players with theirs
+  -- each worker's door was asked for with the configured address and number of links, and then that of the
+  -- HTTP players with theirs
   pub asked : AsksAll config config.workers old.asked new.asked
   -- the file of each recording was made under the configured name, and no other file was
   pub named : new.named ≡ with_names old.named (names_upto config config.workers)
-  -- a session or a player ended as the history of its stream was full: only where the line of its place tells that its history is
+  -- a session or a player ended as the history of its stream was full: only where the line of its place tells
+  -- that its history is
   pub worn : Bool
   pub full : worn ≡ true → (place : ℕ) × IsWorn counts place
-  -- each worker's door was shut, that of the HTTP players as the last, and what its links were sent is what they were owed
+  -- each worker's door was shut, that of the HTTP players as the last, and what its links were sent is what
+  -- they were owed
   pub shut : ShutAll config streams joined worn old.house.shut new.house.shut
   -- the file of each recording was kept, and holds what its recorder was sent
   pub kept : TellsMore (IsRecorded streams joined (tells attempts) (IsWorn counts) config.places) (recordings_upto config config.workers)

@@ -25,8 +25,9 @@ use Rattle.relay_serve.specs.Recordings.{file_name}
 abbrev pub IsLeave : Step → Type 0
 IsLeave step = (player : ℕ) × (step.0.call ≡ call.Leave player)
 
--- THE WHOLE RECORDING: the recorder joined before its stream had an item. The file is the text of all that its Takes were sent, and
--- the last of these found nothing more, after all these calls of the stream's history. The recorder left then
+-- THE WHOLE RECORDING: the recorder joined before its stream had an item. The file is the text of all that
+-- its Takes were sent, and the last of these found nothing more, after all these calls of the stream's
+-- history. The recorder left then
 pub record IsWhole (r : Label) (bytes : List ℕ) (joined : List Step) (numbers : List ℕ) (calls : List Step) : Type 0 where
   pub from_first : joined_from calls ≡ Some 0
   pub text : bytes ≡ text_in r.form (taken calls)
@@ -45,8 +46,9 @@ pub record IsWhole (r : Label) (bytes : List ℕ) (joined : List Step) (numbers 
   pub after_joined : length joined ≤ number
 
 module _ (streams : ℕ → Shape) (joined histories : Histories) (worn : ℕ → Type 0) where
-  -- WHAT A FILE HOLDS of a recording: a beginning of the text of the items that its recorder's Takes were sent. Where the file
-  -- has no faults that is the whole, unless the recorder was turned away, or the history of its stream was full
+  -- WHAT A FILE HOLDS of a recording: a beginning of the text of the items that its recorder's Takes were
+  -- sent. Where the file has no faults that is the whole, unless the recorder was turned away, or the history
+  -- of its stream was full
   pub record Records (r : Label) (bytes : List ℕ) (faults : ℕ) : Type 0 where
     -- the recorder's calls, which stand at these numbers in the history of its stream
     pub calls : List Step

@@ -35,8 +35,8 @@ abbrev pub recordings_at : ℕ → ℕ → PlaceRule → List Label
 recordings_at longest place rule =
     recording_if (file_in form.Flv rule) (recording longest place form.Flv) ++ recording_if (file_in form.Ts rule) (recording longest place form.Ts)
 
--- those of the worker with this number, of so many, where the places are numbered from `place` on: those at each place that is
--- its number, modulo the number of workers
+-- those of the worker with this number, of so many, where the places are numbered from `place` on: those at
+-- each place that is its number, modulo the number of workers
 abbrev pub own_from : ℕ → ℕ → ℕ → ℕ → List PlaceRule → List Label
 own_from longest workers worker place [] = []
 own_from longest workers worker place (rule ∷ rules) =

@@ -5,7 +5,7 @@ use Rattle.relay_config.specs.declared.config.Config.{Config}
 use Rattle.relay_outside.specs.Doors.{DoorTold, IsDone}
 use Rattle.relay_outside.specs.Houses.{Asked, Shut, shut_door}
 use Rattle.relay_outside.specs.Told.{LinkCounts, LinkTold}
-use Rattle.relay_session.specs.Grants.{granted_from}
+use Rattle.config_desk.specs.Grants.{granted_from}
 use Rattle.relay_worker.specs.Benches.{WorkerState}
 use Rattle.relay_worker.specs.Books.{HasBooks, Settled}
 use Rattle.relay_worker.specs.Running.{Label, label_of}
@@ -32,8 +32,8 @@ pub record Enlists {D K L : Type 0} (holds : K → Option (List ℕ)) (faults : 
   pub labels : map label_of w'.recorders ≡ map label_of w.recorders ++ recordings
   pub tallies : All (HasTally holds faults) w.recorders → All (HasTally holds faults) w'.recorders
 
--- A WORKER OF THE SERVER: it has that number, the configured limits and as many link places as are configured, its books are kept,
--- and its recorders are those of its recordings, each with a tally
+-- A WORKER OF THE SERVER: it has that number, the configured limits and as many link places as are
+-- configured, its books are kept, and its recorders are those of its recordings, each with a tally
 pub record IsServing (config : Config) {D K L : Type 0} (links : L → Option LinkTold) (counts : L → LinkCounts) (doors : D → DoorTold)
     (holds : K → Option (List ℕ)) (faults : K → ℕ) (number : ℕ) (w : WorkerState Streams D K (PassKnown Site Attempt) L) : Type 0 where
   pub number_is : w.terms.number ≡ number
@@ -61,9 +61,10 @@ abbrev pub AsksFor : Config → ℕ → Asked → Type 0
 AsksFor config worker asked = asked ≡ asked_of config worker
 
 module _ (config : Config) (streams : ℕ → Shape) (histories : Histories) (worn : Bool) where
-  -- THE DOOR OF A WORKER at its end, where nothing was refused for want of memory, and no session found the history of its stream
-  -- full unless `worn` says so: as many links are back as it gave, no more were out at a time than are configured, and each was sent
-  -- a beginning of what its session owes, whose calls stand in these histories
+  -- THE DOOR OF A WORKER at its end, where nothing was refused for want of memory, and no session found the
+  -- history of its stream full unless `worn` says so: as many links are back as it gave, no more were out at
+  -- a time than are configured, and each was sent a beginning of what its session owes, whose calls stand in
+  -- these histories
   pub record IsBalanced (worker : ℕ) (door : DoorTold) : Type 0 where
     pub terms : Terms
     pub number : terms.number ≡ worker

@@ -13,8 +13,9 @@ use std::sync::Wait;
 use std::thread::{Threads, join};
 use stream_registry::StreamPort;
 
-/// Each worker of sessions runs in a thread of its own, and that of the HTTP players, where there is one, in one more, until its
-/// door has closed and none of its sessions or players lives. The desk grants places of each port.
+/// Runs each worker of sessions in a thread of its own, and the worker of HTTP players, if there is one, in
+/// one more. Each runs until its door has closed and none of its sessions or players lives. The desk grants
+/// places of each port.
 pub(crate) fn run_beside<
     T: Threads + Wait + Sync,
     P: StreamPort + Send,
@@ -44,7 +45,7 @@ where
     (workers, Some(http))
 }
 
-// The worker of HTTP players in a thread of its own, or last where none can be made, and the others.
+// Runs the worker of HTTP players in a thread of its own, or last if none can be made, and the others.
 fn run_both<
     T: Threads + Wait + Sync,
     P: StreamPort + Send,

@@ -20,7 +20,7 @@ use stream_registry::{PlaceTable, PortFail, Shared, StreamPort};
 const COUNTER: u64 = 1 << 62;
 
 /// How many calls of a stream or an open table were answered so.
-#[derive(Clone, Copy, Debug, PartialEq, Eq)]
+#[derive(Clone, Copy)]
 pub(crate) struct Counts {
     pub began: u64,
     pub pushed: u64,
@@ -29,7 +29,7 @@ pub(crate) struct Counts {
     pub skips: u64,
 }
 
-// The Count of a place. None comes where it was answered that the history is full.
+// The Count of a place. There is none if the answer was that the history is full.
 fn count_one<W: Wait>(
     rt: &W,
     port: &mut Shared<PlaceTable>,
@@ -79,7 +79,8 @@ fn count_one<W: Wait>(
     unreachable!()
 }
 
-// The same. Where a recorder has found the history full, no Count is taken for an answer: a history doesn't shrink.
+// The same. If a recorder has found the history full, no Count is taken for an answer: a history doesn't
+// shrink.
 fn count_as_found<W: Wait>(
     rt: &W,
     port: &mut Shared<PlaceTable>,
@@ -99,7 +100,8 @@ fn count_as_found<W: Wait>(
     }
 }
 
-/// The Count of each of the first places, its last call. One whose history is full has none, and those in `full` are such.
+/// The Count of each of the first places, its last call. A place whose history is full has none, and the
+/// places in `full` are such.
 pub(crate) fn count_all<W: Wait>(
     rt: &W,
     alloc: Global,
@@ -151,7 +153,7 @@ fn number(alloc: Global, n: u64) -> Result<String, OutOfMemory>
     Ok(format!(in alloc; "{n}")?)
 }
 
-// Adds what was counted of a place.
+// Adds the counts of a place.
 fn append_counts(alloc: Global, text: &mut Vec<u8>, c: Counts) -> Result<(), OutOfMemory>
     ensures { OnOk result (text.new.items ≡ text.old.items ++ counts_line c.began c.pushed c.ended c.joined c.skips) }
 {
@@ -164,7 +166,7 @@ fn append_counts(alloc: Global, text: &mut Vec<u8>, c: Counts) -> Result<(), Out
     Ok(())
 }
 
-// Adds what is told of a place.
+// Adds the report's text about a place.
 fn append_told(alloc: Global, text: &mut Vec<u8>, counts: Option<Counts>) -> Result<(), OutOfMemory>
     ensures { OnOk result (text.new.items ≡ text.old.items ++ told_line (counted_if counts)) }
 {
@@ -203,7 +205,7 @@ fn append_lines(
     Ok(())
 }
 
-/// The report: a line for each of so many streams, and then one for each open table, by their places.
+/// The report: a line for each of the `streams` streams, and then one for each open table, by their places.
 pub(crate) fn report_of(
     alloc: Global,
     list: &[Option<Counts>],

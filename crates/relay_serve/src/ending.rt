@@ -1,4 +1,5 @@
-//! What comes after the workers: ports are gathered, recorders take what is left and leave, files are kept and doors shut.
+//! The steps after the workers: ports are gathered, recorders take the remaining items and leave, files are
+//! kept and doors shut.
 ghost use Rattle.std.specs.Prelude.{◌≡◌, ◌+◌, ◌≤◌, ℕ, Bool, List, [], ◌∷◌, true, false, All, Contains, None, Some, map, vec_len, IfOk, option_map};
 ghost use Rattle.std.specs.List.{range_with_len};
 ghost use Rattle.relay_outside.specs.Doors.{with_one};
@@ -23,7 +24,7 @@ use std::alloc::Global;
 use std::sync::Wait;
 use stream_registry::{PlaceTable, Shared};
 
-/// What is left of a worker.
+/// The remains of a worker.
 #[derive(Drop)]
 pub(crate) struct Left<D: Door, K: Sink> {
     pub number: u32,
@@ -31,7 +32,8 @@ pub(crate) struct Left<D: Door, K: Sink> {
     pub recorders: Vec<ServeRecorder<K>>,
 }
 
-/// What is left of all workers, whether one of them lacked memory, and whether a session found the history of its stream full.
+/// The remains of all workers, whether one of them lacked memory, and whether a session found the history
+/// of its stream full.
 #[derive(Drop)]
 pub(crate) struct AllLeft<D: Door, K: Sink> {
     pub list: Vec<Left<D, K>>,
@@ -39,8 +41,8 @@ pub(crate) struct AllLeft<D: Door, K: Sink> {
     pub worn: bool,
 }
 
-// Takes a worker apart, whose port is gathered into the first. Whether it lacked memory, and whether a session found the history
-// of its stream full.
+// Takes a worker apart, whose port is gathered into the first. Whether it lacked memory, and whether a
+// session found the history of its stream full.
 fn take_apart<D: Door, R: Rest, K: Sink>(
     config: &Config,
     first: &mut Shared<PlaceTable>,
@@ -170,8 +172,8 @@ fn is_first(end: Option<RecEnd>, from: Option<u64>) -> bool
     }
 }
 
-// The recorder leaves its stream, and gives its file. Whether it has left: nobody else has a pass then, so that it isn't busy,
-// but there may be no memory for the call.
+// The recorder leaves its stream, and gives its file. Whether it has left: nobody else has a pass then, so
+// that it isn't busy, but there may be no memory for the call.
 fn part<K: Sink>(port: &mut Shared<PlaceTable>, recorder: ServeRecorder<K>) -> (K, bool)
     requires { IsFiledBy (shared_rules port.old) recorder }
     ensures rules { shared_rules port.new ≡ shared_rules port.old }
@@ -187,8 +189,8 @@ fn part<K: Sink>(port: &mut Shared<PlaceTable>, recorder: ServeRecorder<K>) -> (
     }
 }
 
-// What a recorder has come to: its file, whether there was memory for all of it and it was there from the first item on, and
-// whether the history of its stream was full.
+// The outcome of a recorder: its file, whether there was memory for all of it and it was there from the
+// first item on, and whether the history of its stream was full.
 #[derive(Drop)]
 struct Outcome<K: Sink> {
     file: K,
@@ -196,7 +198,7 @@ struct Outcome<K: Sink> {
     worn: bool,
 }
 
-// The recorder takes what is left of its stream, and leaves.
+// Lets the recorder take the remaining items of its stream, and leave.
 fn finish<W: Wait, K: Sink>(
     rt: &W,
     port: &mut Shared<PlaceTable>,
@@ -255,7 +257,8 @@ fn keep<H: House>(
     house.keep(name, file).is_ok()
 }
 
-// Notes that the history of the stream at a place is full, where it is. Whether there was memory for that.
+// Notes that the history of the stream at a place is full, if it is. Returns whether there was memory for
+// that.
 fn note(full: &mut Vec<u32>, place: u32, worn: bool) -> bool
     ensures kept { (q : ℕ) → Contains full.old.items q → Contains full.new.items q }
     ensures noted { result ≡ true → worn ≡ true → Contains full.new.items place }
@@ -266,8 +269,8 @@ fn note(full: &mut Vec<u32>, place: u32, worn: bool) -> bool
     full.push(place).is_ok()
 }
 
-// The recorder's last turns, after which its file is kept. Whether there was memory for all of it. Where its stream's history was
-// full, that is noted.
+// Takes the recorder's last turns, after which its file is kept. Returns whether there was memory for all
+// of it. If its stream's history was full, that is noted.
 fn end_recorder<W: Wait, H: House>(
     rt: &W,
     port: &mut Shared<PlaceTable>,
@@ -327,7 +330,7 @@ fn end_recorders<W: Wait, H: House>(
     whole
 }
 
-// Ends what is left of a worker. Whether there was memory for all of it.
+// Ends the remains of a worker. Returns whether there was memory for all of it.
 fn end_left<W: Wait, H: House>(
     rt: &W,
     port: &mut Shared<PlaceTable>,
@@ -358,8 +361,8 @@ fn end_left<W: Wait, H: House>(
     recorded & shut
 }
 
-/// Ends what is left of all workers, the last first. Whether there was memory for all of it. The places of streams whose history
-/// a recorder found full come to `full`.
+/// Ends the remains of all workers, the last first. Returns whether there was memory for all of it. The
+/// places of streams whose history a recorder found full come to `full`.
 pub(crate) fn end_all<W: Wait, H: House>(
     rt: &W,
     port: &mut Shared<PlaceTable>,

@@ -1,4 +1,5 @@
-//! The worker of HTTP players, where the configuration has an address for them: it is opened, taken apart, and its door is shut.
+//! The worker of HTTP players, if the configuration has an address for them: it is opened, taken apart, and
+//! its door is shut.
 ghost use Rattle.std.specs.Prelude.{◌≡◌, ◌≤◌, ◌+◌, if◌then◌else◌, Bool, true, false, option_map, is_some, vec_len, All, IfOk, IfSome, MatchResult};
 ghost use Rattle.relay_config.specs.Accepts.{Lawful};
 ghost use Rattle.relay_config.specs.Sum.{http_workers};
@@ -59,7 +60,7 @@ pub(crate) fn spare_ports(wanted: bool) -> usize
     if wanted { 1 } else { 0 }
 }
 
-/// One port more, where it is wanted: the last of these.
+/// Returns one port more, if it is wanted: the last of these.
 pub(crate) fn spare_port(
     wanted: bool,
     rules: &Shared<PlaceTable>,
@@ -99,7 +100,7 @@ pub(crate) fn own_port(
     ports.pop()
 }
 
-/// The worker of the HTTP players, where it has a port: with a door and a rest of the house.
+/// The worker of the HTTP players, if it has a port: with a door and a rest of the house.
 pub(crate) fn open_http<H: House>(
     alloc: Global,
     house: &mut H,
@@ -128,8 +129,8 @@ pub(crate) fn open_http<H: House>(
     Ok(Some(worker))
 }
 
-/// What is left of the worker: its door, if there was one, whether it lacked memory, and whether a player found the history of its
-/// stream full.
+/// The remains of the worker: its door, if there was one, whether it lacked memory, and whether a player
+/// found the history of its stream full.
 #[derive(Drop)]
 pub(crate) struct HttpLeft<D: Door> {
     pub door: Option<D>,

@@ -1,4 +1,4 @@
-//! What a list of recordings has.
+//! Laws of the contents of a list of recordings.
 ghost use Rattle.std.specs.Prelude.{◌≡◌, ◌<◌, ℕ, List, Some, length, slice_get, Contains};
 ghost use Rattle.relay_config.specs.Sum.{recorders_of};
 ghost use Rattle.relay_config.specs.declared.config.Config.{Config};

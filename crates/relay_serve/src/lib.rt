@@ -1,8 +1,9 @@
 //! `relay serve`: workers over shared ports, recorders, and the report of each stream.
 //!
-//! Read [`serve`] first. What stands with its codes is `specs/Ends.antt`, the report `specs/Counts.antt`, the recordings
-//! `specs/Recordings.antt`, the worker of HTTP players `specs/Http.antt`. Sockets and files are its house's. The steps of `serve` are
-//! public for `edge_serve`, which does the same beside an edge.
+//! Read [`serve`] first. Each code with its cause is in `specs/Ends.antt`, and the report in
+//! `specs/Counts.antt`. The recordings are in `specs/Recordings.antt`, and the worker of HTTP players in
+//! `specs/Http.antt`. Its house has the sockets and files. The steps of `serve` are public for
+//! `edge_serve`, which does the same beside an edge.
 #![tactic(auto)]
 
 mod beside;

@@ -14,13 +14,13 @@ const MOST: usize = 1_048_577;
 const PIECE: usize = 4096;
 
 /// Why a text wasn't read.
-#[derive(Clone, Copy, Debug, PartialEq, Eq)]
+#[derive(Clone, Copy)]
 pub enum ReadFail {
     SourceFault,
     OutOfMemory,
 }
 
-/// What a source gives to its end, or the first 1,048,577 bytes where it gives more.
+/// Reads a source to its end, or its first 1,048,577 bytes if it gives more.
 pub fn read_text<S: Source>(alloc: Global, source: &mut S) -> Result<Vec<u8>, ReadFail>
     ensures text { IfOk result (λ bytes. TakesText (S.left source.old) (S.left source.new) bytes.items) }
     ensures cause { MatchResult result (λ _. S.faults source.new ≡ S.faults source.old)

@@ -25,12 +25,12 @@ use crate::http::{
 };
 use crate::reading::{ReadFail, read_text};
 use crate::starting::{OpenFail, ServeWorker, names_of, open_workers, opens_of};
+use config_desk::PlaceDesk;
 use key_guard::Guards;
 use put_text::{PutFail, put_all};
 use relay_base::Status;
 use relay_config::{Config, ConfigFail, http_workers, read_config, report};
 use relay_outside::{Door, House, Rest, Sink, Source};
-use relay_session::PlaceDesk;
 use std::alloc::Global;
 use std::sync::Wait;
 use std::thread::Threads;
@@ -92,7 +92,7 @@ fn stream_limits(config: &Config) -> StreamLimits
     }
 }
 
-/// How it ends where nobody could be served.
+/// The ending of a server if nobody could be served.
 pub fn unopened(fail: OpenFail) -> Ending
     ensures { result ≡ unopened_as fail }
 {
@@ -102,7 +102,8 @@ pub fn unopened(fail: OpenFail) -> Ending
     }
 }
 
-/// What is ready before the first worker runs: a port of the server's own, the workers, and one port more where that was asked for.
+/// The state before the first worker runs: a port of the server's own, the workers, and one port more if
+/// that was asked for.
 #[derive(Drop)]
 pub struct Ready<D: Door, R: Rest, K: Sink> {
     pub port: Shared<PlaceTable>,
@@ -111,7 +112,8 @@ pub struct Ready<D: Door, R: Rest, K: Sink> {
     pub spare: Option<Shared<PlaceTable>>,
 }
 
-/// Asks the house for all doors, rests and files, and makes the workers, and one port more where that is wanted.
+/// Asks the house for all doors, rests and files, and makes the workers, and one port more if that is
+/// wanted.
 pub fn make_ready<H: House>(
     alloc: Global,
     config: &Config,
@@ -161,8 +163,8 @@ pub fn make_ready<H: House>(
     })
 }
 
-/// What comes after the workers, the report last. The places that are known to have a full history are handed in: the report says of
-/// each that it is.
+/// Takes the steps after the workers, the report last. The places that are known to have a full history are
+/// handed in: the report says of each that it is full.
 pub fn conclude<W: Wait, H: House, K: Sink>(
     rt: &W,
     alloc: Global,
@@ -383,24 +385,26 @@ fn end<T: Threads + Wait + Sync, H: House, S: Source, K: Sink>(
     }
 }
 
-/// Serves by a configuration: sessions over the house's links, players that speak HTTP where it has an address for them, and
-/// recorders to its files, until each door has closed and neither a session nor a player lives. It may wait.
+/// Serves by a configuration, until each door has closed and neither a session nor a player lives. It
+/// serves sessions over the house's links, players that speak HTTP if the configuration has an address for
+/// them, and recorders to its files. It may wait.
 ///
-/// The words are `serve` and the name of the file that `config` reads. The guards judge the keys of all sessions and players.
-/// Each worker has a thread, a port to the shared streams, and a door and a rest of the house. That of the HTTP players is one
-/// more, behind the others in number. The report then has a line for each stream, and then one for each open table: how many
-/// of its calls were answered so, or that its history is full.
+/// The words are `serve` and the name of the file that `config` reads. The guards judge the keys of all
+/// sessions and players. Each worker has a thread, a port to the shared streams, and a door and a rest of
+/// the house. That of the HTTP players is one more, behind the others in number. The report then has a line
+/// for each stream, and then one for each open table: how many of its calls were answered so, or that its
+/// history is full.
 ///
 /// The code is
 ///
-/// - 0 where all were served and the report is written;
-/// - 2 exactly where the words are others: nothing is read or written, and the house isn't asked;
-/// - 3 where the file couldn't be read, only where its faults rose;
-/// - 4 exactly where [`read_config`] refuses it, for another cause than memory: the report has the line of the refusal, or a
-///   beginning of it where the report's faults rose;
-/// - 5 where the report couldn't be written, only where its faults rose;
-/// - 6 where there was too little memory, also for a session, a player or a recorder;
-/// - 7 where the house had no door, no rest or no file, only where its faults rose: no worker has run.
+/// - 0 if all were served and the report is written;
+/// - 2 exactly if the words are others: nothing is read or written, and the house isn't asked;
+/// - 3 if the file couldn't be read, only if its faults rose;
+/// - 4 exactly if [`read_config`] refuses it, for another cause than memory: the report has the line of the
+///   refusal, or a beginning of it if the report's faults rose;
+/// - 5 if the report couldn't be written, only if its faults rose;
+/// - 6 if there was too little memory, also for a session, a player or a recorder;
+/// - 7 if the house had no door, no rest or no file, only if its faults rose: no worker has run.
 ///
 /// `place` is 0.
 pub fn serve<T: Threads + Wait + Sync, H: House, S: Source, K: Sink>(

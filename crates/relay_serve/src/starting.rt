@@ -1,4 +1,4 @@
-//! What is asked of the house before the first worker runs, and the workers with their recorders.
+//! The requests to the house before the first worker runs, and the workers with their recorders.
 ghost use Rattle.std.specs.Prelude.{◌≡◌, ◌<◌, ◌≤◌, All, None, length, map, vec_len, if◌then◌else◌, ◌%◌, ◌==◌, [], ◌∷◌, IfOk, MatchResult, OnOk};
 ghost use Rattle.relay_config.specs.Accepts.{Lawful};
 ghost use Rattle.relay_outside.specs.Doors.{with_one};
@@ -33,7 +33,7 @@ pub(crate) type ServeRecorder<K> = Recorder<Shared<PlaceTable>, K>;
 const RECORDERS: u64 = 1 << 60;
 
 /// Why nobody can be served.
-#[derive(Clone, Copy, Debug, PartialEq, Eq)]
+#[derive(Clone, Copy)]
 pub enum OpenFail {
     HouseFault,
     OutOfMemory,
@@ -151,7 +151,7 @@ fn open_recording<H: House>(
     Ok(())
 }
 
-// The same where the recording has a file.
+// The same if the recording has a file.
 fn open_if<H: House>(
     alloc: Global,
     house: &mut H,
@@ -209,7 +209,7 @@ fn open_place<H: House>(
     Ok(())
 }
 
-// The same where the place is one of the worker's with that number, of so many.
+// The same if the place is among those of the worker with that number.
 fn open_own_place<H: House>(
     alloc: Global,
     house: &mut H,

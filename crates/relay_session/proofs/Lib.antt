@@ -25,7 +25,6 @@ pub mod SeatSplitting
 pub mod SeatOwn
 pub mod PoolOwn
 pub mod OwnCalls
-pub mod Granting
 mod Deciding
 mod Coming
 pub mod Acting

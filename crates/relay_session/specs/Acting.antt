@@ -66,7 +66,8 @@ abbrev pub WaitsThere : {Q : Type 0} → Option (ℕ × Q) → Active → Option
 WaitsThere None g kept = Unit {0}
 WaitsThere (Some p) g kept = WaitsSo g kept
 
--- ITS CALLS ARE THOSE OF ONE THAT ASKS FOR NOTHING BUT WHAT IT WAS GRANTED, and so are the one that waits and the one by which it leaves
+-- ITS CALLS ARE THOSE OF ONE THAT ASKS FOR NOTHING BUT WHAT IT WAS GRANTED, and so are the one that waits and
+-- the one by which it leaves
 pub record Acting {Q : Type 0} (c : Core) (s : SeatState Q) : Type 0 where
   pub acts : (q : ℕ) → Acts (calls_at q s.visits)
   pub granted : HasGrant s.spot s.active s.visits

@@ -109,7 +109,8 @@ pub record Splits (kin : Kin) (place : ℕ) (pass : List Branch) (r : Made) (kin
   pub call : CallSplits kin pass (answer_of r) between grown place
   pub rests : Rests (stays place r) place between grown kin' pass'
 
--- NO PASS IS HIDDEN IN A CALL of a seat: one is split off for the seat, where it comes to the place, and one by the call
+-- NO PASS IS HIDDEN IN A CALL of a seat: one is split off for the seat, where it comes to the place, and one
+-- by the call
 pub record SplitsSo {Q : Type 0} (branches : Q → List Branch) (kin : Kin) (spot : Option (ℕ × Q)) (place : ℕ) (r : Made)
     (kin' : Kin) (spot' : Option (ℕ × Q)) : Type 0 where
   pub between : Kin

@@ -43,8 +43,9 @@ abbrev pub kept_name : Option Entry → ℕ
 kept_name None = 0
 kept_name (Some e) = name_bytes e.call
 
--- what the handshake keeps, messages in progress and the unit of the call that waits HAVE ROOM TOGETHER: no message is read before the
--- handshake has let go of all, and the message that the unit was had the room that it leaves
+-- what the handshake keeps, messages in progress and the unit of the call that waits HAVE ROOM TOGETHER: no
+-- message is read before the handshake has let go of all, and the message that the unit was had the room that
+-- it leaves
 pub record HasRoom (h : Handshake) (k : ReaderKnown) (kept : Option Entry) : Type 0 where
   pub short : k.max ≤ 4194304
   pub alone : held_of h + kept_bytes kept ≤ part_limit k.max
@@ -72,7 +73,8 @@ nearness w = 1000 - room_of w
 abbrev pub to_answer : List ℕ → ℕ
 to_answer x = 3073 - length (answered x)
 
--- what bounds the answers while input is fed, where n bytes of them wait: 16,000 for each, and for each that is still to come of
--- the handshake's; and 356 for each byte of input, since acknowledgements of at most 22 bytes come 1,000 bytes apart
+-- what bounds the answers while input is fed, where n bytes of them wait: 16,000 for each, and for each that
+-- is still to come of the handshake's; and 356 for each byte of input, since acknowledgements of at most 22
+-- bytes come 1,000 bytes apart
 abbrev pub weight : ℕ → List ℕ → InWindow → ℕ
 weight n x w = 16000 * (n + to_answer x) + 356 * nearness w

@@ -16,8 +16,8 @@ abbrev pub is_loud : List Own → Bool
 is_loud [] = false
 is_loud (c ∷ calls) = is_loud_call c || is_loud calls
 
--- SOMETHING MOVED: bytes were sent, or bytes were fed, as all are that are received, or a call was made that isn't a Take that
--- found nothing
+-- SOMETHING MOVED: bytes were sent, or bytes were fed, as all are that are received, or a call was made that
+-- isn't a Take that found nothing
 pub record HasMoved {P S : Type 0} (v w : Life P S) : Type 0 where
   pub more : List Own
   pub calls : w.parts.calls ≡ v.parts.calls ++ more

@@ -8,8 +8,8 @@ use Rattle.relay_session.specs.Feeding.{Decides, Heard}
 use Rattle.relay_session.specs.Session.{session}
 use Rattle.relay_session.specs.declared.end.End.{End}
 
--- a session of this name and window had read these messages, and its dialogue stood where they and its calls had left it, as the
--- byte behind n others of the input y DECIDED
+-- a session of this name and window had read these messages, and its dialogue stood where they and its calls
+-- had left it, as the byte behind n others of the input y DECIDED
 pub record IsDecided (who window : ℕ) (desk : Ask → Grant) (ms : List (ℕ × Message)) (calls : List Own) (max : ℕ) (y : List ℕ) (n : ℕ) (e : End) : Type 0 where
   pub heard : Heard
   pub given : heard.given ≡ ms

@@ -34,8 +34,8 @@ pub record Fixed : Type 0 where
 abbrev pub fixed_of : Core → Fixed
 fixed_of c = record { who = c.who; window = c.window; max = c.reader.max; calls = c.calls; sent = c.sent }
 
--- what a message alone changes: the messages read, the state of the dialogue, the call that waits, the outbound window, and
--- the place of the session's calls
+-- what a message alone changes: the messages read, the state of the dialogue, the call that waits, the
+-- outbound window, and the place of the session's calls
 pub record Heard : Type 0 where
   pub given : List (ℕ × Message)
   pub state : State
@@ -97,8 +97,8 @@ Decides max h y n end.LinkFault = ⊥
 Decides max h y n end.Quit = ⊥
 Decides max h y n end.Worn = ⊥
 
--- the bytes before it were fed, whose version is taken and which complete no message, and nothing else was received, sent or called;
--- unless memory was wanting the dialogue stands where it did
+-- the bytes before it were fed, whose version is taken and which complete no message, and nothing else was
+-- received, sent or called; unless memory was wanting the dialogue stands where it did
 pub record IsStopped (old : Core) (input : List ℕ) (e : End) (new : Core) : Type 0 where
   pub fed : List ℕ
   pub left : List ℕ

@@ -66,8 +66,9 @@ pub record UnitFits (hand : Option Hand) (longest max : ℕ) : Type 0 where
 abbrev pub HandFits : Core → Type 0
 HandFits c = UnitFits c.outgoing.hand c.longest c.reader.max
 
--- IT HOLDS NO MORE THAN so many bytes, where it takes messages of at most M bytes and no unit that it sends is longer than m:
--- 4,096 of input; M and 65,536 of messages in progress, with the unit of the call that waits, or of the handshake in progress; 32,768 of answers, of encoded
--- bytes, of the app and of the name that the call that waits asks for; and m
+-- IT HOLDS NO MORE THAN so many bytes, where it takes messages of at most M bytes and no unit that it sends
+-- is longer than m: 4,096 of input; M and 65,536 of messages in progress, with the unit of the call that
+-- waits, or of the handshake in progress; 32,768 of answers, of encoded bytes, of the app and of the name
+-- that the call that waits asks for; and m
 abbrev pub most_held : ℕ → ℕ → ℕ
 most_held max m = 4096 + ((max + 65536) + (32768 + m))

@@ -42,8 +42,8 @@ pub record IsIdle (call : Option Entry) (s : State) : Type 0 where
 abbrev pub after_greeting : List ℕ → ℕ → ℕ
 after_greeting sent n = n - min n (hand_bytes - length sent)
 
--- its parts have read the bytes that were fed, none has failed, the bytes sent are counted, before it has a place no call waits
--- and no role is active, and a call that waits has room
+-- its parts have read the bytes that were fed, none has failed, the bytes sent are counted, before it has a
+-- place no call waits and no role is active, and a call that waits has room
 pub record IsSound (c : Core) : Type 0 where
   pub hand : c.hand ≡ record { fed = take hand_bytes c.x; failed = None }
   pub version : bad_version c.x ≡ None
@@ -65,8 +65,9 @@ pub record IsSound (c : Core) : Type 0 where
 abbrev pub waiting : Core → Entry → Core
 waiting c e = record c { kept = Some e }
 
--- of a session that has ended so: what it sent begins what it owes before this desk for the bytes fed and its calls, and these are
--- the calls that the messages of those bytes ask for; unless memory was wanting, its dialogue stands where they left it
+-- of a session that has ended so: what it sent begins what it owes before this desk for the bytes fed and its
+-- calls, and these are the calls that the messages of those bytes ask for; unless memory was wanting, its
+-- dialogue stands where they left it
 pub record IsOver (desk : Ask → Grant) (e : End) (c : Core) : Type 0 where
   pub ms : List (ℕ × Message)
   pub read : IsRead c.reader.max (drop hand_bytes c.x) ms
@@ -75,7 +76,8 @@ pub record IsOver (desk : Ask → Grant) (e : End) (c : Core) : Type 0 where
   pub talks : Talks (session c.who c.window desk) (count_of (session c.who c.window desk) c.x) ms c.calls c.kept
   pub state : e ≢ end.OutOfMemory → c.dialog ≡ (talk (session c.who c.window desk) c.calls ms).state
 
--- between the steps of a turn: it is sound, not many answers wait, and the unit in hand is no longer than a message that it takes
+-- between the steps of a turn: it is sound, not many answers wait, and the unit in hand is no longer than a
+-- message that it takes
 pub record IsSteady (c : Core) : Type 0 where
   pub sound : IsSound c
   pub light : IsLight c.outgoing.others c.kept

@@ -12,7 +12,6 @@ pub mod Places
 pub mod Turns
 pub mod Causes
 pub mod SessionState
-pub mod Grants
 pub mod Onward
 pub mod Decided
 pub mod Coming

@@ -17,8 +17,8 @@ pub record IsSayable (m : Message) : Type 0 where
   pub can : IsWritable m
   pub sized : sets_size m ≡ true → IsSized (be32_of m.body)
 
--- sixteen times the bytes that a message has at most as chunks: 18 for its first header, and for each sixteen bytes of its body
--- one more
+-- sixteen times the bytes that a message has at most as chunks: 18 for its first header, and for each sixteen
+-- bytes of its body one more
 abbrev pub cost_of : Message → ℕ
 cost_of m = 288 + 17 * length m.body
 
@@ -43,8 +43,9 @@ pub record Goes (old : Hand) (before : List ℕ) (new : Hand) (now : List ℕ) :
   pub more : List ℕ
   pub after : now ≡ before ++ more
 
--- what contracts see of it: the bytes that are encoded, those that stand after them, the writer after all, how many of the
--- last bytes are of no item that was taken, the unit in hand, and the bytes that were encoded since that was begun
+-- what contracts see of it: the bytes that are encoded, those that stand after them, the writer after all,
+-- how many of the last bytes are of no item that was taken, the unit in hand, and the bytes that were encoded
+-- since that was begun
 pub record Owing : Type 0 where
   pub ready : List ℕ
   pub rest : List ℕ
@@ -112,8 +113,8 @@ abbrev pub IsHandSized : Option Hand → Type 0
 IsHandSized None = Unit {0}
 IsHandSized (Some h) = IsSized h.sending.size
 
--- what the fields keep: without a unit in hand nothing stands after the first bytes, and of an item no more is encoded than is
--- sent at once, and a chunk
+-- what the fields keep: without a unit in hand nothing stands after the first bytes, and of an item no more
+-- is encoded than is sent at once, and a chunk
 pub record IsOwing (first : List ℕ) (offset item : ℕ) (hand : Option Hand) (later : List ℕ) (writer : WriterKnown) : Type 0 where
   pub within : offset ≤ length first
   -- of the bytes that were sent fewer are kept than are sent at once, and none where all were

@@ -28,15 +28,15 @@ IsGrantThere count grant.Refused = Unit {0}
 abbrev pub IsOffered : (Ask → Grant) → ℕ → Type 0
 IsOffered desk count = (a : Ask) → IsGrantThere count (desk a)
 
--- a session belongs to a port of so many places: its pass was attached there, the place of its calls is there, and its calls
--- are those that were made
+-- a session belongs to a port of so many places: its pass was attached there, the place of its calls is
+-- there, and its calls are those that were made
 pub record IsAt {Q : Type 0} (fits : ℕ → Q → Type 0) (count : ℕ) (c : Core) (s : SeatState Q) : Type 0 where
   pub fit : HasFit fits s.spot
   pub there : IsThere count c.place
   pub calls : c.calls ≡ calls_of s.visits
 
--- A CALL AT A PORT was answered so: where the session is then, that the call stands once in the history there, answered by the
--- rules, or why it wasn't made, and what goes on for all others
+-- A CALL AT A PORT was answered so: where the session is then, that the call stands once in the history
+-- there, answered by the rules, or why it wasn't made, and what goes on for all others
 pub record Asked {P Q : Type 0} (fits : P → ℕ → Q → Type 0) (rules : P → PortRules) (root : P → Histories) (seen : Q → List Step) (count : Q → ℕ) (wants : Entry → Type 0) (busies : P → ℕ)
     (port : P) (seat : SeatState Q) (place : ℕ) (e : Entry) (r : Made) (port' : P) (seat' : SeatState Q) : Type 0 where
   pub spot : place_of seat'.spot ≡ stays place r
@@ -54,8 +54,8 @@ pub record Asked {P Q : Type 0} (fits : P → ℕ → Q → Type 0) (rules : P �
   pub later : busies port ≤ busies port'
   pub passes : (q : ℕ) (p : Q) → fits port q p → fits port' q p
 
--- THE SAME, AND NOTHING BESIDE IT: this call alone was added to the histories, if it was made, and no pass was split off but the
--- session's own and the one that the call took in
+-- THE SAME, AND NOTHING BESIDE IT: this call alone was added to the histories, if it was made, and no pass
+-- was split off but the session's own and the one that the call took in
 pub record AskedAlone {P Q : Type 0} (fits : P → ℕ → Q → Type 0) (rules : P → PortRules) (root : P → Histories) (seen : Q → List Step) (count : Q → ℕ) (wants : Entry → Type 0) (busies : P → ℕ)
     (adds : List Step → List Step → List Step → Type 0) (kin : P → Kin) (branches : Q → List Branch)
     (port : P) (seat : SeatState Q) (place : ℕ) (e : Entry) (r : Made) (port' : P) (seat' : SeatState Q) : Type 0 where

@@ -44,8 +44,9 @@ PlaysBy limits (Some n) past who player = Somewhere (λ s. holder s.stream.past 
 abbrev pub IsPlayer : Shape → History → ℕ → ℕ → Type 0
 IsPlayer s past who player = PlaysBy s.limits s.slots past who player
 
--- Where the calls of this name before it began a broadcast and didn't end it, a Push is answered Pushed and an End Ended. Where
--- they were given a player's place and didn't give it back, no Take or Leave of that player is answered NotPlayer
+-- Where the calls of this name before it began a broadcast and didn't end it, a Push is answered Pushed and
+-- an End Ended. Where they were given a player's place and didn't give it back, no Take or Leave of that
+-- player is answered NotPlayer
 abbrev pub FaresSo : List Step → Call → Reply → Type 0
 FaresSo before (call.Push unit) r = publishes before ≡ true → is_pushed r ≡ true
 FaresSo before call.End r = publishes before ≡ true → is_ended r ≡ true
@@ -64,8 +65,8 @@ Fares (s ∷ before) = FaresSo before s.0.call s.1 × Fares before
 
 -- ---- a caller that asks for nothing but what it was granted
 
--- A call that is made after these calls of the same name, the newest first: it publishes and ends only what that name began, and takes
--- and leaves only where it was given a player's place
+-- A call that is made after these calls of the same name, the newest first: it publishes and ends only what
+-- that name began, and takes and leaves only where it was given a player's place
 abbrev pub ActsSo : List Step → Call → Type 0
 ActsSo before (call.Push unit) = publishes before ≡ true
 ActsSo before call.End = publishes before ≡ true

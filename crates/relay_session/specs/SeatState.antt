@@ -151,8 +151,8 @@ StandsAt rules root seen port s = IsStanding (rules port).limits (known root see
 pub record GoOn (histories later : Histories) : Type 0 where
   pub at_each : (q : ℕ) → Begins (histories q) (later q)
 
--- A call stands in what is then known of a place, once, behind all that the root and the seat had known of it. Its reply is
--- the rules', after what stands before it, and all that keeps the rules
+-- A call stands in what is then known of a place, once, behind all that the root and the seat had known of
+-- it. Its reply is the rules', after what stands before it, and all that keeps the rules
 pub record Noted (limits : Shape) (root known : List Step) (step : Step) (known' : List Step) : Type 0 where
   pub before : List Step
   pub root_first : Begins root before

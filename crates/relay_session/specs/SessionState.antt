@@ -48,8 +48,8 @@ StandsBy (Some e) desk c = IsOver desk e c
 abbrev pub StandsFor : {Q : Type 0} → (Ask → Grant) → SessionState Q → Type 0
 StandsFor desk s = StandsBy s.ended desk s.parts
 
--- WHAT WAS SENT, with these bytes more, IS WHAT IS OWED before this desk: for the bytes fed, the messages that they read as, and
--- its calls with their replies
+-- WHAT WAS SENT, with these bytes more, IS WHAT IS OWED before this desk: for the bytes fed, the messages
+-- that they read as, and its calls with their replies
 pub record Owes (desk : Ask → Grant) (c : Core) (more : List ℕ) : Type 0 where
   pub ms : List (ℕ × Message)
   pub read : IsRead c.reader.max (drop hand_bytes c.x) ms
@@ -69,15 +69,16 @@ abbrev pub IsUnsent : Option End → (Ask → Grant) → Core → ℕ → Type 0
 IsUnsent None desk c n = (more : List ℕ) × (Owes desk c more × (n ≡ length more))
 IsUnsent (Some e) desk c n = BeginsOwed desk c
 
--- THE UNITS PUBLISHED by the messages of the bytes fed, as the dialogue makes calls of them, are those of its calls, and that of
--- the call that waits: none is lost, and none published twice
+-- THE UNITS PUBLISHED by the messages of the bytes fed, as the dialogue makes calls of them, are those of its
+-- calls, and that of the call that waits: none is lost, and none published twice
 pub record Publishes (desk : Ask → Grant) (c : Core) : Type 0 where
   pub ms : List (ℕ × Message)
   pub read : IsRead c.reader.max (drop hand_bytes c.x) ms
   pub units : pushed_by c.calls ++ pushed_in c.kept ≡ published (session c.who c.window desk) ms c.calls
 
--- ALL OF THAT TOGETHER, for the messages that the bytes fed read as: what was sent begins what is owed for them and its calls, its calls
--- but the Takes, with the one that waits, are those that they ask for, and so its pushes are the units that they publish
+-- ALL OF THAT TOGETHER, for the messages that the bytes fed read as: what was sent begins what is owed for
+-- them and its calls, its calls but the Takes, with the one that waits, are those that they ask for, and so
+-- its pushes are the units that they publish
 pub record IsWhole (desk : Ask → Grant) (c : Core) : Type 0 where
   pub ms : List (ℕ × Message)
   pub read : IsRead c.reader.max (drop hand_bytes c.x) ms
@@ -86,8 +87,8 @@ pub record IsWhole (desk : Ask → Grant) (c : Core) : Type 0 where
   pub talks : Talks (session c.who c.window desk) (count_of (session c.who c.window desk) c.x) ms c.calls c.kept
   pub units : pushed_by c.calls ++ pushed_in c.kept ≡ published (session c.who c.window desk) ms c.calls
 
--- ITS CALLS STAND IN THE ORDER OF THEIR PLACES, which are among the bytes fed, and each of its Takes was made while a play was granted,
--- by the dialogue over the messages of the bytes fed
+-- ITS CALLS STAND IN THE ORDER OF THEIR PLACES, which are among the bytes fed, and each of its Takes was made
+-- while a play was granted, by the dialogue over the messages of the bytes fed
 pub record Rises (desk : Ask → Grant) (c : Core) : Type 0 where
   pub ms : List (ℕ × Message)
   pub read : IsRead c.reader.max (drop hand_bytes c.x) ms

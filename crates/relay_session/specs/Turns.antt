@@ -92,8 +92,9 @@ pub record IsFilled (old new : Core) : Type 0 where
   pub others : new.outgoing.others ≡ old.outgoing.others
   pub let_go : IsUnfinished new.outgoing.hand
 
--- a step goes on from where the one before it stood: where what was sent and what is pending was what is owed before this desk, it is so
--- after it, the messages read are those of the bytes fed, the version that its peer sent is taken, and the bytes fed are counted
+-- a step goes on from where the one before it stood: where what was sent and what is pending was what is owed
+-- before this desk, it is so after it, the messages read are those of the bytes fed, the version that its
+-- peer sent is taken, and the bytes fed are counted
 pub record StandsOnBefore (desk : Ask → Grant) (old new : Core) : Type 0 where
   pub stands : StandsBefore desk old → StandsBefore desk new
   pub read : IsRead new.reader.max (drop hand_bytes new.x) new.reader.given
@@ -129,7 +130,8 @@ pub record IsEnded {P S : Type 0} (e : End) (v : Life P S) (a : Turn) (w : Life 
   pub port : w.port ≡ v.port
   pub seat : w.seat ≡ v.seat
 
--- what a turn leaves: a session that lives is sound and stands for its past, of one that ended what was sent begins what it owes
+-- what a turn leaves: a session that lives is sound and stands for its past, of one that ended what was sent
+-- begins what it owes
 abbrev pub Lives : Core → Turn → Type 0
 Lives c Moved = IsSteady c
 Lives c Idle = IsSteady c

@@ -20,7 +20,7 @@ use command_dialog::{Act, Dialog, DialogFail, Grant, Meant, begin_messages, end_
 use std::alloc::Global;
 use stream_model::{Entry, Reply};
 
-// Why a message without a meaning ends the session, where its last byte is at this place.
+// Returns why a message without a meaning ends the session. `at` is the place of its last byte.
 fn end_of(fail: DialogFail, at: u64) -> End
     ensures { Some result ≡ ended_by at (Err fail) }
 {
@@ -31,7 +31,7 @@ fn end_of(fail: DialogFail, at: u64) -> End
     }
 }
 
-// Sets the windows where a control says so, and heeds an acknowledgement.
+// Sets the windows if a control says so, and heeds an acknowledgement.
 fn heed(inbound: &mut Inbound, outbound: &mut Outbound, control: Control)
     ensures inbound { inbound.new ≡ record { window = windowed inbound.old.window control; taken = inbound.old.taken } }
     ensures outbound { outbound.new ≡ outbound_after outbound.old control }
@@ -72,7 +72,7 @@ pub(crate) struct Asked {
     pub place: Option<u32>,
 }
 
-// The place that an act names, or the one before.
+// Returns the place that an act names, or the one before.
 fn place_after(place: Option<u32>, act: &Option<Act>) -> Option<u32>
     ensures { result ≡ place_after place act.now }
 {
@@ -86,7 +86,7 @@ fn place_after(place: Option<u32>, act: &Option<Act>) -> Option<u32>
     }
 }
 
-// The call that an act is, as an entry.
+// Returns the call of an act as an entry.
 fn entry(alloc: Global, who: u64, at: u64, act: Option<Act>) -> Result<Option<Entry>, OutOfMemory>
     ensures { IfOk result (λ e. e ≡ entry_by who at (option_map call_of act)) }
 {
@@ -99,7 +99,7 @@ fn entry(alloc: Global, who: u64, at: u64, act: Option<Act>) -> Result<Option<En
     }
 }
 
-// The grant of a message that asks for one.
+// Returns the grant of a message that asks for one.
 fn granted<D: Desk>(desk: &D, meant: &Meant) -> Option<Grant>
     ensures { result ≡ dialog.granted (D.grants desk.now) meant.now }
 {
@@ -109,7 +109,7 @@ fn granted<D: Desk>(desk: &D, meant: &Meant) -> Option<Grant>
     }
 }
 
-// Does what a message that is no control says, where its last byte is at the place `last`.
+// Does what a message says that is no control. `last` is the place of its last byte.
 fn answer_command<D: Desk>(
     alloc: Global,
     desk: &D,
@@ -143,8 +143,9 @@ fn answer_command<D: Desk>(
     }
 }
 
-/// Does what a message says, where its last byte is at the place `last`. What it is answered is to be sent, the windows
-/// that it sets hold from the next byte on, and the call that it asks for is given, made at the count `at`.
+/// Does what a message says. `last` is the place of its last byte. Its answers are to be sent, and the
+/// windows that it sets hold from the next byte on. The call that it asks for is returned, made at the count
+/// `at`.
 #[tactic(auto, unfolding(crate::specs::Session::does, crate::specs::Session::refused, crate::specs::Session::outbound_by, crate::specs::Session::place_by, session_owed::specs::Acks::window_by))]
 pub(crate) fn answer<D: Desk>(
     alloc: Global,
@@ -192,7 +193,7 @@ pub(crate) fn answer<D: Desk>(
     }
 }
 
-/// Does what the reply to the call that waits makes: what it is answered is to be sent.
+/// Takes in the reply to the call that waits: its answers are to be sent.
 #[tactic(auto, unfolding(crate::specs::Session::told))]
 pub(crate) fn hear(
     alloc: Global,
@@ -211,7 +212,7 @@ pub(crate) fn hear(
     }
 }
 
-// The item that a reply brings.
+// Returns the item that a reply brings.
 fn item_of(reply: Reply) -> Option<Item>
     ensures { result ≡ item_in reply }
 {
@@ -233,7 +234,7 @@ fn item_of(reply: Reply) -> Option<Item>
     }
 }
 
-// What a player on that message stream is shown of an item is to be sent.
+// Says the messages by which a player on that message stream is shown an item.
 fn show(
     alloc: Global,
     id: u32,
@@ -259,9 +260,9 @@ fn show(
     }
 }
 
-/// Does what the reply to a Take makes, for a player on that message stream who has nothing to be sent: what the player is
-/// shown of the item is to be sent. A reply that brings no item owes nothing. There is no memory for a unit of more than
-/// `longest` bytes.
+/// Takes in the reply to a Take, for a player on that message stream that has nothing to be sent. The
+/// messages by which the player is shown the item are to be sent. A reply that brings no item owes nothing. A
+/// unit of more than `longest` bytes is refused as out of memory.
 pub(crate) fn take_in(
     alloc: Global,
     id: u32,

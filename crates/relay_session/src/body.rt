@@ -2,7 +2,7 @@ use crate::input::Input;
 use crate::{Core, Seat};
 use stream_registry::StreamPort;
 
-/// A session that lives: what it keeps, the bytes received and not fed, and where it stands at the streams.
+/// A session that lives: its state, the bytes received and not fed, and its seat at the streams.
 #[derive(Drop)]
 pub(crate) struct Body<P: StreamPort> {
     pub(crate) core: Core,

@@ -17,21 +17,21 @@ use std::snapshot::Snapshot;
 use stream_model::{Call, Entry, Reply};
 use stream_registry::StreamPort;
 
-/// The answer of a turn that moved something, or that did nothing.
+/// Returns the answer of a turn that moved something, or that did nothing.
 pub(crate) fn answer_of(moved: bool) -> Turn
     ensures { result ≡ answer moved }
 {
     if moved { Turn::Moved } else { Turn::Idle }
 }
 
-/// Either of the two.
+/// Returns whether either of the two holds.
 pub(crate) fn either(a: bool, b: bool) -> bool
     ensures { result ≡ (a || b) }
 {
     a || b
 }
 
-// Whether a reply finds nothing for the player.
+// Returns whether a reply finds nothing for the player.
 fn finds_nothing(reply: &Reply) -> bool
     ensures { result ≡ is_not_yet reply.now }
 {
@@ -53,15 +53,15 @@ fn finds_nothing(reply: &Reply) -> bool
     }
 }
 
-// A call waits.
+// Keeps a call, which waits.
 fn keep(core: &mut Core, entry: Entry)
     ensures { core.new ≡ waiting core.old entry }
 {
     core.kept = Some(entry);
 }
 
-/// Makes a call that waited until then, and hears its reply. True where it was made, false where the port was busy: then it
-/// waits on.
+/// Makes a call that waited until then, and takes in its reply. Returns true if it was made, and false if the
+/// port was busy: then it waits on.
 pub(crate) fn make<P: StreamPort>(
     body: &mut Body<P>,
     port: &mut P,
@@ -101,7 +101,7 @@ pub(crate) fn make<P: StreamPort>(
     }
 }
 
-/// Makes a Take, where it plays, no call waits and nothing is pending, and hears its reply.
+/// Makes a Take if it plays, no call waits and nothing is pending, and takes in its reply.
 pub(crate) fn take<P: StreamPort>(
     body: &mut Body<P>,
     port: &mut P,

@@ -6,9 +6,12 @@ use past::{Flow, Pair};
 use rtmp_handshake::Hand;
 use stream_model::{Entry, Reply};
 
-/// What a session keeps of its peer's bytes and of what it owes. `longest` is how many bytes its longest message has, and so
-/// its longest unit. `place` is the place of its calls, `greeting` how many bytes of the handshake's answer aren't sent yet.
-/// `x`, the bytes fed, `calls`, its own calls with their replies, and `sent`, the bytes sent, are of no bytes.
+/// The state that a session keeps of its peer's bytes and of the bytes that it owes. `longest` is the number
+/// of bytes of its longest message, and so of its longest unit. `place` is the place of its calls, `greeting`
+/// the number of bytes of the handshake's answer that aren't sent yet.
+///
+/// These fields take no bytes: `x`, the bytes fed, `calls`, its own calls with their replies, and `sent`, the
+/// bytes sent.
 #[derive(Drop)]
 pub struct Core {
     pub who: u64,

@@ -4,11 +4,12 @@ ghost use Rattle.command_dialog.specs.declared.types.Grant.{Grant as AGrant};
 
 use command_dialog::{Ask, Grant};
 
-/// What says which publishes and plays are granted, and at which places. It always answers the same.
+/// An authorizer: it says which publishes and plays are granted, and at which places. It always answers the
+/// same.
 pub trait Desk {
     ghost grants: { Self → AnAsk → AGrant };
 
-    /// What is granted to a publish or play.
+    /// Returns the grant for a publish or play.
     fn grant(&self, ask: &Ask) -> Grant
         ensures { result ≡ grants self.now ask.now };
 }

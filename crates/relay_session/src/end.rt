@@ -2,8 +2,8 @@ use chunk_reader::ReadCause;
 use std::error::Error;
 use std::fmt;
 
-/// Why a session ends. A place is the number of the peer's bytes before the byte that decides, those of the handshake
-/// among them.
+/// The reason why a session ends. A place is the number of the peer's bytes before the byte that decides,
+/// those of the handshake among them.
 #[derive(Clone, Copy, Debug, PartialEq, Eq)]
 pub enum End {
     /// The peer has closed the link.
@@ -22,9 +22,9 @@ pub enum End {
     TooManyStreams { at: u64 },
     /// It was told to end.
     Quit,
-    /// The stream has had as many calls as it can count.
+    /// The stream has had the largest number of calls that it can count.
     Worn,
-    /// Want of memory.
+    /// Memory was refused.
     OutOfMemory,
 }
 

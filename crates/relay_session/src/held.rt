@@ -7,7 +7,7 @@ use crate::Core;
 use crate::input::Input;
 use stream_model::{Call, Entry};
 
-// How many bytes the unit has that a call publishes.
+// Returns the number of bytes of the unit that a call publishes, or 0.
 fn call_bytes(call: &Call) -> usize
     ensures { result ≡ call_bytes call.now }
 {
@@ -24,7 +24,7 @@ fn call_bytes(call: &Call) -> usize
     }
 }
 
-// The same of the call that waits, if there is one.
+// Returns the number of bytes of the unit that the call that waits publishes, or 0.
 fn kept_bytes(kept: &Option<Entry>) -> usize
     ensures { result ≡ kept_bytes kept.now }
 {
@@ -34,7 +34,7 @@ fn kept_bytes(kept: &Option<Entry>) -> usize
     }
 }
 
-// How many bytes the name has that a call asks for.
+// Returns the number of bytes of the name that a call asks for, or 0.
 fn name_bytes(call: &Call) -> usize
     ensures value { result ≡ name_bytes call.now }
     ensures most { result ≤ 64 }
@@ -52,7 +52,7 @@ fn name_bytes(call: &Call) -> usize
     }
 }
 
-// The same of the call that waits, if there is one.
+// Returns the number of bytes of the name that the call that waits asks for, or 0.
 fn kept_name(kept: &Option<Entry>) -> usize
     ensures value { result ≡ kept_name kept.now }
     ensures most { result ≤ 64 }
@@ -63,7 +63,7 @@ fn kept_name(kept: &Option<Entry>) -> usize
     }
 }
 
-/// How many bytes a session with this input holds.
+/// Returns the number of bytes that a session with this input holds.
 pub(crate) fn held_in(core: &Core, input: &Input) -> u64
     requires room { HasRoom core.now.hand core.now.reader core.now.kept }
     requires light { IsLight core.now.outgoing.others core.now.kept }
@@ -83,7 +83,7 @@ pub(crate) fn held_in(core: &Core, input: &Input) -> u64
     app + kept + name + unit + later + ready + parts + input + hand
 }
 
-/// How many bytes a session is to send.
+/// Returns the number of bytes that a session is to send.
 pub(crate) fn pending_in(core: &Core) -> u64
     requires { IsLight core.now.outgoing.others core.now.kept }
     ensures { result ≡ length (pending core.now.outgoing) }

@@ -5,7 +5,8 @@ use av_unit::{Bytes, OutOfMemory};
 use std::alloc::Global;
 use std::marker::Model;
 
-/// The bytes that were received and not fed yet, at most 4,096. Contracts see their list. Where all were fed none are kept.
+/// The bytes that were received and not fed yet, at most 4,096. Contracts see their list. If all were fed
+/// none are kept.
 #[derive(Drop)]
 pub(crate) struct Input {
     bytes: Bytes,
@@ -23,7 +24,7 @@ impl Model for Input {
 }
 
 impl Input {
-    /// Nothing was received.
+    /// Makes an input without bytes.
     pub(crate) fn new(alloc: Global) -> Input
         ensures { result ≡ [] }
     {
@@ -33,7 +34,7 @@ impl Input {
         }
     }
 
-    /// Bytes came, where none were left.
+    /// Receives bytes, if none are left.
     pub(crate) fn receive(&mut self, alloc: Global, bytes: &[u8]) -> Result<(), OutOfMemory>
         requires { length bytes.now ≤ 4096 }
         ensures { OnOk result (self.new ≡ bytes.now) }
@@ -45,7 +46,7 @@ impl Input {
         Ok(())
     }
 
-    /// The bytes that are left.
+    /// Returns the bytes that are left.
     pub(crate) fn left(&self) -> &[u8]
         ensures value { result.now ≡ self.now }
         ensures short { length self.now ≤ 4096 }
@@ -53,7 +54,7 @@ impl Input {
         &self.bytes.as_slice()[self.offset..]
     }
 
-    /// The first of them were fed. Where none are left nothing is kept.
+    /// Removes the first `count` bytes, which were fed. If none are left no memory is kept.
     pub(crate) fn used(&mut self, alloc: Global, count: usize)
         requires { count ≤ length self.old }
         ensures { self.new ≡ drop count self.old }
@@ -67,7 +68,7 @@ impl Input {
     }
 }
 
-/// Whether there are any bytes.
+/// Returns whether there are no bytes.
 pub(crate) fn is_empty(bytes: &[u8]) -> bool
     ensures { result ≡ is_nil bytes.now }
 {

@@ -2,8 +2,9 @@
 //!
 //! The section numbers are those of Adobe's RTMP 1.0.
 //!
-//! Read `Session::turn` first. Its steps are `specs/Turns.antt`, its ends with their causes `specs/Causes.antt`, what it holds
-//! `specs/Holding.antt`. It knows no other session: they meet at a port.
+//! Read `Session::turn` first. Its steps are `specs/Turns.antt`, its ends with their causes
+//! `specs/Causes.antt`, and the bytes that it holds `specs/Holding.antt`. It knows no other session: they
+//! meet at a port.
 #![tactic(auto)]
 
 mod answers;
@@ -15,8 +16,8 @@ mod end;
 mod end_law;
 mod held;
 mod input;
+mod met;
 mod outgoing;
-mod place_desk;
 mod refill;
 mod seat;
 mod seat_answers;
@@ -32,8 +33,8 @@ pub use core_fields::Core;
 pub use desk::Desk;
 pub use end::End;
 pub use end_law::decided_law;
+pub use met::Met;
 pub use outgoing::Outgoing;
-pub use place_desk::{PlaceDesk, grants_law};
 pub use seat::Seat;
 pub use seat_answers::{Active, Leaving, Made};
 pub use seat_law::{alone_law, items_law, own_calls_law};

@@ -13,17 +13,19 @@ use chunk_writer::Writer;
 use std::alloc::Global;
 use std::marker::Model;
 
-/// How many bytes are sent at once, at most.
+/// The largest number of bytes that are sent at once.
 pub(crate) const AT_ONCE: usize = 16_384;
 
-// How many bytes of a unit are encoded at the same time, at most: those that are sent at once, and a chunk.
+// The largest number of bytes of a unit that are encoded at the same time: those that are sent at once, and a
+// chunk.
 const READY_MOST: usize = 20_498;
 
-/// What a session is to send: bytes that are encoded, the rest of a unit that is encoded as it is sent, and the bytes
-/// that stand after it.
+/// The bytes that a session is to send: those that are encoded, the rest of a unit that is encoded as it is
+/// sent, and those that stand after it.
 ///
-/// Contracts see the bytes that are encoded, those that stand after them, the writer after all, how many of the last bytes
-/// are of no item that was taken, the unit in hand, and the bytes that were encoded since that was begun.
+/// Contracts see the bytes that are encoded, those that stand after them, the writer after all, and the
+/// number of the last bytes that are of no item taken. They also see the unit in hand, and the bytes that
+/// were encoded since that was begun.
 #[derive(Drop)]
 pub struct Outgoing {
     writer: Writer,
@@ -61,7 +63,7 @@ fn write_all(writer: &mut Writer, messages: &[Message], out: &mut Bytes) -> Resu
     Ok(())
 }
 
-// How many bytes are left of the unit in hand, if there is one.
+// Returns the number of bytes left of the unit in hand, if there is one.
 fn hand_len(hand: &Option<UnitInHand>) -> usize
     ensures value { result ≡ length (rest_by hand.now) }
     ensures most { result < 2 ^ 29 }
@@ -73,7 +75,7 @@ fn hand_len(hand: &Option<UnitInHand>) -> usize
 }
 
 impl Outgoing {
-    /// Nothing is to be sent.
+    /// Makes an empty one: nothing is to be sent.
     pub fn new(alloc: Global) -> Outgoing
         ensures { result ≡ nothing }
     {
@@ -127,7 +129,7 @@ impl Outgoing {
         }
     }
 
-    /// Appends the few messages of a marker, where nothing is pending.
+    /// Appends the few messages of a marker, if nothing is pending.
     pub fn show_all(&mut self, alloc: Global, messages: &[Message]) -> Result<(), OutOfMemory>
         requires nothing { pending self.old ≡ [] }
         requires writable { AreWritable messages.now }
@@ -146,8 +148,8 @@ impl Outgoing {
         Ok(())
     }
 
-    /// Appends the message that a unit is on a message stream, where nothing is pending. The unit stays shared, and is
-    /// encoded as it is sent. There is no memory for one of more than `longest` bytes.
+    /// Appends the message of a unit on a message stream, if nothing is pending. The unit stays shared, and
+    /// is encoded as it is sent. A unit of more than `longest` bytes is refused as out of memory.
     pub fn show_unit(
         &mut self,
         alloc: Global,
@@ -173,8 +175,8 @@ impl Outgoing {
         Ok(())
     }
 
-    /// Encodes more, so that as many bytes as are sent at once are encoded, or all. What is pending stays the same. A unit that was
-    /// encoded whole is let go of.
+    /// Encodes more, until all bytes are encoded or as many as are sent at once. The pending bytes stay the
+    /// same. A unit that was encoded whole is dropped.
     pub fn fill(&mut self, alloc: Global) -> Result<(), OutOfMemory>
         ensures bytes { OnOk result (pending self.new ≡ pending self.old) }
         ensures writer { OnOk result (self.new.writer ≡ self.old.writer) }
@@ -200,7 +202,7 @@ impl Outgoing {
         Ok(())
     }
 
-    /// How many of the last bytes that are pending are of no item that was taken.
+    /// Returns the number of the last bytes pending that are of no item taken.
     pub fn others(&self) -> usize
         ensures { result ≡ self.now.others }
     {
@@ -210,7 +212,7 @@ impl Outgoing {
         }
     }
 
-    /// How many bytes the unit has that is being sent; none where there is none.
+    /// Returns the number of bytes of the unit that is being sent, or 0.
     pub fn unit_len(&self) -> usize
         ensures value { result ≡ unit_bytes self.now.hand }
         ensures most { result ≤ 4194304 }
@@ -221,14 +223,15 @@ impl Outgoing {
         }
     }
 
-    /// The bytes that were encoded since the unit that is being sent was begun.
+    /// Returns the bytes that were encoded since the unit that is being sent was begun.
     pub fn later(&self) -> &[u8]
         ensures { result.now ≡ self.now.later }
     {
         self.later.as_slice()
     }
 
-    /// The bytes that are encoded. Of an item these are no more than are sent at once and a chunk.
+    /// Returns the bytes that are encoded. Of an item these are at most those that are sent at once, and a
+    /// chunk.
     pub fn ready(&self) -> &[u8]
         ensures value { result.now ≡ self.now.ready }
         ensures most { length self.now.ready + length self.now.later ≤ self.now.others + 20498 }
@@ -236,7 +239,8 @@ impl Outgoing {
         &self.first.as_slice()[self.offset..]
     }
 
-    /// How many bytes are pending. Those of the unit that is being sent are counted without encoding it.
+    /// Returns the number of pending bytes. Those of the unit that is being sent are counted without encoding
+    /// it.
     pub fn pending_len(&self) -> usize
         requires { self.now.others < 2 ^ 32 }
         ensures { result ≡ length (pending self.now) }
@@ -247,7 +251,8 @@ impl Outgoing {
         ready + unit + later
     }
 
-    /// The first bytes that are encoded were sent. Of those that were, fewer are kept than are sent at once, and none where all were.
+    /// Notes that the first `count` encoded bytes were sent. Fewer sent bytes are kept than are sent at once,
+    /// and none if all were sent.
     pub fn sent(&mut self, alloc: Global, count: usize)
         requires { count ≤ length self.old.ready }
         ensures ready { self.new.ready ≡ drop count self.old.ready }

@@ -10,7 +10,7 @@ use crate::Core;
 use av_unit::OutOfMemory;
 use std::alloc::Global;
 
-/// Encodes more of what is pending, so that as many bytes as are sent at once are encoded, or all.
+/// Encodes more of the pending bytes, until all are encoded or as many as are sent at once.
 pub(crate) fn fill(core: &mut Core, alloc: Global) -> Result<(), OutOfMemory>
     requires { IsSound core.old }
     ensures sound { OnOk result (IsSound core.new) }

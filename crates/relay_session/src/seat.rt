@@ -9,19 +9,21 @@ ghost use Rattle.relay_session.specs.Alone.{AddsNone, Comes, GivesBack, GrowsAs,
 ghost use Rattle.relay_session.specs.Alone.{Splits, SplitsSo, answer_of, branches_at, made_step};
 ghost use Rattle.stream_registry.specs.Splits.{CallSplits};
 
-use crate::{Active, Leaving, Made};
+use crate::{Active, Leaving, Made, Met};
 use past::{History, Pair};
+use std::cell::Cell;
 use std::marker::Model;
 use std::snapshot::Snapshot;
 use stream_model::{Call, Entry, Reply};
 use stream_registry::{PortFail, StreamPort};
 
-/// Where a session stands at the streams: it has a pass at one place at a time. Its calls at all places are known, and are of
-/// no bytes.
+/// The position of a session at the streams: it has a pass at one place at a time. Its calls at all places
+/// are known, and take no bytes.
 #[derive(Drop)]
 pub struct Seat<P: StreamPort> {
     spot: Option<(u32, P::Pass)>,
     active: Active,
+    met: Cell<Met>,
     visits: History<Pair<u32, Pair<Entry, Reply>>>,
 }
 
@@ -33,7 +35,7 @@ impl<P: StreamPort> Model for Seat<P> {
     ghost view = { λ s. record { spot = s.spot; active = s.active; visits = s.visits } };
 }
 
-// What is granted after a reply.
+// Returns the role that is granted after a reply.
 fn active_by(reply: &Reply, active: Active) -> Active
     ensures { result ≡ active_after reply.now active }
 {
@@ -55,7 +57,7 @@ fn active_by(reply: &Reply, active: Active) -> Active
     }
 }
 
-// Whether there is nothing more to do after a reply.
+// Returns whether there is nothing more to do after a reply.
 fn over(reply: &Reply) -> bool
     ensures { result ≡ is_over reply.now }
 {
@@ -77,7 +79,7 @@ fn over(reply: &Reply) -> bool
     }
 }
 
-// The call that ends what was granted.
+// Returns the call that ends the role that was granted.
 fn last(active: Active) -> Option<Call>
     ensures { result ≡ last_of active }
 {
@@ -89,18 +91,19 @@ fn last(active: Active) -> Option<Call>
 }
 
 impl<P: StreamPort> Seat<P> {
-    /// It is nowhere, and has made no call.
+    /// Makes a seat that is nowhere, and has made no call.
     pub fn new() -> Seat<P>
         ensures { result ≡ record { spot = None; active = Nothing; visits = [] } }
     {
         Seat {
             spot: None,
             active: Active::Nothing,
+            met: Cell::new(Met::new()),
             visits: History::new(),
         }
     }
 
-    /// The place where it has a pass.
+    /// Returns the place at which it has a pass.
     pub fn place(&self) -> Option<u32>
         ensures { result ≡ place_of self.now.spot }
     {
@@ -110,14 +113,20 @@ impl<P: StreamPort> Seat<P> {
         }
     }
 
-    /// What it was granted there.
+    /// Returns the role that it was granted there.
     pub fn active(&self) -> Active
         ensures { result ≡ self.now.active }
     {
         self.active
     }
 
-    // Leaves the place where it is.
+    /// Returns the answers that it has had to its calls, in numbers. No clause states them: they are for the
+    /// log and for `stats`.
+    pub fn met(&self) -> Met {
+        self.met.get()
+    }
+
+    // Leaves its place.
     fn rise(&mut self, port: &mut P)
         requires { HasFit (P.fits port.old) self.old.spot }
         ensures spot { self.new.spot ≡ None }
@@ -144,7 +153,7 @@ impl<P: StreamPort> Seat<P> {
         }
     }
 
-    /// Comes to a place, from the one where it is.
+    /// Moves to a place, from the one at which it is.
     fn enter(&mut self, port: &mut P, place: u32)
         requires fit { HasFit (P.fits port.old) self.old.spot }
         requires place { CanCome self.old.spot (places (P.rules port.old)) place }
@@ -171,7 +180,7 @@ impl<P: StreamPort> Seat<P> {
         self.spot = Some((place, port.attach(place)));
     }
 
-    // One call at the place where it is.
+    // Makes one call at the place at which it is.
     fn ask(&mut self, port: &mut P, place: u32, entry: Entry) -> Made
         requires fit { HasFit (P.fits port.old) self.old.spot }
         requires spot { place_of self.old.spot ≡ Some place }
@@ -214,7 +223,7 @@ impl<P: StreamPort> Seat<P> {
         }
     }
 
-    // The same, and it leaves the place where there is nothing more to do.
+    // Makes one call, and leaves the place if there is nothing more to do.
     fn call(&mut self, port: &mut P, place: u32, entry: Entry) -> Made
         requires fit { HasFit (P.fits port.old) self.old.spot }
         requires spot { place_of self.old.spot ≡ Some place }
@@ -251,8 +260,9 @@ impl<P: StreamPort> Seat<P> {
         }
     }
 
-    /// Makes one call at a place. It comes to that place first, and leaves it where the reply is InUse, Full, NoSlot, Ended or Left. A
-    /// call that isn't made comes back, and the seat stays there: for another try, or for none.
+    /// Makes one call at a place. It moves to that place first, and leaves it if the reply is InUse, Full,
+    /// NoSlot, Ended or Left. A call that isn't made comes back, and the seat stays there: for another try,
+    /// or for none.
     pub fn make(&mut self, port: &mut P, place: u32, entry: Entry) -> Made
         requires fit { HasFit (P.fits port.old) self.old.spot }
         requires place { CanCome self.old.spot (places (P.rules port.old)) place }
@@ -277,10 +287,12 @@ impl<P: StreamPort> Seat<P> {
         ensures splits { SplitsSo P.branches (P.kin port.old) self.old.spot place result (P.kin port.new) self.new.spot }
     {
         self.enter(port, place);
-        self.call(port, place, entry)
+        let made = self.call(port, place, entry);
+        self.met.set(self.met.get().after(&made));
+        made
     }
 
-    // Makes the call that ends what was granted, if anything was, and leaves.
+    // Makes the call that ends the role granted, if there is one, and leaves.
     fn finish(&mut self, port: &mut P, place: u32, who: u64, fed: u64) -> Leaving
         requires fit { HasFit (P.fits port.old) self.old.spot }
         requires spot { place_of self.old.spot ≡ Some place }
@@ -318,9 +330,12 @@ impl<P: StreamPort> Seat<P> {
         }
     }
 
-    /// Makes the kept call, if there is one, and then the End or Leave of what was granted, named `who` at `fed` bytes of input,
-    /// and leaves. Where the port is busy or has no memory it is still there, and the kept call is kept unless it was made. Where
-    /// the stream has had as many calls as it can count no further call is made, and it leaves.
+    /// Makes the kept call, if there is one, and then the End or Leave of the role granted, named `who` at
+    /// `fed` bytes of input. Then it leaves.
+    ///
+    /// If the port is busy or has no memory it is still there, and the kept call is kept unless it was made.
+    /// If the stream has had the largest number of calls that it can count, no further call is made, and it
+    /// leaves.
     pub fn leave(&mut self, port: &mut P, who: u64, fed: u64, kept: &mut Option<Entry>) -> Leaving
         requires { HasFit (P.fits port.old) self.old.spot }
         ensures fit { HasFit (P.fits port.new) self.new.spot }
@@ -367,7 +382,8 @@ impl<P: StreamPort> Seat<P> {
         }
     }
 
-    /// Where others have made calls at the same port, a seat stands as it stood, and its pass fits.
+    /// Shows that a seat stands as it stood after others have made calls at the same port, and that its pass
+    /// fits.
     pub fn others_law()
         ensures stands { (x y : P) (s : SeatState P.Pass) → P.rules y ≡ P.rules x → GoOn (P.root x) (P.root y) → StandsAt P.rules P.root P.seen x s
             → StandsAt P.rules P.root P.seen y s }

@@ -1,7 +1,7 @@
 use stream_model::{Entry, Reply};
 
-/// What a session was granted at the stream where it is.
-#[derive(Clone, Copy, Debug, PartialEq, Eq)]
+/// The role that a session was granted at its stream.
+#[derive(Clone, Copy, PartialEq, Eq)]
 pub enum Active {
     /// Nothing.
     Nothing,
@@ -11,25 +11,26 @@ pub enum Active {
     Plays { player: u32 },
 }
 
-/// What became of a call at a stream. Where it wasn't made the entry comes back.
-#[derive(Debug, Drop)]
+/// The result of a call at a stream. If it wasn't made, the entry comes back.
+#[derive(Drop)]
 pub enum Made {
-    /// It was answered so.
+    /// It got this answer.
     Answer(Reply),
     /// The port was busy.
     Busy(Entry),
-    /// The stream has had as many calls as it can count.
+    /// The stream has had the largest number of calls that it can count.
     Worn(Entry),
     /// There was no memory for it.
     OutOfMemory(Entry),
 }
 
 /// How a session left a stream.
-#[derive(Clone, Copy, Debug, PartialEq, Eq)]
+#[derive(Clone, Copy)]
 pub enum Leaving {
     /// Its last calls were made, and it has left.
     Done,
-    /// The stream has had as many calls as it can count. No further call is made, and it has left.
+    /// The stream has had the largest number of calls that it can count. No further call is made, and it has
+    /// left.
     Worn,
     /// The port was busy. It is still there.
     Busy,

@@ -7,9 +7,11 @@ ghost use Rattle.relay_session.specs.SeatOwn.{Acts, AreAnswered, BringsSo, Fares
 ghost use Rattle.relay_session.specs.SeatState.{plays, publishes};
 ghost use Rattle.relay_session.specs.SeatVisits.{AllStand, Visit, calls_of};
 
-/// What a session's calls at a stream or a pool are answered where nobody else uses its name, whatever the others do: its
-/// calls are then those of its name. From its Begin answered Began to its End it is the publisher, at a pool of one of the
-/// slots; each of its Pushes is answered Pushed and its End Ended. From its Join answered Joined to its Leave it holds that
+/// Shows the answers of a session's calls at a stream or a pool if nobody else uses its name, whatever the
+/// others do. Its calls are then those of its name.
+///
+/// From its Begin answered Began to its End it is the publisher, at a pool of one of the slots; each of its
+/// Pushes is answered Pushed and its End Ended. From its Join answered Joined to its Leave it holds that
 /// player's place, and none of its Takes is answered NotPlayer. BeginAs and JoinAs count as Begin and Join.
 pub fn own_calls_law()
     ensures publisher { (s : Shape) (past : History) (who : ℕ) → IsShapeLawful s past → publishes (own who past) ≡ true → IsPublisher s past who }
@@ -18,13 +20,15 @@ pub fn own_calls_law()
     ensures fares { (s : Shape) (past : History) (who : ℕ) → IsShapeLawful s past → Fares (own who past) }
 {}
 
-/// Where all calls of a name at a stream or a pool are these, and its caller publishes only what it began and takes only where it
-/// was given a place, each of its Pushes is answered Pushed and each End Ended, and none of its Takes and Leaves NotPlayer.
+/// Shows the answers of a caller that makes all calls of a name at a stream or a pool. If it publishes only a
+/// broadcast that it began, and takes only as a player whose place it was given, each of its Pushes is
+/// answered Pushed and each End Ended. None of its Takes and Leaves is answered NotPlayer.
 pub fn alone_law()
     ensures { (s : Shape) (past : History) (who : ℕ) (calls : List Step) → IsShapeLawful s past → own who past ≡ calls → Acts calls → AreAnswered calls }
 {}
 
-/// Of the calls of a session, which stand in the histories of their places, a Take alone was sent an item.
+/// Shows that of the calls of a session, which stand in the histories of their places, a Take alone was sent
+/// an item.
 pub fn items_law()
     ensures takes { (limits : ℕ → Shape) (histories : Histories) (visits : List Visit) → AllStand limits histories visits
         → All BringsSo (calls_of visits) }

@@ -25,7 +25,7 @@ use crate::held::{held_in, pending_in};
 use crate::input::Input;
 use crate::six_steps::{held_back, kept_on};
 use crate::steps::new_core;
-use crate::{Active, Desk, End, Leaving, Seat, Turn};
+use crate::{Active, Desk, End, Leaving, Met, Seat, Turn};
 use command_dialog::App;
 use relay_base::Limits;
 use relay_outside::Link;
@@ -51,7 +51,7 @@ impl<P: StreamPort> Model for Session<P> {
     ghost invariant = { λ s. IsLiving s.ended s.body.core };
 }
 
-// Why a turn ended the session, if it did.
+// Returns why a turn ended the session, if it did.
 fn end_in(answer: Turn) -> Option<End>
     ensures { result ≡ ended_by answer }
 {
@@ -62,7 +62,7 @@ fn end_in(answer: Turn) -> Option<End>
     }
 }
 
-// Why a session that is closed has ended.
+// Returns why a session that is closed has ended.
 fn end_or_quit(ended: Option<End>) -> End
     ensures { result ≡ end_or_quit ended }
 {
@@ -73,8 +73,8 @@ fn end_or_quit(ended: Option<End>) -> End
 }
 
 impl<P: StreamPort> Session<P> {
-    /// A session of this name that was fed nothing and is at no stream. It tells its peer the window of the limits, in bytes,
-    /// and takes messages of at most `max_message` bytes. It takes no memory.
+    /// Makes a session of this name that was fed nothing and is at no stream. It tells its peer the window of
+    /// the limits, in bytes, and takes messages of at most `max_message` bytes. It takes no memory.
     pub fn new(alloc: Global, who: u64, limits: Limits) -> Session<P>
         requires { limits.max_message ≤ 4194304 }
         ensures stands { (desk : Ask → Grant) → StandsFor desk result }
@@ -100,7 +100,7 @@ impl<P: StreamPort> Session<P> {
         }
     }
 
-    /// One turn, by its six steps. Each desk that is handed in is to be the same.
+    /// Takes one turn, by its six steps. Each desk that is handed in is to be the same.
     pub fn turn<D: Desk, L: Link>(
         &mut self,
         alloc: Global,
@@ -143,9 +143,11 @@ impl<P: StreamPort> Session<P> {
         self.quit = true;
     }
 
-    /// Makes the call that waits, if there is one, and the End or Leave of what it was granted, and leaves the stream where it is.
-    /// It has then ended, with `Quit` if it lived. Where the port was busy or had no memory it is still there, and is to be
-    /// closed again; the call that waits is kept unless it was made. All else that it keeps stays.
+    /// Makes the call that waits, if there is one, and the End or Leave of the role granted, and leaves its
+    /// stream. It has then ended, with `Quit` if it lived.
+    ///
+    /// If the port was busy or had no memory it is still there, and is to be closed again; the call that
+    /// waits is kept unless it was made. All else that it keeps stays.
     pub fn close(&mut self, port: &mut P) -> Leaving
         requires { HasFit (P.fits port.old) self.old.seat.spot }
         ensures fit { HasFit (P.fits port.new) self.new.seat.spot }
@@ -180,9 +182,10 @@ impl<P: StreamPort> Session<P> {
             .leave(port, who, fed, &mut self.body.core.kept)
     }
 
-    /// How many bytes it holds: of the input that it wasn't fed, of messages in progress, of what is encoded and not sent, of the
-    /// unit that is being sent, which counts whole, of the unit that the call that waits publishes and of the name that it asks for,
-    /// of its dialogue's app, and of the handshake in progress.
+    /// Returns the number of bytes that it holds. These are the bytes of the input that it wasn't fed, of
+    /// messages in progress, and of messages encoded and not sent. They also are those of the unit that is
+    /// being sent, which counts whole, and of the call that waits: its unit and the name that it asks for.
+    /// Its dialogue's app and the handshake in progress count too.
     pub fn held(&self) -> u64
         ensures holds { IsHolding self.now.parts self.now.input result }
         ensures most { result ≤ most_held self.now.parts.reader.max self.now.parts.reader.max }
@@ -190,7 +193,7 @@ impl<P: StreamPort> Session<P> {
         held_in(&self.body.core, &self.body.input)
     }
 
-    /// How many bytes it owes and hasn't sent. One that has ended owes nothing more.
+    /// Returns the number of bytes that it owes and hasn't sent. A session that has ended owes nothing more.
     pub fn pending(&self) -> u64
         ensures value { result ≡ pending_by self.now.ended self.now.parts }
         ensures owed { (desk : Ask → Grant) → StandsFor desk self.now → IsUnsent self.now.ended desk self.now.parts result }
@@ -201,7 +204,8 @@ impl<P: StreamPort> Session<P> {
         }
     }
 
-    /// What it was sent begins what it owes before each desk for which it stands, and its pushes are the units that its messages publish.
+    /// Shows that the bytes that it sent begin those that it owes, before each desk for which it stands. Its
+    /// pushes are the units that its messages publish.
     pub fn owed_law(&self)
         ensures owed { (desk : Ask → Grant) → StandsFor desk self.now → BeginsOwed desk self.now.parts }
         ensures whole { (desk : Ask → Grant) → StandsFor desk self.now → IsWhole desk self.now.parts }
@@ -209,35 +213,42 @@ impl<P: StreamPort> Session<P> {
         let _ = &self.ended;
     }
 
-    /// What it was granted where it is.
+    /// Returns the role that it was granted at its stream.
     pub fn active(&self) -> Active
         ensures { result ≡ self.now.seat.active }
     {
         self.body.seat.active()
     }
 
-    /// Whether a call of its waits for the stream to be free.
+    /// Returns the answers that its calls have had, in numbers.
+    pub fn met(&self) -> Met {
+        self.body.seat.met()
+    }
+
+    /// Returns whether a call of its own waits for the stream to be free.
     pub fn waits(&self) -> bool
         ensures { result ≡ is_some self.now.parts.kept }
     {
         self.body.core.kept.is_some()
     }
 
-    /// Whether what it owes waits for an acknowledgement: its peer ever sent one, and a window of bytes or more isn't acknowledged.
+    /// Returns whether the bytes that it owes wait for an acknowledgement: its peer ever sent one, and at
+    /// least a window of bytes isn't acknowledged.
     pub fn is_held_back(&self) -> bool
         ensures { result ≡ is_held_back self.now.parts.outbound }
     {
         held_back(&self.body.core.outbound)
     }
 
-    /// The application to which its peer has connected, if it has, where that is kept.
+    /// Returns the application to which its peer has connected, if it has and if that is kept.
     pub fn app(&self) -> Option<&App>
         ensures { option_copied result ≡ self.now.parts.dialog.app }
     {
         self.body.core.dialog.app()
     }
 
-    /// How many bytes of its peer's it was fed; of one that a byte ended, those before it.
+    /// Returns the number of its peer's bytes that it was fed. If a byte ended the session, it is the number
+    /// of those before it.
     pub fn fed(&self) -> u64
         ensures { result ≡ length self.now.parts.x }
     {

@@ -21,15 +21,15 @@ use relay_outside::{Heard, Link, Said};
 use std::alloc::Global;
 use stream_registry::StreamPort;
 
-// How many bytes are sent at once, and how many are received, at most.
+// The largest numbers of bytes that are sent at once, and received at once.
 const SEND_MOST: usize = 16_384;
 
 const RECEIVE_MOST: usize = 4_096;
 
-// How many bytes of no item may be pending where input is taken.
+// The largest number of pending bytes of no item with which input is taken.
 const ANSWERS_MOST: usize = 8_192;
 
-// The first bytes, or all.
+// Returns the first `count` bytes, or all.
 fn first(bytes: &[u8], count: usize) -> &[u8]
     ensures value { result.now ≡ take count bytes.now }
     ensures within { length result.now ≤ length bytes.now }
@@ -37,14 +37,15 @@ fn first(bytes: &[u8], count: usize) -> &[u8]
     &bytes[..count.min(bytes.len())]
 }
 
-/// Whether the sender is held back.
+/// Returns whether the sender is held back.
 pub(crate) fn held_back(outbound: &Outbound) -> bool
     ensures { result ≡ is_held_back outbound.now }
 {
     outbound.held_back()
 }
 
-// The player for whom a Take is to be made, where as many bytes as are sent at once are encoded, or all.
+// Returns the player for which a Take is to be made, if any. All bytes must be encoded, or as many as are
+// sent at once.
 fn next_take(core: &Core) -> Option<Playing>
     requires { (16384 ≤ length core.now.outgoing.ready) ⊎ (core.now.outgoing.rest ≡ []) }
     ensures { result ≡ takes core.now }
@@ -64,14 +65,14 @@ fn next_take(core: &Core) -> Option<Playing>
     }
 }
 
-// Whether it takes input.
+// Returns whether it takes input.
 fn hungry(core: &Core) -> bool
     ensures { result ≡ is_hungry core.now }
 {
     core.outgoing.others() <= ANSWERS_MOST
 }
 
-/// Step 6: one Take, where it is to be made.
+/// Does step 6: one Take, if it is to be made.
 fn finish<P: StreamPort>(body: &mut Body<P>, port: &mut P, alloc: Global, moved: bool) -> Turn
     requires at { IsAt (P.fits port.old) (places (P.rules port.old)) body.old.core body.old.seat }
     requires sound { IsSteady body.old.core }
@@ -91,7 +92,7 @@ fn finish<P: StreamPort>(body: &mut Body<P>, port: &mut P, alloc: Global, moved:
     }
 }
 
-/// The call that a message asked for, and step 6.
+/// Makes the call that a message asked for, and does step 6.
 fn make_on<P: StreamPort>(body: &mut Body<P>, port: &mut P, alloc: Global) -> Turn
     requires at { IsAt (P.fits port.old) (places (P.rules port.old)) body.old.core body.old.seat }
     requires sound { IsSteady body.old.core }
@@ -137,7 +138,7 @@ fn feed_on<P: StreamPort, D: Desk>(
     }
 }
 
-/// Step 5 and that after it.
+/// Does step 5 and that after it.
 fn input_on<P: StreamPort, D: Desk, L: Link>(
     body: &mut Body<P>,
     port: &mut P,
@@ -174,7 +175,7 @@ fn input_on<P: StreamPort, D: Desk, L: Link>(
     }
 }
 
-/// Step 4 and those after it.
+/// Does step 4 and those after it.
 fn send_on<P: StreamPort, D: Desk, L: Link>(
     body: &mut Body<P>,
     port: &mut P,
@@ -211,7 +212,7 @@ fn send_on<P: StreamPort, D: Desk, L: Link>(
     }
 }
 
-/// Step 3 and those after it.
+/// Does step 3 and those after it.
 fn quit_on<P: StreamPort, D: Desk, L: Link>(
     body: &mut Body<P>,
     port: &mut P,
@@ -237,7 +238,7 @@ fn quit_on<P: StreamPort, D: Desk, L: Link>(
     send_on(body, port, link, desk, alloc, moved)
 }
 
-/// Step 2 and those after it.
+/// Does step 2 and those after it.
 pub(crate) fn kept_on<P: StreamPort, D: Desk, L: Link>(
     body: &mut Body<P>,
     port: &mut P,

@@ -26,18 +26,18 @@ use std::alloc::Global;
 use std::snapshot::Snapshot;
 use stream_model::{Entry, Reply};
 
-// The bytes of a handshake, and of its answer.
+// The number of bytes of a handshake, and of its answer.
 const HAND_BYTES: u64 = 3_073;
 
-// The first bytes of a piece, or all.
+// Returns the first `count` bytes of a piece, or all.
 fn first(bytes: &[u8], count: usize) -> &[u8]
     ensures { result.now ≡ take count bytes.now }
 {
     &bytes[..count.min(bytes.len())]
 }
 
-/// A session of this name that has been fed nothing. It tells its peer `window`, and takes messages of at most
-/// `max_message` bytes.
+/// Makes a session of this name that has been fed nothing. It tells its peer `window`, and takes messages of
+/// at most `max_message` bytes.
 pub fn new_core(alloc: Global, who: u64, window: u32, max_message: u32) -> Core
     requires { max_message ≤ 4194304 }
     ensures sound { IsSound result }
@@ -71,7 +71,8 @@ pub fn new_core(alloc: Global, who: u64, window: u32, max_message: u32) -> Core
     }
 }
 
-// Takes bytes up to the next place of an acknowledgement, and says it where they reach it.
+// Takes bytes up to the next place of an acknowledgement, and says the acknowledgement if they reach that
+// place.
 fn acknowledge(
     alloc: Global,
     inbound: &mut Inbound,
@@ -124,15 +125,15 @@ pub fn hand_piece(core: &mut Core, alloc: Global, piece: &[u8]) -> Result<usize,
     Ok(used)
 }
 
-/// How many bytes of a piece were fed, and whether the last of them ended a message.
-#[derive(Clone, Copy, Debug, PartialEq, Eq)]
+/// The number of bytes of a piece that were fed, and whether the last of them ended a message.
+#[derive(Clone, Copy)]
 pub struct Part {
     pub used: usize,
     pub ended: bool,
 }
 
-/// Feeds bytes of chunks, at most up to the next place of an acknowledgement or to the end of a message. What the
-/// message says is done, and the call that it asks for is kept.
+/// Feeds bytes of chunks, at most up to the next place of an acknowledgement or to the end of a message. It
+/// does what the message says, and keeps the call that it asks for.
 pub fn chunk_piece<D: Desk>(
     core: &mut Core,
     alloc: Global,
@@ -212,7 +213,7 @@ pub fn chunk_piece<D: Desk>(
     }
 }
 
-// Why the reader's refusal ends the session, where so many bytes stand before the byte.
+// Returns why the reader's refusal ends the session. `at` is the number of bytes before the refused byte.
 fn chunk_end(cause: ReadCause, at: u64) -> End
     ensures { result ≡ read_end cause at }
 {
@@ -227,7 +228,7 @@ fn chunk_end(cause: ReadCause, at: u64) -> End
     }
 }
 
-/// Hears the reply to the call that was asked, and that waited until then.
+/// Takes in the reply to the call that was asked for, and that waited until then.
 pub fn hear_reply(
     core: &mut Core,
     alloc: Global,
@@ -250,8 +251,8 @@ pub fn hear_reply(
     Ok(())
 }
 
-/// Hears the reply to a Take, which is made where it plays and nothing is to be sent. A reply that brings no item owes
-/// nothing. A unit that is longer than the longest message is refused, as for want of memory.
+/// Takes in the reply to a Take, which is made if it plays and nothing is to be sent. A reply that brings no
+/// item owes nothing. A unit that is longer than the longest message is refused as out of memory.
 pub fn hear_item(
     core: &mut Core,
     alloc: Global,
@@ -279,7 +280,7 @@ pub fn hear_item(
     Ok(())
 }
 
-/// So many of the bytes that are encoded were sent.
+/// Notes that `count` of the encoded bytes were sent.
 pub fn note_sent(core: &mut Core, alloc: Global, count: usize)
     requires sound { IsSound core.old }
     requires within { count ≤ length core.old.outgoing.ready }

@@ -9,7 +9,7 @@ use crate::steps::{chunk_piece, hand_piece};
 use crate::{Core, Desk, End, Part};
 use std::alloc::Global;
 
-// The bytes of a handshake.
+// The number of bytes of a handshake.
 const HAND_BYTES: u64 = 3_073;
 
 /// Feeds the first bytes of a piece: of the handshake, or of chunks.
@@ -38,7 +38,7 @@ fn next_piece<D: Desk>(core: &mut Core, alloc: Global, desk: &D, piece: &[u8]) -
     Ok(Part { used, ended: false })
 }
 
-/// Feeds input until a message is complete and handled, or none is left: true where a message ended.
+/// Feeds input until a message is complete and handled, or none is left. Returns whether a message ended.
 pub(crate) fn feed<D: Desk>(
     core: &mut Core,
     input: &mut Input,

@@ -27,7 +27,7 @@ impl Model for UnitInHand {
 }
 
 impl UnitInHand {
-    /// Begins the message that the unit is on a message stream.
+    /// Begins the message of the unit on a message stream.
     pub(crate) fn begin(
         writer: &mut Writer,
         stream: u32,
@@ -43,7 +43,7 @@ impl UnitInHand {
         Ok(UnitInHand { sending, unit })
     }
 
-    /// How many bytes the unit has.
+    /// Returns the number of bytes of the unit.
     pub(crate) fn body_len(&self) -> usize
         ensures value { result ≡ length self.now.body }
         ensures most { result ≤ 4194304 }
@@ -51,7 +51,7 @@ impl UnitInHand {
         self.unit.unit().body.len()
     }
 
-    /// How many bytes the chunks have that are left of it.
+    /// Returns the number of bytes of the chunks that are left of it.
     pub(crate) fn left_len(&self) -> usize
         ensures value { result ≡ length (left self.now) }
         ensures most { result < 2 ^ 29 }
@@ -59,7 +59,7 @@ impl UnitInHand {
         self.sending.left_len(self.unit.unit().body.as_slice())
     }
 
-    /// Appends chunks, as long as there are more and `out` has fewer bytes from a place on than `most`.
+    /// Appends chunks until none are left, or `out` has at least `most` bytes from a place on.
     pub(crate) fn fill(
         &mut self,
         out: &mut Bytes,
@@ -79,7 +79,7 @@ impl UnitInHand {
     }
 }
 
-// Appends chunks of a message, as long as there are more and `out` has fewer bytes from a place on than `most`.
+// Appends chunks of a message until none are left, or `out` has at least `most` bytes from a place on.
 fn fill_with(
     sending: &mut Sending,
     body: &[u8],

@@ -6,7 +6,8 @@ use Rattle.chunk_writer.specs.WriterKnown.{WriterKnown}
 use Rattle.chunk_writer.specs.Written.{bytes_of, next}
 use Rattle.relay_soak.specs.Clients.{after_first, publish}
 
--- how unit i begins: each 250 a configuration and a key frame of AVC, and after them inter frames of it and frames of AAC in turn
+-- how unit i begins: each 250 a configuration and a key frame of AVC, and after them inter frames of it and
+-- frames of AAC in turn
 abbrev pub head : ℕ → List ℕ
 head i =
     if i % 250 == 0 then 23 ∷ 0 ∷ []

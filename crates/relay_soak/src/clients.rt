@@ -1,4 +1,4 @@
-//! What the clients of a soak say first.
+//! The first input of the clients of a soak.
 ghost use Rattle.std.specs.Prelude.{◌≡◌, ◌<◌, ◌^◌, ◌++◌, length, IfOk, OnOk};
 ghost use Rattle.std.proofs.Math.ListN.{replicate};
 ghost use Rattle.chunk_writer.specs.WriterKnown.{fresh};
@@ -46,7 +46,7 @@ pub(crate) fn play() -> &'static [u8]
     b"\x02\x00\x04play\x00\x40\x08\x00\x00\x00\x00\x00\x00\x05\x02\x00\x04soak".as_slice()
 }
 
-/// So many zero bytes are added.
+/// Adds `count` zero bytes.
 pub(crate) fn add_zeros(alloc: Global, count: usize, out: &mut Bytes) -> Result<(), OutOfMemory>
     ensures { OnOk result (out.new ≡ out.old ++ replicate count 0) }
 {
@@ -77,8 +77,8 @@ fn say(
     writer.put_message(&message, out)
 }
 
-/// The first input of a session: a version and zero bytes in place of a handshake, and what its client asks. The client writes
-/// with this writer from then on.
+/// The first input of a session: a version and zero bytes in place of a handshake, and the requests of its
+/// client. The client writes with this writer from then on.
 pub(crate) fn first_input(
     alloc: Global,
     writer: &mut Writer,

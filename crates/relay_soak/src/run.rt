@@ -14,10 +14,10 @@ use relay_replay::Scene;
 use relay_script::ReplayLine;
 use std::alloc::Global;
 
-// A session that isn't idle after so many turns counts as one for which there is no memory.
+// A session that isn't idle after this number of turns counts as a session for which there is no memory.
 const MOST_TURNS: u32 = 1_000_000;
 
-// Does what a line says.
+// Does the action of a line.
 fn act(scene: &mut Scene, guards: &Guards, line: ReplayLine) -> Result<(), OutOfMemory>
     requires { IsSound scene.old }
     ensures does { OnOk result (Does line scene.old scene.new) }
@@ -116,7 +116,7 @@ fn join(alloc: Global, scene: &mut Scene, guards: &Guards) -> Result<Writer, Out
     Ok(writer)
 }
 
-// A turn of a player, where its number divides that of the unit.
+// Takes a turn of a player, if its number divides that of the unit.
 fn turn_if(scene: &mut Scene, guards: &Guards, player: u32, i: u32) -> Result<(), OutOfMemory>
     requires sound { IsSound scene.old }
     requires some { 0 < player }
@@ -159,7 +159,7 @@ fn unit(
     Ok(())
 }
 
-// So many units are published.
+// Publishes the given number of units.
 fn units(
     alloc: Global,
     scene: &mut Scene,
@@ -205,10 +205,11 @@ fn told(alloc: Global, scene: &mut Scene, guards: &Guards, n: u32) -> Result<Byt
     Ok(text)
 }
 
-/// What is printed of the run with so many units, from which the answer follows: how many units there were and how many the
-/// stream took, of each player how many items it was sent, how often it skipped and how many bytes it was sent, and what all hold
-/// at the end, beside the most that they may. Want of memory has no answer, and neither has a run of which a session isn't idle
-/// after 1,000,000 turns.
+/// Returns the printed text of the run with `n` units, from which the answer follows. It has the number of
+/// units, and the number that the stream took. Of each player it has the number of items it was sent, the
+/// number of its skips and the number of bytes it was sent. It also has the number of bytes that all hold
+/// at the end, beside the most that they may. Want of memory has no answer, and neither has a run of which
+/// a session isn't idle after 1,000,000 turns.
 pub fn soak_text(alloc: Global, guards: &Guards, n: u32) -> Result<Bytes, OutOfMemory>
     requires { n ≤ 100000 }
     ensures { IfOk result (λ text. Printed n text) }

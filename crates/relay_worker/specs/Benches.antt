@@ -46,7 +46,8 @@ abbrev pub is_done : DoorTold → Bool
 is_done d = d.closed || nat_le (2 ^ 40) d.given
 
 module _ {P D Q L : Type 0} (fits : P → ℕ → Q → Type 0) (rules : P → PortRules) (doors : D → DoorTold) where
-  -- WHAT A WORKER'S BENCH KEEPS: it has at most so many sessions, all of which fit its port, and each has a name of its own
+  -- WHAT A WORKER'S BENCH KEEPS: it has at most so many sessions, all of which fit its port, and each has a
+  -- name of its own
   pub record IsSound (t : Terms) (b : Bench P D Q L) : Type 0 where
     pub number : t.number < 2 ^ 20
     pub short : t.limits.max_message ≤ 4194304

@@ -38,9 +38,9 @@ use Rattle.relay_worker.specs.declared.bench.Terms.{Terms}
 
 -- ---- why a session has ended
 
--- WHY A SESSION HAS ENDED whose link has these counts and gave the bytes y, of which n were fed, where the byte behind these decides
--- so. Nothing tells it to end. A session whose peer has closed was fed all that the link gave. A full history and want of memory are
--- no matter of the link: the books tell of them apart
+-- WHY A SESSION HAS ENDED whose link has these counts and gave the bytes y, of which n were fed, where the
+-- byte behind these decides so. Nothing tells it to end. A session whose peer has closed was fed all that the
+-- link gave. A full history and want of memory are no matter of the link: the books tell of them apart
 abbrev pub IsCause : (List ℕ → ℕ → End → Type 0) → LinkCounts → List ℕ → ℕ → End → Type 0
 IsCause Decided counts y n end.PeerClosed = (counts.ends ≢ 0) × (n ≡ length y)
 IsCause Decided counts y n end.LinkFault = counts.faults ≢ 0
@@ -86,8 +86,8 @@ IsParting c = (c ≡ call.End) ⊎ ((player : ℕ) × (c ≡ call.Leave player))
 abbrev pub IsParted : List Own → Type 0
 IsParted calls = (calls ≡ []) ⊎ ((c : Own) × (IsParting c.0.call × (calls ≡ c ∷ [])))
 
--- THE CALLS BY WHICH A SESSION LEAVES: the one that waited as it ended, if it was made, and then at most one that ends what it was
--- granted
+-- THE CALLS BY WHICH A SESSION LEAVES: the one that waited as it ended, if it was made, and then at most one
+-- that ends what it was granted
 pub record LeavesBy (waited : Option Entry) (calls : List Own) : Type 0 where
   pub first : List Own
   pub last : List Own
@@ -107,11 +107,12 @@ pub record Account : Type 0 where
   pub end : End
   pub link : Returned
 
--- ITS SESSION was fed the first bytes that the link gave. Its calls bear its name and stand in the histories of their streams,
--- each once and in their order, answered by the rules. At each of them it asked for nothing but what it was granted there. They are
--- those that the messages of these bytes ask for and its Takes, and then those by which it left: so each unit that it pushed is one
--- that its messages publish. What the link took begins what is owed before this desk for these bytes and the first of these calls.
--- The bytes that the link gave are the cause of its end, where these messages and calls had left its dialogue
+-- ITS SESSION was fed the first bytes that the link gave. Its calls bear its name and stand in the histories
+-- of their streams, each once and in their order, answered by the rules. At each of them it asked for nothing
+-- but what it was granted there. They are those that the messages of these bytes ask for and its Takes, and
+-- then those by which it left: so each unit that it pushed is one that its messages publish. What the link
+-- took begins what is owed before this desk for these bytes and the first of these calls. The bytes that the
+-- link gave are the cause of its end, where these messages and calls had left its dialogue
 pub record Accounted (desk : Ask → Grant) (t : Terms) (limits : ℕ → Shape) (histories : Histories) (a : Account) : Type 0 where
   pub x : List ℕ
   pub fed : Begins x a.link.gave
@@ -131,15 +132,15 @@ pub record Accounted (desk : Ask → Grant) (t : Terms) (limits : ℕ → Shape)
   pub owed : Begins a.link.took (out (session a.who t.limits.window desk) x ms calls)
   pub cause : IsCause (IsDecided a.who t.limits.window desk ms calls t.limits.max_message) a.link.counts a.link.gave (length x) a.end
 
--- LINKS THAT WERE OUT AT A TIME: so many had come back when one did whose session has this name. By its name it came after
--- `who - who_of t.number 0` others, and no more of them, and it, were out than the worker has link places
+-- LINKS THAT WERE OUT AT A TIME: so many had come back when one did whose session has this name. By its name
+-- it came after `who - who_of t.number 0` others, and no more of them, and it, were out than the worker has link places
 abbrev pub IsBackAfter : Terms → ℕ → ℕ → Type 0
 IsBackAfter t back who = who < who_of t.number (back + t.links)
 
 -- ---- a session that is there
 
--- what was sent is what it owes before this desk for the bytes fed and its calls, or begins it, and these calls and the one that
--- waited are those that the messages of these bytes ask for
+-- what was sent is what it owes before this desk for the bytes fed and its calls, or begins it, and these
+-- calls and the one that waited are those that the messages of these bytes ask for
 pub record HasSent (desk : Ask → Grant) (waited : Option Entry) (g : Gone) : Type 0 where
   pub ms : List (ℕ × Message)
   pub read : IsRead g.max (drop hand_bytes g.x) ms
@@ -166,8 +167,8 @@ OwesBy told counts desk (Some e) c visits = HasStopped told counts desk e c visi
 
 module _ {P Q L : Type 0} (rules : P → PortRules) (root : P → Histories) (seen : Q → List Step)
     (told : L → Option LinkTold) (counts : L → LinkCounts) (desk : Ask → Grant) (t : Terms) (port : P) where
-  -- what was sent is what it owes or begins it, its calls stand in what is known, it asked for nothing but what it was granted, its
-  -- bytes are those of its link, none of these accounts has its name, and it isn't told to end
+  -- what was sent is what it owes or begins it, its calls stand in what is known, it asked for nothing but
+  -- what it was granted, its bytes are those of its link, none of these accounts has its name, and it isn't told to end
   pub record Lives (accounts : List Account) (s : Seated P L Q) : Type 0 where
     pub window : s.session.parts.window ≡ t.limits.window
     pub max : s.session.parts.reader.max ≡ t.limits.max_message
@@ -183,9 +184,10 @@ module _ {P Q L : Type 0} (rules : P → PortRules) (root : P → Histories) (se
 
 module _ {P D Q L : Type 0} (rules : P → PortRules) (root : P → Histories) (seen : Q → List Step)
     (told : L → Option LinkTold) (counts : L → LinkCounts) (doors : D → DoorTold) (desk : Ask → Grant) where
-  -- THE BOOKS: the links that the door has back are those of these accounts, each of a session of its own. Where nothing was
-  -- refused for want of memory, each link that the door gave is there or back, no more were out at a time than there are link
-  -- places, and no session has ended by want of memory. Where no history was found full, no session has ended by that
+  -- THE BOOKS: the links that the door has back are those of these accounts, each of a session of its own.
+  -- Where nothing was refused for want of memory, each link that the door gave is there or back, no more were
+  -- out at a time than there are link places, and no session has ended by want of memory. Where no history
+  -- was found full, no session has ended by that
   pub record Works (t : Terms) (b : Bench P D Q L) : Type 0 where
     pub accounts : List Account
     pub back_is : (list : List Returned) → (doors b.door).back ≡ Some list → list ≡ map (λ a. a.link) accounts
@@ -208,10 +210,10 @@ module _ {P D Q L : Type 0} (rules : P → PortRules) (root : P → Histories) (
   abbrev pub HasBooks : {K : Type 0} → WorkerState P D K Q L → Type 0
   HasBooks w = Works w.terms w.bench
 
--- WHAT IS LEFT OF THEM, where no session lives: the links that the door has back are those of these accounts, each of a session
--- of its own. Where nothing was refused for want of memory, they are as many as the door gave, they came back in an order in which
--- no more were out at a time than there are link places, and no session ended by that. Where no session found a history full, none
--- ended by that
+-- WHAT IS LEFT OF THEM, where no session lives: the links that the door has back are those of these accounts,
+-- each of a session of its own. Where nothing was refused for want of memory, they are as many as the door
+-- gave, they came back in an order in which no more were out at a time than there are link places, and no
+-- session ended by that. Where no session found a history full, none ended by that
 pub record Settled (desk : Ask → Grant) (t : Terms) (limits : ℕ → Shape) (histories : Histories)
     (door : DoorTold) (refused worn : Bool) : Type 0 where
   pub accounts : List Account

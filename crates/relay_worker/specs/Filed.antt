@@ -46,8 +46,8 @@ text_of r = text_in (form_of r)
 abbrev pub is_ready : {P K Q : Type 0} → Recorder P K Q → Bool
 is_ready r = is_some (joined_from (state_of r).seat.calls) || is_some (state_of r).end
 
--- its file tells what was sent to it, and where it ended early, that has its cause: in the file's faults, in the answer of its
--- Join, or in all the calls that its pass has seen
+-- its file tells what was sent to it, and where it ended early, that has its cause: in the file's faults, in
+-- the answer of its Join, or in all the calls that its pass has seen
 abbrev pub Tallies : {P K Q : Type 0} → (Q → ℕ) → (K → Option (List ℕ)) → (K → ℕ) → Recorder P K Q → Type 0
 Tallies count holds faults r = Tallied count (holds (sink_of r)) (faults (sink_of r)) (state_of r)
 

@@ -1,4 +1,5 @@
--- ONE ROUND OF A WORKER: a link if one comes, a turn of each session, a close of each that has ended, a turn of each recorder
+-- ONE ROUND OF A WORKER: a link if one comes, a turn of each session, a close of each that has ended, a turn
+-- of each recorder
 use Rattle.std.specs.Prelude.{◌≡◌, ◌⊎◌, ◌≤◌, ◌+◌, ◌^◌, ◌&&◌, ◌||◌, ℕ, Bool, true, false, zero, suc, nat_lt, is_some}
 use Rattle.std.specs.Prelude.{List, length, slice_get, slice_set, Option, Some, None}
 use Rattle.slab.specs.Slab.{get, slab_len, Updates}
@@ -73,8 +74,8 @@ pub record WalksAll {P D Q L : Type 0} (step : ℕ → Bench P D Q L → Bench P
 
 -- ---- the session at a key takes a turn, if it is due
 
--- one takes a turn in the next round whatever its link says after a turn that moved, that left a call that waits, or in which the port
--- was busy once more
+-- one takes a turn in the next round whatever its link says after a turn that moved, that left a call that
+-- waits, or in which the port was busy once more
 abbrev pub leaves_due : {Q : Type 0} → ℕ → ℕ → Turn → SessionState Q → Bool
 leaves_due before after answer s = is_moved answer || (is_some s.parts.kept || nat_lt before after)
 

@@ -1,4 +1,4 @@
-//! What a worker has in hand: its port, its door, and its sessions with their links.
+//! The state of a worker during its rounds: its port, its door, and its sessions with their links.
 ghost use Rattle.std.specs.Prelude.{◌≡◌, ◌≢◌, ◌||◌, All, length, map, true, false, None, is_some, nat_lt};
 ghost use Rattle.stream_registry.specs.Names.{places};
 ghost use Rattle.relay_session.specs.Onward.{GoesOn};
@@ -27,17 +27,18 @@ use std::sync::Wait;
 use stream_registry::StreamPort;
 
 /// The number of a worker, how many links it has at most at a time, and the limits of its sessions.
-#[derive(Clone, Copy, Debug, PartialEq, Eq)]
+#[derive(Clone, Copy)]
 pub struct Terms {
     pub number: u32,
     pub links: u32,
     pub limits: Limits,
 }
 
-/// A session with its link. `over` says that it has ended, `asked` what its peer has asked for that waits or was granted. `due`
-/// says that it takes a turn in the next round whatever its link says: it is new, or its last turn moved, or has left a call that waits,
-/// or found the port busy. `stream` is the number for hints of the last stream that was granted to it, and `pushes` how often
-/// something was pushed to the one that it plays, before its last turn.
+/// A session with its link. `over` says that it has ended. `asked` is its peer's request that waits or was
+/// granted. `due` says that it takes a turn in the next round, whether or not its link is ready. It is due
+/// if it is new, or if its last turn moved, left a call that waits, or found the port busy. `stream` is the
+/// number for hints of the last stream that was granted to it. `pushes` is the number of pushes to the
+/// stream that it plays, before its last turn.
 #[derive(Drop)]
 pub struct Seated<P: StreamPort, L: Link> {
     pub session: Session<P>,
@@ -142,8 +143,9 @@ impl<P: StreamPort, L: Link> Seated<P, L> {
     }
 }
 
-/// Whether a session takes a turn in the next round whatever its link says, after a turn that moved something or not and has left a
-/// call that waits or none, before and after which so many calls of the port were answered Busy.
+/// Whether a session takes a turn in the next round, whether or not its link is ready. `moved` says that
+/// its last turn moved something, and `waits` that the turn left a call that waits. `before` and `after`
+/// are the numbers of the port's calls that were answered Busy before and after that turn.
 pub fn leaves_due(before: u64, after: u64, moved: bool, waits: bool) -> bool
     ensures { result ≡ (moved || (waits || nat_lt before after)) }
 {
@@ -237,10 +239,11 @@ fn wake<R: Rest>(rest: &mut R, moved: bool) {
     }
 }
 
-/// The port of a worker, its door and its sessions, each under a key. `had` is how many links it has had, and `closed` says
-/// that the door has closed. `refused` says that a link was dropped, or that a session or recorder has ended, for want of
-/// memory, and `worn` that a session has ended as the history of a stream was full. `moved` and `dropped` speak of this round:
-/// something moved, or a link was dropped.
+/// The port of a worker, its door and its sessions, each under a key. `had` is the number of links it has
+/// had, and `closed` says that the door has closed. `refused` says that a link was dropped, or that a
+/// session or recorder has ended, for want of memory. `worn` says that a session has ended because the
+/// history of a stream was full. `moved` and `dropped` describe this round: something moved, or a link was
+/// dropped.
 #[derive(Drop)]
 pub struct Bench<P: StreamPort, D: Door> {
     pub port: P,
@@ -498,7 +501,7 @@ impl<P: StreamPort, D: Door> Bench<P, D> {
         }
     }
 
-    // What this round did.
+    // The outcome of this round.
     pub(crate) fn round(&self, terms: &Terms) -> Round
         requires { IsSound P.fits P.rules D.told terms.now self.now }
         ensures { result ≡ answered D.told self.now }

@@ -1,4 +1,4 @@
-//! What workers tell each other of streams, so that sessions with nothing to do take no turn.
+//! Hints about streams that workers give each other, so that sessions with nothing to do take no turn.
 
 use relay_outside::Rest;
 use relay_session::Turn;
@@ -9,8 +9,8 @@ const BASIS: u32 = 2_166_136_261;
 
 const PRIME: u32 = 16_777_619;
 
-/// The number of a stream for hints, of the stream of that name at that place: the place where it is listed, and the place mixed with the
-/// name where that is an open table. Two streams may have one number.
+/// The number for hints of the stream of that name at that place. It is the place if the stream is listed,
+/// and the place mixed with the name if the place is an open table. Two streams may have one number.
 pub fn stream_number<P: StreamPort>(port: &P, app: &[u8], name: &[u8], place: u32) -> u32 {
     if is_open(port, app, name, place) {
         open_number(place, name)

@@ -1,4 +1,4 @@
-//! Laws of what a worker leaves.
+//! Laws of the remains of a worker.
 ghost use Rattle.std.specs.Prelude.{◌≡◌, ℕ, Bool, None, Some};
 ghost use Rattle.command_dialog.specs.declared.types.Ask.{Ask};
 ghost use Rattle.command_dialog.specs.declared.types.Grant.{Grant};
@@ -33,14 +33,14 @@ pub fn ready_law<P: StreamPort, D: Door>()
         (GoesOn P.fits P.rules P.root P.seen P.busies) desk D.Link.hears D.Link.says) P.busies key s b b' }
 {}
 
-/// What is left of a worker's books still holds once the streams' histories have gone on.
+/// The remaining books of a worker still hold once the streams' histories have gone on.
 pub fn settled_law()
     ensures { (desk : Ask → Grant) (terms : Terms) (limits : ℕ → Shape) (histories later : Histories) (door : DoorTold) (refused worn : Bool)
         → GoOn histories later → Settled desk terms limits histories door refused worn → Settled desk terms limits later door refused worn }
 {}
 
-/// The units that a session of an account pushed are the first of those that its messages publish: it pushed no other, and none
-/// twice.
+/// The units that a session of an account pushed are the first of those that its messages publish: it
+/// pushed no other, and none twice.
 pub fn published_law()
     ensures { (desk : Ask → Grant) (terms : Terms) (limits : ℕ → Shape) (histories : Histories) (a : Account)
         → (w : Accounted desk terms limits histories a)

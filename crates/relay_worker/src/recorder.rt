@@ -18,7 +18,7 @@ use std::sync::Wait;
 use stream_registry::StreamPort;
 
 /// How a recording is written.
-#[derive(Clone, Copy, Debug, PartialEq, Eq)]
+#[derive(Clone, Copy)]
 pub enum RecordingForm {
     /// As FLV.
     Flv,
@@ -35,7 +35,7 @@ pub enum Recorder<P: StreamPort, K: Sink> {
     Ts(TsRecorder<P>, K),
 }
 
-/// What became of a recorder that was to leave.
+/// The outcome for a recorder that was to leave.
 #[derive(Drop)]
 pub enum Parted<P: StreamPort, K: Sink> {
     /// It has left, and this is its file.
@@ -77,8 +77,9 @@ impl<P: StreamPort, K: Sink> Recorder<P, K> {
         }
     }
 
-    /// What the file took and what is pending are the text of the items that the recorder's Takes were sent, or a beginning
-    /// of it where there was no memory. Its calls stand in the stream's history.
+    /// The bytes that the file took, with the pending ones, are the text of the items that the recorder's
+    /// Takes were sent. If memory was lacking they are a beginning of it. Its calls stand in the stream's
+    /// history.
     pub fn law(&self)
         ensures whole { (state_of self.now).end ≢ Some RecEnd.OutOfMemory
             → (state_of self.now).tape.sent ++ (state_of self.now).tape.pending ≡ text_of self.now (taken (state_of self.now).seat.calls) }
@@ -97,7 +98,8 @@ impl<P: StreamPort, K: Sink> Recorder<P, K> {
         }
     }
 
-    /// One turn: a put of all that is pending, else a call. That is its Join where it hasn't joined, else one Take.
+    /// Takes one turn: a put of all pending bytes, else a call. The call is its Join if it hasn't joined,
+    /// else one Take.
     pub fn turn(&mut self, port: &mut P) -> RecTurn
         requires place { (state_of self.old).seat.place < length (P.rules port.old).names }
         requires fits { FitsIf (P.fits port.old (state_of self.old).seat.place) (state_of self.old).seat.pass }
@@ -120,7 +122,8 @@ impl<P: StreamPort, K: Sink> Recorder<P, K> {
         }
     }
 
-    /// Turns until it has joined its stream, or has ended. The answer of its last turn, or Moved where it took none.
+    /// Takes turns until it has joined its stream, or has ended. Returns the answer of its last turn, or
+    /// Moved if it took none.
     pub fn ready<W: Wait>(&mut self, rt: &W, port: &mut P) -> RecTurn
         requires place { (state_of self.old).seat.place < length (P.rules port.old).names }
         requires fits { FitsIf (P.fits port.old (state_of self.old).seat.place) (state_of self.old).seat.pass }
@@ -142,8 +145,8 @@ impl<P: StreamPort, K: Sink> Recorder<P, K> {
         unreachable!()
     }
 
-    /// Makes its Leave, if it has joined, and detaches its pass. Where the port is busy or has no memory for the call, the
-    /// recorder comes back, as it was. Where the history is full, no call is made any more.
+    /// Makes its Leave, if it has joined, and detaches its pass. If the port is busy or has no memory for
+    /// the call, the recorder comes back, as it was. If the history is full, no call is made any more.
     pub fn leave(self, port: &mut P) -> Parted<P, K>
         requires place { (state_of self).seat.place < length (P.rules port.old).names }
         requires fits { FitsIf (P.fits port.old (state_of self).seat.place) (state_of self).seat.pass }
@@ -167,7 +170,7 @@ impl<P: StreamPort, K: Sink> Recorder<P, K> {
         }
     }
 
-    /// Its file alone. The recorder is dropped where it is.
+    /// Returns its file alone. The recorder is dropped in its present state.
     pub fn into_file(self) -> K
         ensures { result ≡ sink_of self }
     {

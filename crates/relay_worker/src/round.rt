@@ -1,5 +1,5 @@
-/// What a round of a worker did.
-#[derive(Clone, Copy, Debug, PartialEq, Eq)]
+/// The outcome of a round of a worker.
+#[derive(Clone, Copy)]
 pub struct Round {
     /// A link came, a turn answered Moved, or a session was closed.
     pub moved: bool,

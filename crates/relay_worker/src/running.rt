@@ -14,8 +14,8 @@ use std::thread;
 use std::thread::Threads;
 use stream_registry::StreamPort;
 
-/// Each worker runs in a thread of its own until its door has closed and none of its sessions lives. The desk grants places of
-/// each port, and it is lent to all of them.
+/// Each worker runs in a thread of its own until its door has closed and none of its sessions lives. The
+/// desk grants places of each port, and it is lent to all of them.
 pub fn run_all<
     T: Threads + Wait + Sync,
     P: StreamPort + Send,

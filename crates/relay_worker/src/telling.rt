@@ -1,16 +1,16 @@
-//! What a link is told of its session, each thing once, as it changes.
+//! News of a session for its link, each thing once, as it changes.
 
 use crate::hints::stream_number;
 use command_dialog::{Ask, Grant, Role};
 use relay_outside::{Denied, Ending, Link, News};
-use relay_session::{Active, Desk, End, Session, Turn};
+use relay_session::{Active, Desk, End, Met, Session, Turn};
 use std::cell::Cell;
 use stream_registry::StreamPort;
 
 // The most bytes of a name that are told.
 const TOLD: usize = 64;
 
-/// What a peer has asked for: to publish or to play, and the first 64 bytes of the name.
+/// The request of a peer: to publish or to play, and the first 64 bytes of the name.
 #[derive(Clone, Copy)]
 pub struct Request {
     role: Role,
@@ -37,14 +37,14 @@ impl Request {
     }
 }
 
-// What was asked of a desk, and what it granted.
+// A request to a desk, and the desk's grant.
 #[derive(Clone, Copy)]
 pub(crate) struct Noted {
     asked: Request,
     grant: Grant,
 }
 
-// A desk that notes what it was asked last.
+// A desk that notes the last request to it.
 pub(crate) struct NotingDesk<'a, G: Desk> {
     pub(crate) inner: &'a G,
     pub(crate) noted: Cell<Option<Noted>>,
@@ -61,12 +61,13 @@ impl<G: Desk> Desk for NotingDesk<'_, G> {
     }
 }
 
-// Where a session stood before a turn.
+// The state of a session before a turn.
 #[derive(Clone, Copy)]
 pub(crate) struct Before {
     connected: bool,
     active: Active,
     held_back: bool,
+    met: Met,
 }
 
 impl Before {
@@ -75,13 +76,15 @@ impl Before {
             connected: session.app().is_some(),
             active: session.active(),
             held_back: is_held_back(session),
+            met: session.met(),
         }
     }
 }
 
-// Tells a link what a turn of its session did, before which this waited or was granted, and in which this was asked of the desk. What
-// waits or is granted after it. A peer asks anew only once what it asked for is over. Where that had to wait, was granted and was
-// ended by the peer all in one turn, it is told as refused.
+// Tells a link the effect of a turn of its session. `before` is the state before the turn, `asked` the
+// request that waited or was granted then, and `noted` the request to the desk in that turn. Returns the
+// request that waits or is granted after it. A peer asks anew only once its last request is over. A request
+// that had to wait, was granted and was ended by the peer, all in one turn, is told as refused.
 pub(crate) fn told<P: StreamPort, L: Link>(
     link: &L,
     session: &Session<P>,
@@ -97,9 +100,10 @@ pub(crate) fn told<P: StreamPort, L: Link>(
     let mut asked = asked;
     let mut was = before.active;
     let mut held_back_before = before.held_back;
+    let met = session.met();
     if let Some(noted) = noted {
         if let Some(older) = asked {
-            link.tell(over(older.role, was), app, older.name());
+            link.tell(over(older.role, was, met.denied), app, older.name());
         }
         asked = judged(link, app, noted);
         was = Active::Nothing;
@@ -112,16 +116,27 @@ pub(crate) fn told<P: StreamPort, L: Link>(
     let asked = asked?;
     let now = session.active();
     let waits = session.waits();
-    if let Some(news) = change(asked.role, was, now, waits) {
+    if let Some(news) = change(asked.role, was, now, waits, met.denied) {
         link.tell(news, app, asked.name());
     }
     if let Some(news) = pace(now, held_back_before, is_held_back(session)) {
         link.tell(news, app, asked.name());
     }
+    tell_missed(link, before.met, met, app, asked.name());
     if now == Active::Nothing && !waits {
         return None;
     }
     Some(asked)
+}
+
+/// Tells the link of a player how many items it has missed since these answers, if it has missed any.
+pub fn tell_missed<L: Link>(link: &L, before: Met, now: Met, app: &[u8], name: &[u8]) {
+    if now.skipped > before.skipped {
+        link.tell(News::Skipped(now.skipped - before.skipped), app, name);
+    }
+    if now.left_out > before.left_out {
+        link.tell(News::LeftOut(now.left_out - before.left_out), app, name);
+    }
 }
 
 // The number for hints of the stream that was granted last, to a session that had this one.
@@ -146,12 +161,12 @@ pub(crate) fn granted<P: StreamPort>(
     }
 }
 
-// Whether a session holds back what it owes to one that plays.
+// Whether a session holds back bytes that it owes to a player.
 fn is_held_back<P: StreamPort>(session: &Session<P>) -> bool {
     matches!(session.active(), Active::Plays { player: _ }) && session.is_held_back()
 }
 
-// The application to which the peer of a session has connected, empty where it hasn't.
+// The application to which the peer of a session has connected, empty if it hasn't.
 fn app_of<P: StreamPort>(session: &Session<P>) -> &[u8] {
     match session.app() {
         None => b"",
@@ -166,7 +181,7 @@ fn name_of(asked: &Option<Request>) -> &[u8] {
     }
 }
 
-// What was asked for, where a place was granted to it. A link is told why none was.
+// Returns the request, if a place was granted to it. A link is told the reason if none was.
 fn judged<L: Link>(link: &L, app: &[u8], noted: Noted) -> Option<Request> {
     let why = match noted.grant {
         Grant::Place(_) => return Some(noted.asked),
@@ -177,28 +192,36 @@ fn judged<L: Link>(link: &L, app: &[u8], noted: Noted) -> Option<Request> {
     None
 }
 
-// What is told of what was asked for once it is over.
-fn over(role: Role, was: Active) -> News {
+// The news of a request once it is over.
+fn over(role: Role, was: Active, denied: Option<Denied>) -> News {
     if was != Active::Nothing {
         return News::Left;
     }
-    match role {
-        Role::Publish => News::Denied(Denied::InUse),
-        Role::Play => News::Denied(Denied::Full),
-    }
+    let why = match (denied, role) {
+        (Some(why), _) => why,
+        (None, Role::Publish) => Denied::InUse,
+        (None, Role::Play) => Denied::Full,
+    };
+    News::Denied(why)
 }
 
-// What is told of what was asked for, if it is another thing than before.
-fn change(role: Role, was: Active, now: Active, waits: bool) -> Option<News> {
+// The news of a request, if it differs from the news before.
+fn change(
+    role: Role,
+    was: Active,
+    now: Active,
+    waits: bool,
+    denied: Option<Denied>,
+) -> Option<News> {
     let news = match now {
-        Active::Nothing => return (!waits).then_some(over(role, was)),
+        Active::Nothing => return (!waits).then_some(over(role, was, denied)),
         Active::Publishes => News::Publishes,
         Active::Plays { player: _ } => News::Plays,
     };
     (was == Active::Nothing).then_some(news)
 }
 
-// What is told of one that plays where its session holds back from now on, or no longer does.
+// The news of a player if its session holds back from now on, or no longer does.
 fn pace(now: Active, held_back_before: bool, held_back: bool) -> Option<News> {
     if held_back_before == held_back {
         return None;

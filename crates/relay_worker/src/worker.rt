@@ -30,8 +30,8 @@ use std::marker::Model;
 use std::sync::Wait;
 use stream_registry::StreamPort;
 
-/// One thread of the relay: it takes links from its door, gives each session of them its turns, and hands the links back.
-/// It gives its recorders their turns too.
+/// One thread of the relay: it takes links from its door, gives each session of them its turns, and hands
+/// the links back. It gives its recorders their turns too.
 #[derive(Drop)]
 pub struct Worker<P: StreamPort, D: Door, R: Rest, K: Sink> {
     alloc: Global,
@@ -51,8 +51,9 @@ impl<P: StreamPort, D: Door, R: Rest, K: Sink> Model for Worker<P, D, R, K> {
     ghost invariant = { λ w. IsSound P.fits P.rules D.told w.terms w.bench × AreFiled P.fits P.rules w.bench.port w.recorders.items };
 }
 
-/// What is left of a worker: its port, its door, its recorders, and whether a link was dropped, or a session or recorder has
-/// ended, for want of memory. `worn` says that a session has ended as the history of a stream was full.
+/// The remains of a worker: its port, its door, its recorders, and whether a link was dropped, or a session
+/// or recorder has ended, for want of memory. `worn` says that a session has ended because the history of a
+/// stream was full.
 #[derive(Drop)]
 pub struct Finished<P: StreamPort, D: Door, K: Sink> {
     pub port: P,
@@ -63,8 +64,9 @@ pub struct Finished<P: StreamPort, D: Door, K: Sink> {
 }
 
 impl<P: StreamPort, D: Door, R: Rest, K: Sink> Worker<P, D, R, K> {
-    /// A worker of this number, which is below 2^20, with at most so many links at a time, whose sessions have these limits.
-    /// All link places are taken now, and no link needs memory when it comes. The door is a new one.
+    /// Makes a worker of this number, which is below 2^20, with at most `links` links at a time, whose
+    /// sessions have these limits. All link places are taken now, and no link needs memory when it comes.
+    /// The door is a new one.
     pub fn new(
         alloc: Global,
         number: u32,
@@ -110,7 +112,8 @@ impl<P: StreamPort, D: Door, R: Rest, K: Sink> Worker<P, D, R, K> {
         })
     }
 
-    /// What it keeps: at most so many sessions, each with a name of its own, and all of them and the recorders fit its port.
+    /// The invariant: it has at most `links` sessions, each with a name of its own, and all of them and the
+    /// recorders fit its port.
     pub fn law(&self)
         ensures sound { IsSound P.fits P.rules D.told self.now.terms self.now.bench }
         ensures filed { AreFiled P.fits P.rules self.now.bench.port self.now.recorders }
@@ -118,8 +121,8 @@ impl<P: StreamPort, D: Door, R: Rest, K: Sink> Worker<P, D, R, K> {
         let _ = &self.bench;
     }
 
-    /// One recorder more. Its place is there, and a pass that it has was attached to the worker's port or to one made with
-    /// it. A refusal drops this recorder, and changes nothing else.
+    /// One recorder more. Its place is there, and a pass that it has was attached to the worker's port or
+    /// to one made with it. A refusal drops this recorder, and changes nothing else.
     pub fn enlist(&mut self, recorder: Recorder<P, K>) -> Result<(), OutOfMemory>
         requires { IsFiled (P.fits self.old.bench.port) (length (P.rules self.old.bench.port).names) recorder }
         ensures enlisted { OnOk result (self.new ≡ record self.old { recorders = self.old.recorders ++ recorder ∷ [] }) }
@@ -133,8 +136,8 @@ impl<P: StreamPort, D: Door, R: Rest, K: Sink> Worker<P, D, R, K> {
         Ok(())
     }
 
-    /// Each recorder takes turns until it has joined its stream, or has ended: what is published from then on it takes from the
-    /// first item on.
+    /// Lets each recorder take turns until it has joined its stream, or has ended. A recorder that has
+    /// joined takes all items published from then on.
     pub fn ready<W: Wait>(&mut self, rt: &W)
         ensures keeps { KeepsOn P.fits P.rules P.root self.old self.new }
         ensures ready { All (λ r. is_ready r ≡ true) self.new.recorders }
@@ -154,10 +157,11 @@ impl<P: StreamPort, D: Door, R: Rest, K: Sink> Worker<P, D, R, K> {
         self.rest.pause();
     }
 
-    /// One round: the door is asked for a link where a place is free, each session that is due takes one turn, in the order of the
-    /// keys, each that has ended is closed, and each recorder takes one turn. One takes a turn for certain that is new, whose link is
-    /// ready, or whose last turn moved, or left a call that waits, or found the port busy; one that takes none stays as it is. Each
-    /// desk that is handed in is to be the same.
+    /// Runs one round. The door is asked for a link if a place is free. Each session that is due takes one
+    /// turn, in the order of the keys, each that has ended is closed, and each recorder takes one turn. A
+    /// session takes a turn for certain if it is new or its link is ready. It also takes one if its last
+    /// turn moved, left a call that waits, or found the port busy. A session that takes none stays as it
+    /// is. Each desk that is handed in is to be the same.
     pub fn round<G: Desk>(&mut self, desk: &G) -> Round
         requires offered { IsOffered (G.grants desk.now) (places (P.rules self.old.bench.port)) }
         ensures rounds { Rounds D.Link.told D.Link.counts D.told
@@ -246,7 +250,7 @@ impl<P: StreamPort, D: Door, R: Rest, K: Sink> Worker<P, D, R, K> {
     }
 }
 
-// What the steps of a link mean.
+// The meaning of a link's steps.
 fn link_law<L: Link>()
     ensures heard { (l : L) (room : ℕ) (answer : Came) (m : L) → 0 < room → L.hears l room answer m
         → HearStep room (L.told l) (L.told m) (L.counts l) (L.counts m) answer }

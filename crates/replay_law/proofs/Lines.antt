@@ -20,7 +20,7 @@ use Rattle.relay_script.specs.declared.replay.Form.{Form}
 use Rattle.relay_script.specs.declared.replay.ReplayLine.{ReplayLine}
 use Rattle.relay_script.specs.declared.replay.ReplayLine.TheVariants.{Nothing, Limits, Stream, Guard, Recorder, Session, Piece, Eof, Room, FailRecv, FailSend}
 use Rattle.relay_script.specs.declared.replay.ReplayLine.TheVariants.{FailPut, Turn, Rec, All as Rounds, Quit, OpenApp, GuardOpen, OpenHttp, OpenEdge}
-use Rattle.relay_session.specs.Grants.{granted_from}
+use Rattle.config_desk.specs.Grants.{granted_from}
 use Rattle.relay_session.specs.Owing.{Owing}
 use Rattle.relay_session.specs.SeatState.{active_at, place_of}
 use Rattle.relay_session.specs.SessionState.{Lasting, SessionState, StandsBy}

@@ -34,13 +34,14 @@ nearness w = 1000 - room_of w
 abbrev pub to_greet : ℕ → ℕ
 to_greet fed = if nat_lt fed hand_bytes then 1860 else 0
 
--- what bounds the answers while input is fed, where n bytes of them wait: 16,000 for each, and for each that is still to come of
--- the handshake's; and 356 for each byte of input, since acknowledgements of at most 22 bytes come 1,000 bytes apart
+-- what bounds the answers while input is fed, where n bytes of them wait: 16,000 for each, and for each that
+-- is still to come of the handshake's; and 356 for each byte of input, since acknowledgements of at most 22
+-- bytes come 1,000 bytes apart
 abbrev pub weight : ℕ → ℕ → InWindow → ℕ
 weight n fed w = 16000 * (n + to_greet fed) + 356 * nearness w
 
--- one that publishes is told nothing, and one that plays is given no tags; a tag that is encoded has at most a byte more for each
--- 512 of its body, and 18
+-- one that publishes is told nothing, and one that plays is given no tags; a tag that is encoded has at most
+-- a byte more for each 512 of its body, and 18
 abbrev pub Parts : Wish → ℕ → ℕ → Option Gift → Type 0
 Parts wish.Push max tag g = (g ≡ None) × (512 * tag ≤ 9216 + 513 * max)
 Parts wish.Pull max tag g = (tag ≡ 0) × (gift_bytes g ≤ max)
@@ -80,7 +81,8 @@ pub record IsHolding (c : Core) (input : List ℕ) (n : ℕ) : Type 0 where
   pub read : IsParts c.reader parts
   pub sum : n ≡ sum_of (held_with c input parts)
 
--- IT HOLDS NO MORE THAN so many bytes, where it takes and is given messages of at most `max` bytes: 512 times 4,096 of input, `max`
--- and 65,536 of messages in progress, 32,768 of answers, and a tag or a gift with a byte more for each 512 of it
+-- IT HOLDS NO MORE THAN so many bytes, where it takes and is given messages of at most `max` bytes: 512 times
+-- 4,096 of input, `max` and 65,536 of messages in progress, 32,768 of answers, and a tag or a gift with a
+-- byte more for each 512 of it
 abbrev pub IsWithin : ℕ → ℕ → Type 0
 IsWithin max n = 512 * n ≤ 512 * (4096 + (max + 65536) + 32768) + 513 * max

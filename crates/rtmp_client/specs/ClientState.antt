@@ -64,8 +64,8 @@ abbrev pub LivesOn : Core → Result Bool ClientEnd → Type 0
 LivesOn c (Ok moved) = IsLiving c
 LivesOn c (Err e) = HasEnded e c
 
--- WHAT WAS SENT AND WHAT IS PENDING IS WHAT IT OWES, for the messages that the bytes fed read as, and what was taken and what waits
--- is what it was told
+-- WHAT WAS SENT AND WHAT IS PENDING IS WHAT IT OWES, for the messages that the bytes fed read as, and what
+-- was taken and what waits is what it was told
 pub record StandsSo (c : Core) : Type 0 where
   pub read : IsRead c.reader.max (drop hand_bytes c.y) c.reader.given
   pub stands : StandsNow c

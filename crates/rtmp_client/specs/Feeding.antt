@@ -85,8 +85,8 @@ Decides max given y n end.PeerClosed = ⊥
 Decides max given y n end.LinkFault = ⊥
 Decides max given y n end.Done = ⊥
 
--- the bytes before it were fed, whose version is taken and which complete no message, nothing else was received or sent, and the
--- dialogue stands where it did
+-- the bytes before it were fed, whose version is taken and which complete no message, nothing else was
+-- received or sent, and the dialogue stands where it did
 pub record IsStopped (old : Core) (input : List ℕ) (e : ClientEnd) (new : Core) : Type 0 where
   pub fed : List ℕ
   pub left : List ℕ

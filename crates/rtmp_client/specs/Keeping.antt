@@ -55,8 +55,8 @@ pub record IsSound (c : Core) : Type 0 where
   pub wide : IsWide c.phase c.outgoing.writer.size
   pub stands : StandsNow c
 
--- WHAT WAS SENT, with these bytes more, IS WHAT IT OWES for the bytes fed and what it was given, and what was taken and what waits
--- is what it was told
+-- WHAT WAS SENT, with these bytes more, IS WHAT IT OWES for the bytes fed and what it was given, and what was
+-- taken and what waits is what it was told
 pub record IsOver (c : Core) (more : List ℕ) : Type 0 where
   pub ms : List (ℕ × Message)
   pub read : IsRead c.reader.max (drop hand_bytes c.y) ms

@@ -21,8 +21,8 @@ abbrev pub AreSayable : List Message → Type 0
 AreSayable [] = Unit {0}
 AreSayable (m ∷ ms) = IsSayable m × AreSayable ms
 
--- sixteen times the bytes that a message has at most as chunks: 18 for its first header, and for each sixteen bytes of its body
--- one more
+-- sixteen times the bytes that a message has at most as chunks: 18 for its first header, and for each sixteen
+-- bytes of its body one more
 abbrev pub cost_of : Message → ℕ
 cost_of m = 288 + 17 * length m.body
 
@@ -55,7 +55,8 @@ pub record Shows (old : Owing) (m : Message) (new : Owing) : Type 0 where
   pub writer : new.writer ≡ after_all old.writer (m ∷ [])
   pub others : new.others ≡ 0
 
--- what the fields keep. Of the bytes that were sent fewer are kept than 16,384 or than are pending, and none where all were
+-- what the fields keep. Of the bytes that were sent fewer are kept than 16,384 or than are pending, and none
+-- where all were
 pub record IsOwing (bytes : List ℕ) (offset tag : ℕ) (writer : WriterKnown) : Type 0 where
   pub within : offset ≤ length bytes
   pub marked : tag ≤ length bytes

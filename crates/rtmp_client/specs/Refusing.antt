@@ -26,6 +26,7 @@ refused_by at m (Ok None) = if m.kind == 20 then ended_by at (news_in m.body) el
 refused_by at m (Ok (Some control)) = None
 refused_by at m (Err e) = Some (end.BadControl at)
 
--- WHY A MESSAGE ENDS the client, if it does: an error of the server, a body that is no command, or a control that is too short
+-- WHY A MESSAGE ENDS the client, if it does: an error of the server, a body that is no command, or a control
+-- that is too short
 unfoldable pub refused : ℕ → Message → Option ClientEnd
 refused at m = refused_by at m (control_in m)

@@ -50,8 +50,8 @@ is_hungry c = not (is_some c.gift) && nat_le c.outgoing.others 8192
 abbrev pub is_done : Core → Bool
 is_done c = c.finished && is_nil c.outgoing.pending
 
--- IT STANDS FOR THE BYTES FED: their version is taken, they are counted, the messages read are theirs, and what was sent and what is
--- pending is what it owes for them
+-- IT STANDS FOR THE BYTES FED: their version is taken, they are counted, the messages read are theirs, and
+-- what was sent and what is pending is what it owes for them
 pub record StandsFed (c : Core) : Type 0 where
   pub version : bad_version c.y ≡ None
   pub counted : c.fed ≡ length c.y

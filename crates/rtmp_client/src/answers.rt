@@ -1,4 +1,4 @@
-//! What a message does: what it is answered, and what it tells.
+//! The effects of a message: its answers, and the gift that it tells.
 ghost use Rattle.std.specs.Prelude.{◌≡◌, ◌≤◌, ◌+◌, ◌*◌, ◌⊎◌, ◌==◌, true, false, None, Some, Ok, Err, OnErr, OnOk, IfOk, IfErr, MatchResult};
 ghost use Rattle.ack_window.specs.Controls.{ping_answer_of};
 ghost use Rattle.session_owed.specs.Acks.{window_by, windowed};
@@ -25,7 +25,7 @@ use flv_tags::Tag;
 use rtmp_command::CommandFail;
 use std::alloc::Global;
 
-// Sets the window where a control says so.
+// Sets the window if a control says so.
 fn heed(inbound: &mut Inbound, control: Control)
     ensures { inbound.new ≡ record { window = windowed inbound.old.window control; taken = inbound.old.taken } }
 {
@@ -58,14 +58,14 @@ fn answer_control(
     }
 }
 
-// Whether a message of this type is a tag (7.1.2, 7.1.4, 7.1.5).
+// Returns whether a message of this type is a tag (7.1.2, 7.1.4, 7.1.5).
 fn is_media(kind: u8) -> bool
     ensures { result ≡ is_kind kind }
 {
     kind == 8 || kind == 9 || kind == 18
 }
 
-// The tag that a message on this message stream is.
+// Returns the message as a tag, if it is one on this message stream.
 fn media_on(id: u32, message: Message) -> Option<Gift>
     ensures { listed result ≡ tag_on id message }
 {
@@ -82,7 +82,7 @@ fn media_on(id: u32, message: Message) -> Option<Gift>
     }
 }
 
-// What a message that is no command tells.
+// Returns the gift that a message which is no command tells.
 fn media(wish: Wish, phase: Phase, message: Message) -> Option<Gift>
     ensures { listed result ≡ media_for wish phase message }
 {
@@ -97,7 +97,7 @@ fn media(wish: Wish, phase: Phase, message: Message) -> Option<Gift>
     }
 }
 
-// What a status tells (7.2.2.1).
+// Returns the gift that a status tells (7.2.2.1).
 fn told_by(code: &[u8]) -> Option<Gift>
     ensures { listed result ≡ told_by_code code.now }
 {
@@ -110,7 +110,7 @@ fn told_by(code: &[u8]) -> Option<Gift>
     None
 }
 
-// What is made known tells.
+// Returns the gift that this news tells.
 fn told_news(news: &News) -> Option<Gift>
     ensures { listed result ≡ told_in (Ok news.now) }
 {
@@ -125,7 +125,7 @@ fn told_news(news: &News) -> Option<Gift>
     }
 }
 
-// What a command tells.
+// Returns the gift that a command tells.
 fn told(wish: Wish, phase: Phase, news: &News) -> Option<Gift>
     ensures { listed result ≡ told_for wish phase (Ok news.now) }
 {
@@ -140,7 +140,7 @@ fn told(wish: Wish, phase: Phase, news: &News) -> Option<Gift>
     }
 }
 
-// Why a body that is no command ends the client, where its last byte is at this place.
+// Returns why a body that is no command ends the client. `at` is the place of its last byte.
 fn end_of(fail: CommandFail, at: u64) -> ClientEnd
     ensures { Some result ≡ ended_by at (Err fail) }
 {
@@ -150,7 +150,7 @@ fn end_of(fail: CommandFail, at: u64) -> ClientEnd
     }
 }
 
-// What a command makes known, where that doesn't end the client.
+// Returns the news of a command, unless that ends the client.
 fn heard(alloc: Global, last: u64, body: &[u8]) -> Result<News, ClientEnd>
     ensures { MatchResult result (λ n. (news_in body.now ≡ Ok n) × (ended_by last (Ok n) ≡ None)) (λ e. (e ≡ end.OutOfMemory) ⊎ (ended_by last (news_in body.now) ≡ Some e)) }
 {
@@ -189,7 +189,7 @@ fn answer_command(
     }
 }
 
-// Does what a message that is no command says.
+// Does what a message says that is no command.
 fn answer_other(
     alloc: Global,
     wish: Wish,
@@ -222,8 +222,8 @@ fn answer_other(
     }
 }
 
-/// Does what a message says, where its last byte is at the place `last`. What it is answered is to be sent, the window that it
-/// sets holds from the next byte on, and what it tells is given.
+/// Does what a message says. `last` is the place of its last byte. Its answers are to be sent, the window
+/// that it sets holds from the next byte on, and the gift that it tells is returned.
 pub(crate) fn answer(
     alloc: Global,
     asked: &Asked,

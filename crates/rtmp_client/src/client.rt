@@ -25,8 +25,9 @@ use std::marker::Model;
 
 /// A client of an RTMP server.
 ///
-/// Contracts see what it was fed, given and told, what it owes and has sent, the input that it wasn't fed, and why it has
-/// ended, if it has.
+/// Contracts see the bytes that it was fed, the tags that it was given and the gifts that it was told. They
+/// also see the bytes that it owes and has sent, the input that it wasn't fed, and why it has ended, if it
+/// has.
 #[derive(Drop)]
 pub struct Client {
     core: Core,
@@ -45,8 +46,8 @@ impl Model for Client {
 }
 
 impl Client {
-    /// A client that publishes or plays the stream of this name at an app. It takes messages of at most `max_message` bytes.
-    /// Its first bytes are to be sent.
+    /// Makes a client that publishes or plays the stream of this name at an app. It takes messages of at most
+    /// `max_message` bytes. Its first bytes are to be sent.
     pub fn new(
         alloc: Global,
         wish: Wish,
@@ -76,8 +77,8 @@ impl Client {
         })
     }
 
-    /// One turn: it sends, it ends where it was finished and all was sent, and it takes input, until a message is complete and
-    /// handled.
+    /// Takes one turn. It sends, ends if it was finished and all was sent, and takes input until a message is
+    /// complete and handled.
     pub fn turn<L: Link>(&mut self, alloc: Global, link: &mut L) -> ClientTurn
         ensures turn { TurnMade (EndedBy L.hears L.says) self.old link.old result self.new link.new }
         ensures stands { StandsFor self.new }
@@ -94,14 +95,14 @@ impl Client {
         )
     }
 
-    /// Why it has ended, if it has.
+    /// Returns why it has ended, if it has.
     pub fn end(&self) -> &Option<ClientEnd>
         ensures { result.now ≡ self.now.ended }
     {
         &self.ended
     }
 
-    /// Whether the server has said that what was asked for has started.
+    /// Returns whether the server has said that the publish or play has started.
     pub fn started(&self) -> bool
         ensures { result ≡ has_started self.now.parts.phase }
     {
@@ -113,15 +114,15 @@ impl Client {
         }
     }
 
-    /// How many bytes are encoded and not sent.
+    /// Returns the number of bytes that are encoded and not sent.
     pub fn pending(&self) -> u64
         ensures { result ≡ length self.now.parts.outgoing.pending }
     {
         self.core.outgoing.pending().len() as u64
     }
 
-    /// How many bytes it holds: of the input that it wasn't fed, of messages in progress, of those to be sent, and of the gift
-    /// that waits.
+    /// Returns the number of bytes that it holds: of the input that it wasn't fed, of messages in progress,
+    /// of those to be sent, and of the gift that waits.
     pub fn held(&self) -> u64
         ensures holds { IsHolding self.now.parts self.now.input result }
         ensures most { IsWithin self.now.parts.reader.max result }
@@ -129,7 +130,7 @@ impl Client {
         held_in(&self.core, &self.input)
     }
 
-    /// Gives a tag to be published, where nothing is pending. Want of memory changes nothing.
+    /// Gives a tag to be published, if nothing is pending. `OutOfMemory` changes nothing.
     pub fn give(&mut self, tag: Tag) -> Result<(), OutOfMemory>
         requires lives { self.old.ended ≡ None }
         requires started { has_started self.old.parts.phase ≡ true }
@@ -152,7 +153,7 @@ impl Client {
         }
     }
 
-    /// Tells it that no more will come. Want of memory changes nothing.
+    /// Tells the client that no more will come. `OutOfMemory` changes nothing.
     pub fn finish(&mut self, alloc: Global) -> Result<(), OutOfMemory>
         requires lives { self.old.ended ≡ None }
         requires started { has_started self.old.parts.phase ≡ true }

@@ -5,9 +5,11 @@ use chunk_reader::Reader;
 use client_owed::{Asked, Gave, Gift, Phase};
 use past::Flow;
 
-/// What a client keeps of its server's bytes and of what it owes and was told. `first` are the bytes of the handshake, until
-/// that is over. `y`, the bytes fed, `gave`, what it was given, `taken`, the gifts taken, and `sent`, the bytes sent, are of no
-/// bytes.
+/// The state that a client keeps of its server's bytes, of the bytes that it owes, and of its gifts. `first`
+/// are the bytes of the handshake, until that is over.
+///
+/// These fields take no bytes: `y`, the bytes fed, `gave`, the tags and the finish that it was given,
+/// `taken`, the gifts taken, and `sent`, the bytes sent.
 #[derive(Drop)]
 pub struct Core {
     pub asked: Asked,

@@ -2,9 +2,9 @@ use av_unit::Bytes;
 use chunk_reader::ReadCause;
 use thiserror::Error;
 
-/// Why a client ends. A place is the number of the server's bytes before the byte that decides, those of the handshake
-/// among them.
-#[derive(Debug, PartialEq, Eq, Drop, Error)]
+/// The reason why a client ends. A place is the number of the server's bytes before the byte that decides,
+/// those of the handshake among them.
+#[derive(Debug, Drop, Error)]
 pub enum ClientEnd {
     /// The server has closed the link.
     #[error("the server closed the link")]
@@ -24,19 +24,19 @@ pub enum ClientEnd {
     /// The body of a command message is no command.
     #[error("a command message that is no command, at byte {at}")]
     BadCommand { at: u64 },
-    /// The server answered with an error: its code, or no bytes where it told none.
+    /// The server answered with an error: its code, or no bytes if it gave none.
     #[error("the server refused")]
     Refused { code: Bytes },
     /// It was finished, and all that it owed was sent.
     #[error("all was sent")]
     Done,
-    /// Want of memory.
+    /// Memory was refused.
     #[error("out of memory")]
     OutOfMemory,
 }
 
 /// The answer of a turn.
-#[derive(Clone, Copy, Debug, PartialEq, Eq)]
+#[derive(Clone, Copy)]
 pub enum ClientTurn {
     /// A byte was received, sent or fed.
     Moved,

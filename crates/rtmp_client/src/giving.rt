@@ -1,4 +1,4 @@
-//! What a client is given, and the gifts that are taken.
+//! The tags that a client is given, and the gifts that are taken.
 ghost use Rattle.std.specs.Prelude.{◌≡◌, ◌≤◌, ◌+◌, ◌*◌, [], length, true, false, None, Some, OnOk, OnErr};
 ghost use Rattle.client_owed.specs.declared.types.Given.TheVariants as given;
 ghost use Rattle.client_owed.specs.declared.types.Phase.TheVariants as phase;

@@ -5,7 +5,7 @@ use crate::Core;
 use crate::input::Input;
 use client_owed::Gift;
 
-// How many bytes the tag has that a gift is.
+// Returns the number of bytes of a gift's tag, or 0.
 fn gift_len(gift: &Option<Gift>) -> usize
     ensures { result ≡ gift_bytes gift.now }
 {
@@ -17,7 +17,7 @@ fn gift_len(gift: &Option<Gift>) -> usize
     }
 }
 
-/// How many bytes a client with this input holds.
+/// Returns the number of bytes that a client with this input holds.
 pub(crate) fn held_in(core: &Core, input: &Input) -> u64
     requires { IsSmall core.now }
     ensures holds { IsHolding core.now input.now result }

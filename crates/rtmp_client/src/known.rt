@@ -1,4 +1,4 @@
-//! Reads of a command what matters to a client, and passes over all else.
+//! Reads the parts of a command that matter to a client, and skips all else.
 ghost use Rattle.std.specs.Prelude.{◌≡◌, ◌⊎◌, [], Ok, Err, None, unwrap_or, MatchResult};
 ghost use Rattle.amf0_value.specs.Tree.{Items};
 ghost use Rattle.amf0_value.specs.Refusal.{Stops, StopsAll};
@@ -15,8 +15,8 @@ use client_owed::News;
 use rtmp_command::CommandFail;
 use std::alloc::Global;
 
-/// What a client reads of the fourth value of a command: the pattern of the number that it is, and where it is an object its
-/// texts under `level` and `code`, or no bytes.
+/// The parts of a command's fourth value that a client reads: the pattern of the number that it is, or the
+/// texts under `level` and `code` if it is an object. A text that is missing has no bytes.
 #[derive(Drop)]
 pub(crate) struct Fourth {
     pub number: Option<u64>,
@@ -24,7 +24,8 @@ pub(crate) struct Fourth {
     pub code: Bytes,
 }
 
-/// What a client reads of a command (RTMP 1.0, section 7.2): its name, its transaction, and its fourth value.
+/// The parts of a command that a client reads (RTMP 1.0, section 7.2): its name, its transaction, and its
+/// fourth value.
 #[derive(Drop)]
 pub(crate) struct Known {
     pub name: Bytes,
@@ -32,7 +33,7 @@ pub(crate) struct Known {
     pub fourth: Fourth,
 }
 
-// A value as a text.
+// Returns a value as a text.
 fn text_in(value: Brief) -> Option<Bytes>
     ensures { result ≡ text_in_brief value }
 {
@@ -44,7 +45,7 @@ fn text_in(value: Brief) -> Option<Bytes>
     }
 }
 
-// A value as a number.
+// Returns a value as a number.
 fn bits_in(value: &Brief) -> Option<u64>
     ensures { result ≡ bits_in_brief value.now }
 {
@@ -56,7 +57,7 @@ fn bits_in(value: &Brief) -> Option<u64>
     }
 }
 
-// What isn't a number counts as the pattern 0.
+// Returns the pattern of a number. A value that isn't a number counts as the pattern 0.
 fn number(value: &Brief) -> u64
     ensures { result ≡ number_in_brief value.now }
 {
@@ -66,7 +67,7 @@ fn number(value: &Brief) -> u64
     }
 }
 
-// The text of a pair, or no bytes.
+// Returns the text of a pair, or no bytes.
 fn text_or_none(alloc: Global, found: Option<Option<Brief>>) -> Bytes
     ensures { result ≡ unwrap_or (text_of found) [] }
 {
@@ -80,7 +81,7 @@ fn text_or_none(alloc: Global, found: Option<Option<Brief>>) -> Bytes
     }
 }
 
-// No value.
+// Returns the fourth value of a command that has none.
 fn nothing(alloc: Global) -> Fourth
     ensures { result ≡ fourth_of None }
 {
@@ -184,7 +185,7 @@ fn read_behind_third(
     })
 }
 
-// Why a body is no command.
+// Returns why a body is no command.
 fn no_command(fail: AmfFail) -> CommandFail
     ensures { result ≡ command_fail fail }
 {
@@ -197,7 +198,7 @@ fn no_command(fail: AmfFail) -> CommandFail
     }
 }
 
-// What a command makes known.
+// Returns the news that a command brings.
 fn news_of(known: Known) -> News
     ensures { result ≡ news_by known }
 {
@@ -222,7 +223,7 @@ fn news_of(known: Known) -> News
     News::Other
 }
 
-// A status.
+// Returns the news that a status brings.
 fn status(fourth: Fourth) -> News
     ensures { result ≡ status_by fourth }
 {
@@ -232,7 +233,7 @@ fn status(fourth: Fourth) -> News
     News::Status(fourth.code)
 }
 
-/// What the command that a message's body is makes known, or why the body is none.
+/// Returns the news of the command in a message's body, or why the body is no command.
 pub(crate) fn news(alloc: Global, body: &[u8]) -> Result<News, CommandFail>
     ensures { MatchResult result (λ n. news_in body.now ≡ Ok n) (λ e. (e ≡ CommandFail.OutOfMemory) ⊎ (news_in body.now ≡ Err e)) }
 {

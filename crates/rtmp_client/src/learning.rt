@@ -1,4 +1,4 @@
-//! What a client does with what is made known to it: each of the three answers counts once, in its turn.
+//! The effects of news on a client: each of the three answers counts once, in its turn.
 ghost use Rattle.std.specs.Prelude.{◌≡◌, ◌≤◌, ◌+◌, ◌*◌, ◌∷◌, [], OnErr, OnOk};
 ghost use Rattle.client_owed.specs.declared.types.Asked.{Asked as TheAsked};
 ghost use Rattle.client_owed.specs.declared.types.Phase.TheVariants as phase;
@@ -16,10 +16,10 @@ use av_unit::OutOfMemory;
 use client_owed::{Asked, News, Phase, Wish};
 use std::alloc::Global;
 
-// How many bytes of payload the chunks of a connected client have.
+// The number of bytes of payload in the chunks of a connected client.
 const CHUNK_SIZE: u32 = 4_096;
 
-// The message stream id that a number with this pattern is, if it is one.
+// Returns the number with this pattern as a message stream id, if it is one.
 fn id_of(bits: u64) -> Option<u32>
     ensures { result ≡ id_in bits }
 {
@@ -44,7 +44,7 @@ fn id_of(bits: u64) -> Option<u32>
     }
 }
 
-// The code of the status by which it has started (7.2.2).
+// Returns the code of the status by which the publish or play has started (7.2.2).
 fn start_code(wish: Wish) -> &'static [u8]
     ensures { result.now ≡ code_of wish }
 {
@@ -54,7 +54,7 @@ fn start_code(wish: Wish) -> &'static [u8]
     }
 }
 
-// The phase after the answer to `createStream`.
+// Returns the phase after the answer to `createStream`.
 fn created(number: Option<u64>) -> Phase
     ensures { (k : TheAsked) → result ≡ (created_by k number).phase }
 {
@@ -67,7 +67,7 @@ fn created(number: Option<u64>) -> Phase
     }
 }
 
-// The phase after `connect` was sent.
+// Returns the next phase if `connect` was sent.
 fn behind_connect(news: &News) -> Phase
     ensures { (k : TheAsked) → result ≡ (learns k phase.Connecting news.now).phase }
 {
@@ -88,7 +88,7 @@ fn behind_connect(news: &News) -> Phase
     }
 }
 
-// The phase after `createStream` was sent.
+// Returns the next phase if `createStream` was sent.
 fn behind_create(news: &News) -> Phase
     ensures { (k : TheAsked) → result ≡ (learns k phase.Creating news.now).phase }
 {
@@ -109,7 +109,7 @@ fn behind_create(news: &News) -> Phase
     }
 }
 
-// The phase after `publish` or `play` was sent.
+// Returns the next phase if `publish` or `play` was sent.
 fn behind_ask(wish: Wish, id: u32, news: &News) -> Phase
     ensures { (k : TheAsked) → k.wish ≡ wish → result ≡ (learns k (phase.Asking id) news.now).phase }
 {
@@ -130,7 +130,7 @@ fn behind_ask(wish: Wish, id: u32, news: &News) -> Phase
     }
 }
 
-// The phase after this was made known.
+// Returns the phase after this news.
 fn next_phase(asked: &Asked, phase: Phase, news: &News) -> Phase
     ensures { result ≡ (learns asked.now phase news.now).phase }
 {
@@ -142,7 +142,7 @@ fn next_phase(asked: &Asked, phase: Phase, news: &News) -> Phase
     }
 }
 
-// Tells the chunk size and asks for a message stream.
+// Announces the chunk size and asks for a message stream.
 fn say_create(alloc: Global, outgoing: &mut Outgoing) -> Result<(), OutOfMemory>
     ensures said { OnOk result (Says outgoing.old (chunk_size ∷ create_of ∷ []) outgoing.new) }
     ensures light { 16 * outgoing.new.others ≤ 16 * outgoing.old.others + 5600 }
@@ -170,14 +170,14 @@ fn say_ask(
     outgoing.say(&message)
 }
 
-// What is due between two phases.
+// The messages that are due between two phases.
 enum Due {
     Nothing,
     Create,
     Ask(u32),
 }
 
-// What stands between two phases.
+// Returns the messages that are due between two phases.
 fn due_between(from: Phase, to: Phase) -> Due
     ensures { (k : TheAsked) → said_between k from to ≡ said_due k result }
 {
@@ -199,7 +199,7 @@ fn due_between(from: Phase, to: Phase) -> Due
     }
 }
 
-// Says what is due.
+// Says the messages that are due.
 fn say_due(
     alloc: Global,
     asked: &Asked,
@@ -218,7 +218,7 @@ fn say_due(
     }
 }
 
-/// Goes on with what was made known, and says what is due then.
+/// Moves to the phase after this news, and says the messages that are due then.
 pub(crate) fn learn(
     alloc: Global,
     asked: &Asked,

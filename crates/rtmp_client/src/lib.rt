@@ -1,10 +1,10 @@
-//! A client of an RTMP server, which publishes a stream or plays it: from the bytes of its server to the bytes that it owes,
-//! and to what it is told of the stream.
+//! A client of an RTMP server, which publishes a stream or plays it. It takes the bytes of its server, and
+//! gives the bytes that it owes and the gifts of the stream that it plays.
 //!
 //! The section numbers are those of Adobe's RTMP 1.0.
 //!
-//! Read `Client::turn` first. Its rules are `specs/Turns.antt`, its ends with their causes `specs/Causes.antt`. It connects nothing: it
-//! is handed a link.
+//! Read `Client::turn` first. Its rules are `specs/Turns.antt`, its ends with their causes
+//! `specs/Causes.antt`. It connects nothing: it is handed a link.
 #![tactic(auto)]
 
 mod answers;

@@ -8,12 +8,12 @@ use chunk_writer::Writer;
 use std::alloc::Global;
 use std::marker::Model;
 
-// Bytes that were sent are kept up to this many, or up to as many as are pending.
+// The largest number of sent bytes that are kept, unless more are pending.
 const KEPT_MOST: usize = 16_384;
 
-/// What a client is to send, encoded: the rest of a tag, and the bytes that stand after it.
+/// The bytes that a client is to send, encoded: the rest of a tag, and the bytes that stand after it.
 ///
-/// Contracts see the bytes, the writer after them, and how many of the last bytes are of no tag.
+/// Contracts see the bytes, the writer after them, and the number of the last bytes that are of no tag.
 #[derive(Drop)]
 pub struct Outgoing {
     writer: Writer,
@@ -33,7 +33,7 @@ impl Model for Outgoing {
 }
 
 impl Outgoing {
-    /// Nothing is to be sent.
+    /// Makes an empty one: nothing is to be sent.
     pub fn new(alloc: Global) -> Outgoing
         ensures { result ≡ nothing }
     {
@@ -67,7 +67,7 @@ impl Outgoing {
         self.writer.put_message(message, &mut self.bytes)
     }
 
-    /// Appends the message of a tag, where nothing is pending.
+    /// Appends the message of a tag, if nothing is pending.
     pub fn show(&mut self, message: &Message) -> Result<(), OutOfMemory>
         requires nothing { self.old.pending ≡ [] }
         requires sayable { IsSayable message.now }
@@ -81,21 +81,22 @@ impl Outgoing {
         Ok(())
     }
 
-    /// The bytes pending.
+    /// Returns the pending bytes.
     pub fn pending(&self) -> &[u8]
         ensures { result.now ≡ self.now.pending }
     {
         &self.bytes.as_slice()[self.offset..]
     }
 
-    /// How many of the last bytes pending are of no tag.
+    /// Returns the number of the last bytes pending that are of no tag.
     pub fn others(&self) -> usize
         ensures { result ≡ self.now.others }
     {
         self.bytes.len() - self.offset.max(self.tag)
     }
 
-    /// The first bytes were sent. Those are let go of where they are many, and at least as many as are still to be sent.
+    /// Notes that the first `count` bytes were sent. Sent bytes are dropped if they are at least 16,384 and
+    /// at least as many as the bytes still to be sent.
     pub fn sent(&mut self, alloc: Global, count: usize)
         requires { count ≤ length self.old.pending }
         ensures pending { self.new.pending ≡ drop count self.old.pending }

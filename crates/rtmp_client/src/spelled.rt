@@ -39,7 +39,7 @@ fn put_null(out: &mut Bytes) -> Result<(), OutOfMemory>
     encode(&value, out)
 }
 
-// An object with the pair `app`.
+// Appends an object with the pair `app`.
 fn put_app(alloc: Global, app: &[u8], out: &mut Bytes) -> Result<(), OutOfMemory>
     requires { length app.now < 2 ^ 16 }
     ensures { OnOk result (out.new ≡ out.old ++ spelling (object (member (codes "app") (a_text app.now) no_members))) }
@@ -50,7 +50,7 @@ fn put_app(alloc: Global, app: &[u8], out: &mut Bytes) -> Result<(), OutOfMemory
     Ok(())
 }
 
-// A name and a transaction.
+// Returns the bytes of a name and a transaction.
 fn called(alloc: Global, name: &[u8], transaction: u64) -> Result<Bytes, OutOfMemory>
     requires name { length name.now < 2 ^ 16 }
     requires transaction { transaction < 2 ^ 53 }
@@ -109,7 +109,7 @@ fn delete_body(alloc: Global, id: u32) -> Result<Bytes, OutOfMemory>
     Ok(out)
 }
 
-// A command on a message stream.
+// Makes a command message on a message stream.
 fn command(stream: u32, body: Bytes) -> Message
     ensures { result ≡ record { kind = 20; stream = stream; time = 0; body = body } }
 {
@@ -121,7 +121,7 @@ fn command(stream: u32, body: Bytes) -> Message
     }
 }
 
-/// `connect` to an app (7.2.1.1).
+/// Makes `connect` to an app (7.2.1.1).
 pub(crate) fn connect(alloc: Global, app: &[u8]) -> Result<Message, OutOfMemory>
     requires { length app.now ≤ 255 }
     ensures { IfOk result (λ m. m ≡ command_of 0 (connects app.now)) }
@@ -130,7 +130,7 @@ pub(crate) fn connect(alloc: Global, app: &[u8]) -> Result<Message, OutOfMemory>
     Ok(command(0, body))
 }
 
-/// `createStream` (7.2.1.3).
+/// Makes `createStream` (7.2.1.3).
 pub(crate) fn create_stream(alloc: Global) -> Result<Message, OutOfMemory>
     ensures { IfOk result (λ m. m ≡ create_of) }
 {
@@ -138,7 +138,7 @@ pub(crate) fn create_stream(alloc: Global) -> Result<Message, OutOfMemory>
     Ok(command(0, body))
 }
 
-/// `publish` or `play` on a message stream (7.2.2.6, 7.2.2.1).
+/// Makes `publish` or `play` on a message stream (7.2.2.6, 7.2.2.1).
 pub(crate) fn ask(alloc: Global, asked: &Asked, id: u32) -> Result<Message, OutOfMemory>
     requires { IsNamed asked.now }
     ensures { IfOk result (λ m. m ≡ ask_of asked.now id) }
@@ -151,7 +151,7 @@ pub(crate) fn ask(alloc: Global, asked: &Asked, id: u32) -> Result<Message, OutO
     Ok(command(id, body))
 }
 
-/// `deleteStream` of a message stream (7.2.2.3).
+/// Makes `deleteStream` of a message stream (7.2.2.3).
 pub(crate) fn delete_stream(alloc: Global, id: u32) -> Result<Message, OutOfMemory>
     ensures { IfOk result (λ m. m ≡ delete_of id) }
 {

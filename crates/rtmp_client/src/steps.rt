@@ -23,27 +23,27 @@ use client_owed::{Asked, Phase};
 use past::Flow;
 use std::alloc::Global;
 
-// The bytes of a handshake: S0, S1 and S2.
+// The number of bytes of a handshake: S0, S1 and S2.
 const HAND_BYTES: u64 = 3_073;
 
 // The window with which a client begins.
 const FIRST_WINDOW: u32 = 2_500_000;
 
-// The first bytes of a piece, or all.
+// Returns the first `count` bytes of a piece, or all.
 fn first(bytes: &[u8], count: usize) -> &[u8]
     ensures { result.now ≡ take count bytes.now }
 {
     &bytes[..count.min(bytes.len())]
 }
 
-// The bytes after the first, or none.
+// Returns the bytes after the first `count`, or none.
 fn after(bytes: &[u8], count: usize) -> &[u8]
     ensures { result.now ≡ drop count bytes.now }
 {
     &bytes[count.min(bytes.len())..]
 }
 
-// C0 and C1 (5.2.2, 5.2.3).
+// Says C0 and C1 (5.2.2, 5.2.3).
 fn say_hello(outgoing: &mut Outgoing) -> Result<(), OutOfMemory>
     ensures bytes { OnOk result (outgoing.new.pending ≡ outgoing.old.pending ++ hello) }
     ensures writer { outgoing.new.writer ≡ outgoing.old.writer }
@@ -54,7 +54,7 @@ fn say_hello(outgoing: &mut Outgoing) -> Result<(), OutOfMemory>
     Ok(())
 }
 
-// C2 (5.2.4), for the bytes of the server's handshake.
+// Says C2 (5.2.4), for the bytes of the server's handshake.
 fn say_c2(y: &[u8], outgoing: &mut Outgoing) -> Result<(), OutOfMemory>
     ensures bytes { OnOk result (outgoing.new.pending ≡ outgoing.old.pending ++ c2 y.now) }
     ensures writer { outgoing.new.writer ≡ outgoing.old.writer }
@@ -68,7 +68,7 @@ fn say_c2(y: &[u8], outgoing: &mut Outgoing) -> Result<(), OutOfMemory>
     Ok(())
 }
 
-// C2 and `connect`, once the server's handshake is there.
+// Says C2 and `connect`, when the server's handshake is complete.
 fn greet(alloc: Global, asked: &Asked, y: &[u8], outgoing: &mut Outgoing) -> Result<(), OutOfMemory>
     requires { IsNamed asked.now }
     ensures bytes { OnOk result (outgoing.new.pending ≡ outgoing.old.pending ++ (c2 y.now ++ written outgoing.old.writer (connect_of asked.now ∷ []))) }
@@ -82,8 +82,8 @@ fn greet(alloc: Global, asked: &Asked, y: &[u8], outgoing: &mut Outgoing) -> Res
     Ok(())
 }
 
-/// A client that asks for this, was fed nothing, and takes messages of at most `max_message` bytes. Its first bytes are to be
-/// sent.
+/// Makes a client that asks for this, was fed nothing, and takes messages of at most `max_message` bytes. Its
+/// first bytes are to be sent.
 pub(crate) fn new_core(alloc: Global, asked: Asked, max_message: u32) -> Result<Core, OutOfMemory>
     requires named { IsNamed asked }
     requires most { max_message ≤ 4194304 }
@@ -113,7 +113,7 @@ pub(crate) fn new_core(alloc: Global, asked: Asked, max_message: u32) -> Result<
     })
 }
 
-// Whether a piece is the server's first and its version isn't 3.
+// Returns whether a piece is the server's first and its version isn't 3.
 fn is_other_version(fed: u64, piece: &[u8]) -> bool
     ensures { result ≡ is_bad fed piece.now }
 {
@@ -208,14 +208,15 @@ pub(crate) fn hand_piece(core: &mut Core, alloc: Global, piece: &[u8]) -> Result
     }
 }
 
-/// How many bytes of a piece were fed, and whether the last of them ended a message.
+/// The number of bytes of a piece that were fed, and whether the last of them ended a message.
 #[derive(Clone, Copy)]
 pub(crate) struct Part {
     pub used: usize,
     pub ended: bool,
 }
 
-// Takes bytes up to the next place of an acknowledgement, and says it where they reach it.
+// Takes bytes up to the next place of an acknowledgement, and says the acknowledgement if they reach that
+// place.
 fn acknowledge(
     alloc: Global,
     inbound: &mut Inbound,
@@ -238,7 +239,7 @@ fn acknowledge(
     }
 }
 
-// Why the reader's refusal ends the client, where so many bytes stand before the byte.
+// Returns why the reader's refusal ends the client. `at` is the number of bytes before the refused byte.
 fn chunk_end(cause: ReadCause, at: u64) -> ClientEnd
     ensures { result ≡ read_end cause at }
 {
@@ -253,8 +254,8 @@ fn chunk_end(cause: ReadCause, at: u64) -> ClientEnd
     }
 }
 
-/// Feeds bytes of chunks, at most up to the next place of an acknowledgement or to the end of a message. What the message says
-/// is done, and what it tells waits.
+/// Feeds bytes of chunks, at most up to the next place of an acknowledgement or to the end of a message. It
+/// does what the message says, and the gift that the message tells waits.
 pub(crate) fn chunk_piece(core: &mut Core, alloc: Global, piece: &[u8]) -> Result<Part, ClientEnd>
     requires sound { IsSound core.old }
     requires late { hand_bytes ≤ length core.old.y }
@@ -324,7 +325,7 @@ pub(crate) fn chunk_piece(core: &mut Core, alloc: Global, piece: &[u8]) -> Resul
     }
 }
 
-/// So many of the bytes pending were sent.
+/// Notes that `count` of the pending bytes were sent.
 pub(crate) fn note_sent(core: &mut Core, alloc: Global, count: usize)
     requires sound { IsSound core.old }
     requires within { count ≤ length core.old.outgoing.pending }

@@ -1,4 +1,4 @@
-//! A client is fed its input.
+//! The steps by which a client is fed its input.
 ghost use Rattle.std.specs.Prelude.{◌≡◌, ◌<◌, ◌≤◌, ◌+◌, ◌*◌, [], length, drop, None, true, false, IfOk, IfErr, OnOk, OnErr};
 ghost use Rattle.rtmp_client.specs.Bounds.{gift_bytes, weight};
 ghost use Rattle.rtmp_client.specs.Feeding.{Hears, IsFed, IsStopped, fixed_of};
@@ -10,7 +10,7 @@ use crate::steps::{Part, chunk_piece, hand_piece};
 use crate::{ClientEnd, Core};
 use std::alloc::Global;
 
-// The bytes of a handshake.
+// The number of bytes of a handshake.
 const HAND_BYTES: u64 = 3_073;
 
 /// Feeds the first bytes of a piece: of the handshake, or of chunks.
@@ -39,7 +39,7 @@ fn next_piece(core: &mut Core, alloc: Global, piece: &[u8]) -> Result<Part, Clie
     Ok(Part { used, ended: false })
 }
 
-/// Feeds input until a message is complete and handled, or none is left: true where a message ended.
+/// Feeds input until a message is complete and handled, or none is left. Returns whether a message ended.
 pub(crate) fn feed(core: &mut Core, input: &mut Input, alloc: Global) -> Result<bool, ClientEnd>
     requires sound { IsSound core.old }
     requires open { core.old.gift ≡ None }

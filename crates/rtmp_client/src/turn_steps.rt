@@ -10,12 +10,12 @@ use crate::{ClientEnd, ClientTurn, Core};
 use relay_outside::{Heard, Link, Said};
 use std::alloc::Global;
 
-// How many bytes are sent at once, and how many are received, at most.
+// The largest numbers of bytes that are sent at once, and received at once.
 const SEND_MOST: usize = 16_384;
 
 const RECEIVE_MOST: usize = 4_096;
 
-// How many bytes of no tag may be pending where input is taken.
+// The largest number of pending bytes of no tag with which input is taken.
 const ANSWERS_MOST: usize = 8_192;
 
 fn either(a: bool, b: bool) -> bool
@@ -24,7 +24,7 @@ fn either(a: bool, b: bool) -> bool
     a || b
 }
 
-// The first bytes, or all.
+// Returns the first `count` bytes, or all.
 fn first(bytes: &[u8], count: usize) -> &[u8]
     ensures value { result.now ≡ take count bytes.now }
     ensures within { length result.now ≤ length bytes.now }
@@ -32,14 +32,14 @@ fn first(bytes: &[u8], count: usize) -> &[u8]
     &bytes[..count.min(bytes.len())]
 }
 
-// Whether it takes input.
+// Returns whether it takes input.
 fn is_hungry(core: &Core) -> bool
     ensures { result ≡ hungry_now core.now }
 {
     core.gift.is_none() && core.outgoing.others() <= ANSWERS_MOST
 }
 
-// Whether it was finished and all was sent.
+// Returns whether it was finished and all was sent.
 fn is_done(core: &Core) -> bool
     ensures { result ≡ done_now core.now }
 {
@@ -66,7 +66,7 @@ fn feed_on(
     }
 }
 
-/// Takes input, where it is hungry.
+/// Takes input, if it is hungry.
 fn input_on<L: Link>(
     core: &mut Core,
     input: &mut Input,
@@ -96,7 +96,7 @@ fn input_on<L: Link>(
     }
 }
 
-/// Ends where it is done, and else takes input.
+/// Ends if it is done, and else takes input.
 fn finish_on<L: Link>(
     core: &mut Core,
     input: &mut Input,
@@ -114,7 +114,7 @@ fn finish_on<L: Link>(
     input_on(core, input, link, alloc, moved)
 }
 
-/// Sends what is pending, and goes on.
+/// Sends the pending bytes, and goes on.
 pub(crate) fn send_on<L: Link>(
     core: &mut Core,
     input: &mut Input,
@@ -139,7 +139,7 @@ pub(crate) fn send_on<L: Link>(
     }
 }
 
-/// A turn of a client, which does nothing where it has ended.
+/// Takes a turn of a client, which does nothing if it has ended.
 pub(crate) fn turn_on<L: Link>(
     core: &mut Core,
     input: &mut Input,

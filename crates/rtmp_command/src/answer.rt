@@ -9,8 +9,8 @@ use amf0_value::{Amf, Pairs, bits_of, encode};
 use av_unit::{Bytes, OutOfMemory};
 use std::alloc::Global;
 
-/// Why a publish or a play is refused.
-#[derive(Clone, Copy, Debug, PartialEq, Eq)]
+/// The reason for which a publish or a play is refused.
+#[derive(Clone, Copy)]
 pub enum Why {
     RoleActive,
     NoName,
@@ -33,8 +33,8 @@ impl Why {
     }
 }
 
-/// What a peer is answered or told in a command message.
-#[derive(Clone, Copy, Debug, PartialEq, Eq)]
+/// An answer or a notice to a peer in a command message.
+#[derive(Clone, Copy)]
 pub enum Answer {
     /// The transaction is the pattern of its number.
     Connected { transaction: u64 },
@@ -48,7 +48,7 @@ pub enum Answer {
     UnpublishNotify,
 }
 
-/// The body of the message that carries an answer (RTMP 1.0, sections 7.2.1 and 7.2.2).
+/// Makes the body of the message that carries an answer (RTMP 1.0, sections 7.2.1 and 7.2.2).
 #[tactic(auto, unfolding(crate::specs::Answers::body_of))]
 pub fn answer_body(alloc: Global, answer: &Answer) -> Result<Bytes, OutOfMemory>
     ensures value { IfOk result (λ body. body ≡ body_of answer.now) }
@@ -177,7 +177,7 @@ fn pair(alloc: Global, key: &str, value: Amf) -> Result<(Bytes, Amf), OutOfMemor
     Ok((Bytes::from_vec(list), value))
 }
 
-/// The pairs `level`, `code` and `description`.
+/// Makes the pairs `level`, `code` and `description`.
 fn info_pairs(
     alloc: Global,
     level: &str,
@@ -193,7 +193,7 @@ fn info_pairs(
     Ok(list)
 }
 
-/// The pairs of the object that names the server's version and abilities.
+/// Makes the pairs of the object that names the server's version and abilities.
 fn server_pairs(alloc: Global, capabilities: u64) -> Result<Vec<(Bytes, Amf)>, OutOfMemory>
     ensures { IfOk result (λ list. members_of (seen_pairs list.items) ≡ server capabilities) }
 {
@@ -203,7 +203,7 @@ fn server_pairs(alloc: Global, capabilities: u64) -> Result<Vec<(Bytes, Amf)>, O
     Ok(list)
 }
 
-/// The pairs of the object that tells of a connection.
+/// Makes the pairs of the object that tells of a connection.
 fn success_pairs(alloc: Global, encoding: u64) -> Result<Vec<(Bytes, Amf)>, OutOfMemory>
     ensures { IfOk result (λ list. members_of (seen_pairs list.items) ≡ success encoding) }
 {

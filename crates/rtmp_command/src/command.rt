@@ -12,29 +12,28 @@ use av_unit::Bytes;
 use std::alloc::Global;
 use thiserror::Error;
 
-/// What a peer asks (RTMP 1.0, section 7.2): a name, the transaction by which it knows the answer,
+/// A command of a peer (RTMP 1.0, section 7.2): a name, the transaction by which the peer knows the answer,
 /// and arguments.
-#[derive(Debug, PartialEq, Drop)]
+#[derive(Drop)]
 pub struct Command {
     pub name: Bytes,
-    /// The pattern of the transaction's number; 0 where the second value isn't one.
+    /// The pattern of the transaction's number; 0 if the second value isn't a number.
     pub transaction: u64,
     /// The values from the third on.
     pub args: AmfList,
 }
 
-/// Why a body is no command.
-#[derive(Clone, Copy, Debug, PartialEq, Eq, Error)]
+/// The reason for which a body is no command.
+#[derive(Clone, Copy, Debug, Error)]
 pub enum CommandFail {
-    /// The place is the one at which `decode_all` refuses the body, or 0 where its first value is no
-    /// text.
+    /// The place is the one at which `decode_all` refuses the body, or 0 if its first value is no text.
     #[error("no command, at byte {at}")]
     BadCommand { at: usize },
     #[error("out of memory")]
     OutOfMemory,
 }
 
-/// The command that a message's body is: AMF0 values to its end, of which the first is a text.
+/// Reads the command in a message's body: AMF0 values to its end, of which the first is a text.
 pub fn command_of(alloc: Global, body: &[u8]) -> Result<Command, CommandFail>
     // The values of the body, as a command.
     ensures found { IfOk result (λ c. (vs : Items) × ItemsSpelled vs body.now [] × AllFit vs × (parts_of vs ≡ Some (seen c))) }
@@ -66,7 +65,7 @@ pub(crate) fn refused(fail: AmfFail) -> CommandFail
     }
 }
 
-/// The command that these values are.
+/// Makes the command of these values.
 fn command_in(list: AmfList) -> Result<Command, CommandFail>
     ensures { MatchResult result (λ c. parts_of (items_view list) ≡ Some (seen c)) (λ e. (e ≡ CommandFail.BadCommand 0) × (parts_of (items_view list) ≡ None)) }
 {
@@ -81,7 +80,7 @@ fn command_in(list: AmfList) -> Result<Command, CommandFail>
     }
 }
 
-/// The command of that name whose other values are these.
+/// Makes the command of that name whose other values are these.
 fn command_behind(name: Bytes, mut values: Vec<Amf>) -> Command
     ensures { seen result ≡ parts_behind name (items_of (seen_values values.items)) }
 {

@@ -10,19 +10,19 @@ use amf0_value::walk::{Brief, glance, pair, skip_all};
 use av_unit::Bytes;
 use std::alloc::Global;
 
-/// What the dialogue uses of a command (RTMP 1.0, section 7.2).
-#[derive(Debug, PartialEq, Eq, Drop)]
+/// The parts of a command that the dialogue uses (RTMP 1.0, section 7.2).
+#[derive(Drop)]
 pub struct Heard {
     pub name: Bytes,
-    /// The pattern of the transaction's number; 0 where the second value isn't one.
+    /// The pattern of the transaction's number; 0 if the second value isn't a number.
     pub transaction: u64,
-    /// Where the third value is an object: the text of its first pair `app`, or no bytes.
+    /// If the third value is an object: the text of its first pair `app`, or no bytes.
     pub app: Option<Bytes>,
     /// The fourth value.
     pub fourth: Brief,
 }
 
-/// Reads of the command that a message's body is what the dialogue uses, and passes over all else.
+/// Reads the parts that the dialogue uses of the command in a message's body, and skips all else.
 pub fn hear(alloc: Global, body: &[u8]) -> Result<Heard, CommandFail>
     ensures { MatchResult result (λ h. heard_in body.now ≡ Ok h) (λ e. (e ≡ CommandFail.OutOfMemory) ⊎ (heard_in body.now ≡ Err e)) }
 {

@@ -1,7 +1,7 @@
-//! Commands of RTMP: what a peer asks in a message of AMF0 values, and the bodies of the answers.
+//! Commands of RTMP: the requests of a peer in messages of AMF0 values, and the bodies of the answers.
 //!
-//! Read [`command_of`] first. The commands of a body are `specs/Commands.antt`, the bodies of answers `specs/Answers.antt`. What is
-//! answered when is the dialogue's.
+//! Read [`command_of`] first. The commands of a body are defined in `specs/Commands.antt`, the bodies of
+//! answers in `specs/Answers.antt`. This crate doesn't choose the answer: the dialogue does.
 #![tactic(auto)]
 
 mod answer;

@@ -14,7 +14,8 @@ refused_version (Ok _) = None
 refused_version (Err (BadVersion byte)) = Some byte
 refused_version (Err OutOfMemory) = None
 
--- HOW MANY BYTES IT KEEPS after it has read n: those of C1's time and random bytes among them, until it has answered or failed
+-- HOW MANY BYTES IT KEEPS after it has read n: those of C1's time and random bytes among them, until it has
+-- answered or failed
 abbrev pub held_by : Option HandFail → ℕ → ℕ
 held_by None n = if nat_lt n 1537 then min 4 (n - 1) + min 1528 (n - 9) else 0
 held_by (Some e) n = 0

@@ -6,7 +6,7 @@ use crate::slices::{after, first};
 use av_unit::{Bytes, OutOfMemory};
 use std::alloc::{AllocError, Global};
 
-/// Appends so many of the server's random bytes.
+/// Appends the first `count` of the server's random bytes.
 fn push_random(list: &mut Vec<u8>, count: usize) -> Result<(), AllocError>
     ensures { OnOk result (list.new.items ≡ list.old.items ++ random_bytes count) }
 {
@@ -16,7 +16,7 @@ fn push_random(list: &mut Vec<u8>, count: usize) -> Result<(), AllocError>
     Ok(())
 }
 
-/// S0, S1 and S2, by what was kept of C1.
+/// Gives S0, S1 and S2, by the bytes kept of C1.
 pub(crate) fn answer(alloc: Global, kept: &[u8]) -> Result<Bytes, OutOfMemory>
     ensures { IfOk result (λ out. out ≡ answer_by kept.now) }
 {

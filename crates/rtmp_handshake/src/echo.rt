@@ -4,7 +4,8 @@ ghost use Rattle.rtmp_handshake.specs.Echo.{part_of, kept_of};
 use crate::slices::{after, first};
 use av_unit::{Bytes, OutOfMemory};
 
-/// What a piece has at these places of the client's bytes, of which `before` stand before the piece.
+/// Gives the bytes of a piece at these places of the client's bytes, of which `before` stand before the
+/// piece.
 fn part(piece: &[u8], before: usize, from: usize, to: usize) -> &[u8]
     ensures { result.now ≡ part_of before from to piece.now }
 {
@@ -13,7 +14,7 @@ fn part(piece: &[u8], before: usize, from: usize, to: usize) -> &[u8]
     first(after(piece, skipped), end.saturating_sub(skipped))
 }
 
-/// Keeps what a piece has of C1's time and random bytes.
+/// Keeps the bytes of a piece that belong to C1's time and random bytes.
 pub(crate) fn keep(kept: &mut Bytes, before: usize, piece: &[u8]) -> Result<(), OutOfMemory>
     ensures { OnOk result (kept.new ≡ kept.old ++ kept_of before piece.now) }
 {

@@ -2,7 +2,7 @@ use std::error::Error;
 use std::fmt;
 
 /// Why a handshake failed.
-#[derive(Clone, Copy, Debug, PartialEq, Eq)]
+#[derive(Clone, Copy, Debug)]
 pub enum HandFail {
     /// The client's first byte, its version, isn't 3 (RTMP 1.0, 5.2.2).
     BadVersion { byte: u8 },

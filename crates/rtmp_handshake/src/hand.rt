@@ -14,14 +14,14 @@ use past::Flow;
 use std::alloc::Global;
 use std::marker::Model;
 
-// How many bytes C0 and C1 have, and C0, C1 and C2.
+// The number of bytes of C0 and C1, and of C0, C1 and C2.
 const TO_C1: usize = 1_537;
 
 const TO_C2: usize = 3_073;
 
-/// What a feed did: how many bytes of its piece it used, what is to be sent to the client, and whether the handshake
-/// is done.
-#[derive(Debug, PartialEq, Eq, Drop)]
+/// The result of a feed: the number of bytes used of its piece, the bytes to send to the client, and whether
+/// the handshake is done.
+#[derive(Drop)]
 pub struct HandFed {
     pub used: usize,
     pub out: Bytes,
@@ -30,7 +30,7 @@ pub struct HandFed {
 
 /// The server's side of one handshake.
 ///
-/// It holds at most the 1,532 bytes of C1 that S2 gives back, and nothing once it has answered.
+/// It holds at most the 1,532 bytes of C1 that S2 gives back, and none after it has answered.
 #[derive(Drop)]
 pub struct Hand {
     count: usize,
@@ -50,7 +50,7 @@ impl Model for Hand {
     ghost invariant = { λ h. IsSound h.count h.kept h.failed h.fed };
 }
 
-/// The version that a piece begins with, where it is the client's first and the version isn't 3.
+/// Gives the version that a piece begins with, if it is the client's first piece and the version isn't 3.
 fn other_version(before: usize, piece: &[u8]) -> Option<u8>
     ensures first { before ≡ 0 → result ≡ bad_version piece.now }
     ensures later { 0 < before → result ≡ None }
@@ -61,7 +61,7 @@ fn other_version(before: usize, piece: &[u8]) -> Option<u8>
     }
 }
 
-/// Reads a piece, and gives what is to be sent with it.
+/// Reads a piece, and gives the bytes to send with it.
 fn read(alloc: Global, kept: &mut Bytes, before: usize, piece: &[u8]) -> Result<Bytes, OutOfMemory>
     ensures answered { 1537 ≤ before → IsOk result }
     ensures late { 1537 ≤ before → IfOk result (λ out. out ≡ []) }
@@ -82,7 +82,7 @@ fn read(alloc: Global, kept: &mut Bytes, before: usize, piece: &[u8]) -> Result<
 }
 
 impl Hand {
-    /// A handshake that has read nothing.
+    /// Makes a handshake that has read no bytes.
     pub fn new(alloc: Global) -> Hand
         ensures { result ≡ record { fed = []; failed = None } }
     {
@@ -96,17 +96,18 @@ impl Hand {
 
     /// Reads a piece of the client's bytes, up to its end or to the end of C2.
     ///
-    /// Where the piece completes C1, at the 1,537th byte, `out` is the whole answer of 3,073 bytes, and else nothing.
-    /// `done` says that all 3,073 bytes of the client were read; what is left of the piece then is for the chunk
-    /// reader. A handshake that is done uses nothing more.
+    /// If the piece completes C1, at the 1,537th byte, `out` is the whole answer of 3,073 bytes, else it is
+    /// empty. `done` means that all 3,073 bytes of the client were read; the rest of the piece is then for
+    /// the chunk reader. A handshake that is done uses no further bytes.
     ///
-    /// It fails with `BadVersion` exactly where the client's first byte isn't 3. A failed one read nothing of the
-    /// piece, and answers the same to each later one. A handshake that has answered takes no memory.
+    /// It fails with `BadVersion` exactly if the client's first byte isn't 3. A failed handshake read no byte
+    /// of the piece, and gives the same answer to each later one. A handshake that has answered takes no
+    /// memory.
     pub fn feed(&mut self, alloc: Global, piece: &[u8]) -> Result<HandFed, HandFail>
-        // One that has failed answers the same again.
+        // A failed handshake gives the same answer again.
         ensures again { (e : HandFail) → self.old.failed ≡ Some e → result ≡ Err e }
 
-        // Of one that hasn't failed, the version is refused exactly where the client's first byte isn't 3.
+        // If it hasn't failed, the version is refused exactly if the client's first byte isn't 3.
         ensures version { self.old.failed ≡ None → refused_version result ≡ bad_version (self.old.fed ++ piece.now) }
 
         // Once it has answered it takes no memory.
@@ -118,7 +119,7 @@ impl Hand {
         ensures used { IfOk result (λ f. f.used ≡ used_of self.old.fed piece.now) }
         ensures out { IfOk result (λ f. f.out ≡ out_of self.old.fed piece.now) }
 
-        // What was put out so far is what the bytes read so far call for.
+        // The bytes put out so far are those that the bytes read so far call for.
         ensures sum { IfOk result (λ f. answered self.old.fed ++ f.out ≡ answered self.new.fed) }
         ensures done { IfOk result (λ f. IsTrue f.done ↔ (length self.new.fed ≡ 3073)) }
         ensures most { length self.new.fed ≤ 3073 }
@@ -144,7 +145,8 @@ impl Hand {
         Ok(HandFed { used, out, done })
     }
 
-    /// How many bytes it keeps: those of C1's time and random bytes that it has read, until it has answered or failed.
+    /// Gives the number of bytes it keeps: those of C1's time and random bytes that it has read, until it has
+    /// answered or failed.
     pub fn held(&self) -> usize
         ensures value { result ≡ held_of self.now }
         ensures most { result ≤ 1532 }

@@ -3,9 +3,9 @@ ghost use Rattle.std.specs.List.{concat, slice_index};
 ghost use Rattle.rtmp_handshake.specs.Answer.{answer_of, answered};
 ghost use Rattle.rtmp_handshake.specs.Feeds.{all_out, all_read};
 
-/// The answer has 3,073 bytes, and depends on the client's first 1,537 bytes alone. Each byte of it by its place:
-/// S0 is 3; S1 is eight zeros and 1,528 bytes of which byte i is i modulo 251; S2 is the time of C1, four zeros, and
-/// the bytes of C1 from its ninth on.
+/// The answer has 3,073 bytes, and depends on the client's first 1,537 bytes alone. S0 is 3. S1 is eight
+/// zeros and 1,528 bytes, of which byte i is i modulo 251. S2 is the time of C1, four zeros, and the bytes of
+/// C1 from its ninth on.
 pub fn answer_law()
     ensures length { (client : List ℕ) → 1537 ≤ length client → length (answer_of client) ≡ 3073 }
     ensures alone { (client later : List ℕ) → 1537 ≤ length client → answer_of (client ++ later) ≡ answer_of client }
@@ -20,8 +20,8 @@ pub fn answer_law()
         → slice_index (answer_of client) (1537 + i) ≡ slice_index client (1 + i) }
 {}
 
-/// However a client's bytes are cut into pieces, the feeds of these pieces read the first 3,073 bytes of them, and put
-/// out in all what these bytes call for: the answer where there are 1,537 or more, else nothing.
+/// However a client's bytes are cut into pieces, the feeds of these pieces read the first 3,073 bytes. In all
+/// they put out the answer if there are 1,537 bytes or more, else nothing.
 pub fn cutting_law()
     ensures read { (pieces : List (List ℕ)) → all_read [] pieces ≡ take 3073 (concat pieces) }
     ensures out { (pieces : List (List ℕ)) → all_out [] pieces ≡ answered (concat pieces) }

@@ -1,4 +1,5 @@
--- The files of segments. Lists of segments, and of their bytes, have the newest first; lists of files have the oldest first.
+-- The files of segments. Lists of segments, and of their bytes, have the newest first; lists of files have
+-- the oldest first.
 use Rattle.std.specs.Prelude.{◌≡◌, ◌⊎◌, ℕ, List, [], ◌∷◌, ◌++◌, length, Option, Some}
 use Rattle.relay_outside.specs.Counts.{Rose}
 use Rattle.relay_outside.specs.Houses.{KeptFile}

@@ -65,7 +65,8 @@ pub record Fits (r : TagsKnown) (k : Known) : Type 0 where
   pub past_is : k.past ≡ past_of r.given
   pub cuts : GoesOn k
 
--- WHY NO MORE IS CUT: the reading ends in one of these ways, and all segments stand; or they can't be written, and a part stands
+-- WHY NO MORE IS CUT: the reading ends in one of these ways, and all segments stand; or they can't be
+-- written, and a part stands
 abbrev pub Stops : (End → Type 0) → Type 0 → Stop → List ℕ → Known → Pending → Option FileSeen → HouseTold → HouseTold → Type 0
 Stops Ends Read (Ended end) name k p f old new = Ends end × StandsBy name (list_of k) p f old new
 Stops Ends Read (Broken fault) name k p f old new = Read × Breaks fault name (list_of k) p.title f old new

@@ -15,7 +15,7 @@ use hls_segments::{Cut, Segmenter};
 use relay_outside::House;
 use std::alloc::Global;
 
-/// A film: what was read of it, how it is cut, and what is pending.
+/// A film: the part that was read of it, the cut, and the pending bytes.
 #[derive(Drop)]
 pub(crate) struct Film {
     pub(crate) reader: TagReader,

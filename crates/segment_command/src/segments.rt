@@ -136,28 +136,29 @@ fn cut_named<S: Source, H: House, K: Sink>(
     }
 }
 
-/// Cuts a film of FLV into segments of a transport stream (ISO/IEC 13818-1): a file of the house for each, and their playlist
-/// (RFC 8216).
+/// Cuts a film of FLV into segments of a transport stream (ISO/IEC 13818-1): a file of the house for each,
+/// and their playlist (RFC 8216).
 ///
-/// The words are `segment NAME T`. NAME has 1 to 64 letters, digits, `.`, `_` or `-`, and the files are `NAME-0.ts`, `NAME-1.ts`
-/// and so on. T is a number from 1 to 3,600,000: each segment but the last spans at least so many milliseconds. The text of all
-/// files is that of `remux`. The answer's code tells how it ended:
+/// The words are `segment NAME T`. NAME has 1 to 64 letters, digits, `.`, `_` or `-`, and the files are
+/// `NAME-0.ts`, `NAME-1.ts` and on from there. T is a number from 1 to 3,600,000: each segment but the last
+/// spans at least T milliseconds. The text of all files is that of `remux`. The answer's code tells how it
+/// ended:
 ///
 /// | Code | Comes | Written |
 /// |---|---|---|
 /// | 0 | the film was read to its end, and no unit was left out | all files and the playlist |
-/// | 2 | exactly where the words are others; nothing is read | nothing |
-/// | 3 | only where the source's faults rose | the files and the playlist of the tags that were read |
-/// | 4 | the film is refused at `place`: at that of [`flv_tags::FlvFail`], or at 2^36 where it has more bytes | the files and the playlist of the tags before |
-/// | 5 | only where the sink's faults or the number of spoiled files rose | a first part of what tags give that were read |
+/// | 2 | exactly if the words are others; nothing is read | nothing |
+/// | 3 | only if the source's faults rose | the files and the playlist of the tags that were read |
+/// | 4 | the film is refused at `place`: at that of [`flv_tags::FlvFail`], or at 2^36 if it has more bytes | the files and the playlist of the tags before |
+/// | 5 | only if the sink's faults or the number of spoiled files rose | a first part of the text of the tags that were read |
 /// | 6 | for want of memory | the same |
-/// | 7 | only where the house's faults rose | the same, and nothing of the playlist |
-/// | 8 | as 0, but a unit of sound or pictures was left out | all files and the playlist |
-/// | 9 | exactly where a unit would begin a 100,001st segment | the files and the playlist of the tags before |
+/// | 7 | only if the house's faults rose | the same, and nothing of the playlist |
+/// | 8 | as 0, but a unit of audio or video was left out | all files and the playlist |
+/// | 9 | exactly if a unit would begin a 100,001st segment | the files and the playlist of the tags before |
 ///
-/// `place` is 0 but for code 4. A file that isn't whole is handed to the house where it has faults, and else to nobody. A first
-/// part are the first of the files, and it may be one more, with faults, that has first bytes of the next; of the playlist it is
-/// nothing, or first bytes where all files are whole.
+/// `place` is 0 but for code 4. A file that isn't whole is handed to the house if it has faults, and else
+/// to nobody. A first part is the first of the files. It may have one file more, with faults, that has
+/// first bytes of the next. Of the playlist it has nothing, or first bytes if all files are whole.
 pub fn segment<S: Source, H: House, K: Sink>(
     alloc: Global,
     words: &[Vec<u8>],

@@ -13,10 +13,10 @@ use hls_segments::file_name;
 use relay_outside::{House, Sink};
 use std::alloc::Global;
 
-/// From how many bytes on what is pending is put.
+/// The number of pending bytes from which on they are put.
 const PIECE: usize = 65_536;
 
-/// What is pending of the last segment, the name of its file, and how many segments there are.
+/// The pending bytes of the last segment, the name of its file, and the number of segments.
 #[derive(Drop)]
 pub(crate) struct Pending {
     pub(crate) text: Bytes,
@@ -71,8 +71,8 @@ pub(crate) fn end_last<H: House>(
     keep_last(house, title, file)
 }
 
-/// Hands over a file that isn't whole for its own faults, and drops one that has none, so that the house never has a file
-/// without faults that isn't whole: what the fault is in the end.
+/// Hands over a file that isn't whole for its own faults, and drops one that has none. The house thus never
+/// has a file without faults that isn't whole. Returns the fault in the end.
 pub(crate) fn hand_over<H: House>(
     house: &mut H,
     title: &[u8],
@@ -116,7 +116,7 @@ fn open<H: House>(
     }
 }
 
-/// Begins a segment with what is pending.
+/// Begins a segment with the pending bytes.
 pub(crate) fn begin<H: House>(
     alloc: Global,
     name: &[u8],
@@ -138,7 +138,7 @@ pub(crate) fn begin<H: House>(
     Ok(())
 }
 
-/// Puts what is pending where it has grown enough.
+/// Puts the pending bytes if they are enough.
 pub(crate) fn put_some<F: Sink>(pending: &mut Pending, file: &mut Option<F>) -> Result<(), Fault>
     ensures goes { (name : List ℕ) (list : List (List ℕ)) (start now : HouseTold)
         → StandsBy name list pending.old (option_map (λ f. file_seen (F.holds f) (F.faults f)) file.old) start now

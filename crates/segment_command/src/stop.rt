@@ -8,7 +8,7 @@ use flv_tags::FlvFail;
 use hls_segments::CutFail;
 
 /// Why segments can't be written.
-#[derive(Clone, Copy, Debug, Drop, PartialEq, Eq)]
+#[derive(Clone, Copy, Drop)]
 pub(crate) enum Fault {
     /// A file or the sink of the playlist failed.
     Sink,
@@ -18,8 +18,8 @@ pub(crate) enum Fault {
     Memory,
 }
 
-/// How the reading of a film ends: what was read before is written.
-#[derive(Clone, Copy, Debug, Drop, PartialEq, Eq)]
+/// The ending of the reading of a film: the tags that were read before are written.
+#[derive(Clone, Copy, Debug, Drop)]
 pub(crate) enum End {
     /// It was read to its end.
     Whole,
@@ -32,7 +32,7 @@ pub(crate) enum End {
 }
 
 /// Why no more of a film is cut.
-#[derive(Clone, Copy, Debug, Drop, PartialEq, Eq)]
+#[derive(Clone, Copy, Drop)]
 pub(crate) enum Stop {
     /// Its reading ends.
     Ended(End),

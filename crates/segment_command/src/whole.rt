@@ -48,7 +48,7 @@ fn take_piece<H: House>(
     Ok(())
 }
 
-// Cuts a piece, or what of it is read, where so many bytes stand before it.
+// Cuts the part of a piece that may be read, by the number of the film's bytes before it.
 fn take_within<H: House>(
     alloc: Global,
     name: &[u8],
@@ -128,7 +128,7 @@ fn read_all<S: Source, H: House>(
     }
 }
 
-// Reads a film to where it ends.
+// Reads a film to its end.
 fn read_film<S: Source, H: House>(
     alloc: Global,
     name: &[u8],
@@ -155,7 +155,7 @@ fn read_film<S: Source, H: House>(
     ended(read_all(alloc, name, film, &mut piece, input, house, file))
 }
 
-/// Cuts a film to where it ends, and ends its last file.
+/// Cuts a film to its end, and ends its last file.
 pub(crate) fn cut_film<S: Source, H: House>(
     alloc: Global,
     name: &[u8],

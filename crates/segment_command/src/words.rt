@@ -35,7 +35,7 @@ fn is_name(word: &[u8]) -> bool
     is_name_length(word.len()) && are_name_bytes(word)
 }
 
-// What these three words ask for.
+// The request in these three words.
 fn asked_by<'a>(word: &[u8], name: &'a [u8], number: &[u8]) -> Option<(&'a [u8], u32)>
     ensures { option_map (λ x. asked x.0.now x.1) result ≡ asked_by word.now name.now number.now }
 {

@@ -1,12 +1,13 @@
-//! What clients send, and the links of those that end.
+//! The bytes that clients send, and the links of clients that end.
 ghost use Rattle.std.specs.Prelude.{IfOk};
 ghost use Rattle.relay_outside.specs.MemDoors.{IsNewMemLink};
 
 use relay_outside::MemLink;
 use std::alloc::{AllocError, Global};
 
-// What a client of RTMP sends after its handshake: to connect to an app, to open a message stream, to publish or to play there, to delete
-// that stream; an AAC configuration, a frame of sound, and a key frame.
+// The parts that a client of RTMP sends after its handshake: to connect to an app, to open a message
+// stream, to publish or to play there, and to delete that stream. Then an AAC sequence header, an audio
+// frame, and a keyframe.
 const CONNECT: &[u8] =
     b"\x03\x00\x00\x00\x00\x00\x23\x14\x00\x00\x00\x00\x02\x00\x07connect\x00\x3f\xf0\x00\x00\x00\x00\x00\x00\x03\x00\x03app\x02\x00\x04live\x00\x00\x09";
 
@@ -42,7 +43,8 @@ pub fn part(letter: u8) -> &'static [u8] {
     }
 }
 
-/// What a client sends: by `h` a handshake, by `v` one of another version, and then a part for each letter.
+/// Returns the bytes that a client sends: by `h` a handshake, by `v` one of another version, and then a
+/// part for each letter.
 pub fn input(alloc: Global, letters: &[u8]) -> Result<Vec<u8>, AllocError> {
     let mut input = Vec::new(alloc);
     let [first, rest @ ..] = letters else {
@@ -66,7 +68,7 @@ pub fn ending(alloc: Global, input: Vec<u8>) -> Result<MemLink, AllocError>
     Ok(link)
 }
 
-/// The link of a client that sends what these letters stand for, and ends.
+/// Returns the link of a client that sends the parts of these letters, and ends.
 pub fn client(alloc: Global, letters: &[u8]) -> Result<MemLink, AllocError>
     ensures { IfOk result IsNewMemLink }
 {

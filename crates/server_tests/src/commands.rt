@@ -1,4 +1,4 @@
-//! What a command is given: its words, its guards and its configuration; and what it tells.
+//! The inputs of a command: its words, its guards and its configuration; and its outputs.
 ghost use Rattle.std.specs.Prelude.{◌≡◌};
 ghost use Rattle.key_guard.specs.Allowed.{is_allowed};
 

@@ -1,10 +1,10 @@
-//! A door that keeps what its links were told.
+//! A door that keeps the news that its links were told.
 ghost use Rattle.relay_outside.specs.MemDoors.{door_told};
 
 use relay_outside::{Door, DoorLink, Knock, MemDoor};
 use std::alloc::AllocError;
 
-/// A door in memory that takes from each link that comes back what it was told.
+/// A door in memory that takes from each link that comes back the news that it was told.
 #[derive(Drop)]
 pub struct Listening {
     pub door: MemDoor,

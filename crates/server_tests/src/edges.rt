@@ -1,4 +1,4 @@
-//! What an edge leaves in the report, by what its origin says.
+//! The line of an edge in the report, by the answers of its origin.
 use crate::clients::ending;
 use crate::commands::{guards, source, text, words};
 use crate::origins::said;
@@ -14,7 +14,7 @@ use std::thread::Threads;
 const CONFIG: &[u8] =
     b"[relay]\nlisten = \"127.0.0.1:1935\"\naccept = 1\n[[stream]]\napp = \"live\"\nname = \"here\"\n";
 
-// The code of an edge over that link where nobody else comes, and the report.
+// Returns the code of an edge over that link if nobody else comes, and the report.
 fn edged<T: Threads + Wait + Sync>(
     rt: &T,
     alloc: Global,

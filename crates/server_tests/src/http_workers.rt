@@ -19,8 +19,8 @@ use stream_core::{Call, Entry, Reply};
 use stream_model::StreamLimits;
 use stream_registry::{OpenList, PlaceTable, PortFail, Shared, StreamPort, shared_ports};
 
-// What a player is sent: the answer, the header of an FLV, and the tags of an AAC configuration at 0 ms, of a key frame at
-// 40 ms and of sound at 41 ms, each with its size behind it.
+// The bytes that a player is sent: the answer, the header of an FLV, and three tags, each with its size
+// behind it. The tags are an AAC sequence header at 0 ms, a keyframe at 40 ms and audio at 41 ms.
 const PLAYED: &[u8] = b"HTTP/1.1 200 OK\r\nContent-Type: video/x-flv\r\nConnection: close\r\n\r\n\
 FLV\x01\x05\x00\x00\x00\x09\x00\x00\x00\x00\
 \x08\x00\x00\x04\x00\x00\x00\x00\x00\x00\x00\xaf\x00\x12\x10\x00\x00\x00\x0f\
@@ -29,7 +29,7 @@ FLV\x01\x05\x00\x00\x00\x09\x00\x00\x00\x00\
 
 const NO: &[u8] = b"\r\nContent-Length: 0\r\nConnection: close\r\n\r\n";
 
-// What a play is granted at a port, by a letter.
+// The grant of a play at a port, by a letter.
 fn granted<P: StreamPort>(port: &P, letter: u8, place: u32) -> Grant
     requires { place < places (P.rules port.now) }
     ensures { IsGrantThere (places (P.rules port.now)) result }
@@ -44,7 +44,7 @@ fn granted<P: StreamPort>(port: &P, letter: u8, place: u32) -> Grant
 
 type TwoPorts = (Shared<PlaceTable>, Shared<PlaceTable>);
 
-/// Two ports to the same gates, at a stream for so many players.
+/// Two ports to the same gates, at a stream for at most `players` players.
 fn two_ports(alloc: Global, players: u32) -> Result<TwoPorts, OutOfMemory> {
     let limits = StreamLimits { players, ..STREAM };
     let mut list = shared_ports(alloc, names(alloc)?, OpenList::new(alloc), limits, 2)?;
@@ -78,7 +78,7 @@ fn wait_on(alloc: Global, link: &mut MemLink) -> Result<(), AllocError>
     wait(alloc, link)
 }
 
-// What a client asks by a letter: to play by `g`, or what isn't allowed.
+// The request of a client by a letter: to play by `g`, or a request that isn't allowed.
 fn head(alloc: Global, letter: u8) -> Result<Vec<u8>, AllocError> {
     let mut head = Vec::new(alloc);
     head.extend_from_slice(if letter == b'g' { b"GET" } else { b"PUT" })?;
@@ -174,7 +174,8 @@ fn refusal(bytes: &[u8]) -> Option<u8> {
     }
 }
 
-// What a link that came back took: all that is played, the text of a refusal by a digit of its number, or else.
+// Returns a letter for the bytes that a link took before it came back: all that is played, the text of a
+// refusal by a digit of its number, or else.
 fn took(door: &MemDoor, link: u32) -> u8 {
     match door.link_took(link) {
         None => b'-',
@@ -187,7 +188,8 @@ fn took(door: &MemDoor, link: u32) -> u8 {
     }
 }
 
-/// What a worker came to: whether its first two rounds moved something, whether all calls of the publisher were made, and what is left.
+/// The outcome of a worker: whether its first two rounds moved something, whether all calls of the
+/// publisher were made, and the remains.
 #[derive(Drop)]
 struct Worked {
     moved: bool,
@@ -195,7 +197,8 @@ struct Worked {
     left: HttpFinished<Shared<PlaceTable>, Listening>,
 }
 
-// A worker at that port serves the links of the door: two rounds, a broadcast at the other port, and all rounds to the end.
+// A worker at that port serves the links of the door: two rounds, a broadcast at the other port, and all
+// rounds to the end.
 fn work<W: Wait>(
     rt: &W,
     alloc: Global,
@@ -221,8 +224,9 @@ fn work<W: Wait>(
     })
 }
 
-// Whether both were heard, what the links took as they came back, whether all calls were made, whether something was refused for want of
-// memory, and, in a line of its own each, what the links were told.
+// Writes whether both were heard, and the bytes that the links took as they came back. It then writes
+// whether all calls were made, and whether something was refused for want of memory. The news of each link
+// follows in a line of its own.
 fn text(
     alloc: Global,
     moved: bool,
@@ -265,7 +269,8 @@ fn heard_door(alloc: Global, one: u8, other: u8) -> Result<Listening, OutOfMemor
     })
 }
 
-// Two clients ask before a desk that grants so at a stream for so many players, and then the stream is published: what that comes to.
+// Returns the outcome if two clients ask before a desk with that grant, at a stream for at most `players`
+// players, and then the stream is published.
 fn served<W: Wait>(
     rt: &W,
     alloc: Global,

@@ -1,5 +1,7 @@
-//! Tests of whole sessions, workers, servers and edges over doors, houses and links in memory, and a caller that turns a session as often as it
-//! needs.
+//! Tests of whole sessions, workers, servers and edges over doors, houses and links in memory, and a caller
+//! that turns a session a given number of times.
+//!
+//! Read [`turn_often`] first. The other modules are compiled for tests alone, and use no sockets and no files.
 #![tactic(auto)]
 
 ghost use Rattle.std.specs.Prelude.{◌≡◌, ◌≤◌};
@@ -39,7 +41,8 @@ mod sessions;
 #[cfg(test)]
 mod workers;
 
-// How often a turn of that answer moved something; none goes on after one that ended.
+// Returns the number of times that a turn of that answer moved something. None goes on after a turn that
+// ended.
 fn moved_by(answer: Turn) -> Option<u64>
     ensures value { result ≡ moved_by answer }
     ensures once { IfSome result (λ n. n ≤ 1) }
@@ -51,7 +54,8 @@ fn moved_by(answer: Turn) -> Option<u64>
     }
 }
 
-/// Turns a session until it ends, or so often, and answers how often it moved something. It never waits.
+/// Turns a session until it ends, or the given number of times, and returns the number of turns that moved
+/// something. It never waits.
 pub fn turn_often<P: StreamPort, D: Desk, L: Link>(
     session: &mut Session<P>,
     alloc: Global,

@@ -1,10 +1,11 @@
-//! What an origin says.
+//! The messages of an origin.
 
 use crate::names::bytes;
 use av_unit::{Bytes, OutOfMemory};
 use std::alloc::Global;
 
-// What an origin answers to `connect` and `createStream`: the results of transactions 1 and 2, the second with stream 1.
+// The answers of an origin to `connect` and `createStream`: the results of transactions 1 and 2, the second
+// with stream 1.
 const ANSWERS: &[u8] =
     b"\x03\x00\x00\x00\x00\x00\x15\x14\x00\x00\x00\x00\x02\x00\x07_result\x00?\xf0\x00\x00\x00\x00\x00\x00\x05\x05\
     \x03\x00\x00\x00\x00\x00\x1d\x14\x00\x00\x00\x00\x02\x00\x07_result\x00@\x00\x00\x00\x00\x00\x00\x00\x05\x00?\xf0\x00\x00\x00\x00\x00\x00";
@@ -40,7 +41,7 @@ fn status(alloc: Global, out: &mut Bytes, code: &[u8]) -> Result<(), OutOfMemory
     message(out, 20, body.as_slice())
 }
 
-// What it says by a letter.
+// Adds the message of a letter.
 fn say(alloc: Global, out: &mut Bytes, letter: u8) -> Result<(), OutOfMemory> {
     match letter {
         b'A' => out.append(ANSWERS),
@@ -60,7 +61,8 @@ fn say(alloc: Global, out: &mut Bytes, letter: u8) -> Result<(), OutOfMemory> {
     }
 }
 
-/// What an origin says: its handshake, which begins with this byte, and a message for each letter.
+/// Returns the bytes of an origin: its handshake, which begins with this byte, and a message for each
+/// letter.
 pub fn said(alloc: Global, version: u8, letters: &[u8]) -> Result<Bytes, OutOfMemory> {
     let mut said = bytes(alloc, &[version])?;
     said.append(&[0; 3_072])?;

@@ -1,4 +1,4 @@
-//! What an edge calls for what its origin says, in pieces of several lengths.
+//! The calls of an edge for the messages of its origin, in pieces of several lengths.
 ghost use Rattle.std.specs.Prelude.{◌≡◌, ◌<◌, IfOk};
 ghost use Rattle.stream_registry.specs.Books.{FitsSole, sole_rules};
 ghost use Rattle.stream_registry.specs.Names.{places};
@@ -123,7 +123,7 @@ fn publish(port: &mut Sole) -> Result<(), OutOfMemory>
     }
 }
 
-// A port where somebody else publishes, if that is said.
+// A port at which somebody else publishes, if that is said.
 fn taken_port(alloc: Global, taken: bool) -> Result<Sole, OutOfMemory>
     ensures { IfOk result (λ s. places (sole_rules s.rules) ≡ 1) }
 {
@@ -165,7 +165,7 @@ fn text_of(
     Ok(text)
 }
 
-// That of an edge over this link, at a port where somebody else publishes, if that is said.
+// The same of an edge over this link, at a port at which somebody else publishes, if that is said.
 fn told_over(alloc: Global, taken: bool, link: &mut MemLink) -> Result<Bytes, OutOfMemory> {
     let mut port = taken_port(alloc, taken)?;
     let end = pulled(alloc, &mut port, link);

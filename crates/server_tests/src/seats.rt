@@ -84,8 +84,8 @@ fn left(leaving: Leaving) -> u8 {
     }
 }
 
-// Makes the call of each letter at the first place, or leaves at the letter X, and tells what became of each by a letter, after
-// which stands whether it is at a place.
+// Makes the call of each letter at the first place, or leaves at the letter X. Writes the outcome of each
+// by a letter, after which stands whether it is at a place.
 fn walk<P: StreamPort>(
     alloc: Global,
     port: &mut P,
@@ -114,7 +114,7 @@ fn walk<P: StreamPort>(
     Ok(told)
 }
 
-// What two seats are told at one stream.
+// The outcomes of two seats at one stream.
 fn story<P: StreamPort>(alloc: Global, port: &mut P, unit: &UnitArc) -> Result<Bytes, OutOfMemory>
     requires { 0 < places (P.rules port.old) }
 {

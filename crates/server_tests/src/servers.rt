@@ -56,8 +56,9 @@ fn front(file: Option<&[u8]>) -> u8 {
     }
 }
 
-// Serves by that configuration over a house whose first door has the link of a client that sends what these letters stand for. The calls of the house and of the door with these numbers fail. The
-// code, how the files begin, whether the link was sent more than the handshake's answer, and the report.
+// Serves by that configuration over a house whose first door has the link of a client that sends the parts
+// of these letters. The calls of the house and of the door with these numbers fail. Returns the code, the
+// beginnings of the files, whether the link was sent more than the handshake's answer, and the report.
 fn told<T: Threads + Wait + Sync>(
     rt: &T,
     alloc: Global,
@@ -88,7 +89,8 @@ fn marks(house: &MemHouse) -> [u8; 3] {
     ]
 }
 
-// Serves over a house whose third door has the link of a client that sends this and ends. What that was sent, and the report.
+// Serves over a house whose third door has the link of a client that sends this and ends. Returns the bytes
+// that the client was sent, and the report.
 fn answered<T: Threads + Wait + Sync>(
     rt: &T,
     alloc: Global,
@@ -109,7 +111,8 @@ fn answered<T: Threads + Wait + Sync>(
     told
 }
 
-// A row of the test: two recordings, of which one has a frame and a door that fails, an open table, and two players over HTTP.
+// A row of the test: two recordings, of which one has a frame and a door that fails, an open table, and two
+// players over HTTP.
 fn row<T: Threads + Wait + Sync>(rt: &T, alloc: Global, row: u8) -> Result<Vec<u8>, AllocError> {
     let none = Vec::new(alloc);
     match row {
@@ -121,8 +124,8 @@ fn row<T: Threads + Wait + Sync>(rt: &T, alloc: Global, row: u8) -> Result<Vec<u
     }
 }
 
-// The name that is published at the open table was listed by nobody. An HTTP player is sent the header of an FLV at once, also where
-// nobody publishes, and is refused where its key is wrong.
+// The name that is published at the open table was listed by nobody. An HTTP player is sent the header of
+// an FLV at once, also if nobody publishes, and is refused if its key is wrong.
 const TOLD: &[u8] = b"0F0+stream 0 began 1 pushed 1 ended 1 joined 2 skips 0\n\
 0FG+stream 0 began 1 pushed 2 ended 1 joined 2 skips 0\n\
 0--+stream 0 began 0 pushed 0 ended 0 joined 0 skips 0\nopen 0 began 1 pushed 2 ended 1 joined 0 skips 0\n\

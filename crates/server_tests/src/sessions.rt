@@ -47,7 +47,7 @@ fn two_ports(alloc: Global) -> Result<TwoPorts, OutOfMemory>
     Ok((one, other))
 }
 
-/// The bytes of a client that publishes so many units.
+/// Returns the bytes of a client that publishes that number of units.
 fn publishing(alloc: Global, units: u64) -> Result<Vec<u8>, AllocError> {
     let mut all = input(alloc, b"hcsp")?;
     for _ in 0..units {
@@ -56,14 +56,14 @@ fn publishing(alloc: Global, units: u64) -> Result<Vec<u8>, AllocError> {
     Ok(all)
 }
 
-/// What became of a session: how many bytes it was fed, and how many it sent.
+/// The outcome of a session: the number of bytes it was fed, and the number it sent.
 #[derive(Clone, Copy)]
 struct Ran {
     fed: u64,
     sent: usize,
 }
 
-/// Turns a session over these bytes, until they end or so often.
+/// Turns a session over these bytes, until they end or the given number of turns is made.
 fn run<P: StreamPort>(
     alloc: Global,
     port: &mut P,

@@ -19,7 +19,7 @@ use std::test::Fail;
 use stream_model::StreamLimits;
 use stream_registry::{OpenList, Sole, StreamPort};
 
-// A door with two links, which fails so often before it gives each.
+// A door with two links, which fails that number of times before it gives each.
 fn door(alloc: Global, one: &[u8], other: &[u8], fails: u8) -> Result<MemDoor, AllocError>
     ensures { IfOk result (λ d. IsNewDoor (door_told d)) }
 {
@@ -35,7 +35,8 @@ fn door(alloc: Global, one: &[u8], other: &[u8], fails: u8) -> Result<MemDoor, A
     Ok(MemDoor::new(alloc, links, numbers))
 }
 
-// What a link that came back took: nothing, the handshake's answer, or more.
+// Returns a letter for the bytes that a link took before it came back: nothing, the handshake's answer, or
+// more.
 fn took(door: &MemDoor, link: u32) -> u8 {
     match door.link_took(link) {
         None => b'-',
@@ -64,7 +65,7 @@ fn from(number: Option<u64>) -> u8 {
     }
 }
 
-// What a publish or a play is granted, by a letter.
+// The grant of a publish or a play, by a letter.
 fn granted(letter: u8, place: u32) -> Grant
     ensures { (count : ℕ) → place < count → IsGrantThere count result }
 {
@@ -122,7 +123,7 @@ fn finished<W: Wait, P: StreamPort>(
     worker.finish()
 }
 
-// Adds the marks, and from where each recorder joined and how its file begins.
+// Adds the marks, the item at which each recorder joined, and the beginning of its file.
 fn add_files<P: StreamPort>(
     recorders: Vec<Recorder<P, MemSink>>,
     seen: &mut Vec<u8>,
@@ -136,8 +137,9 @@ fn add_files<P: StreamPort>(
     Ok(())
 }
 
-// What its links were told, in the order in which they came back, what they took, whether something was refused for want of memory,
-// from where its recorders joined and how their files begin.
+// Writes the news of its links in the order in which they came back, the bytes that they took, and whether
+// something was refused for want of memory. Then follow the items at which its recorders joined and the
+// beginnings of their files.
 fn seen<P: StreamPort>(
     alloc: Global,
     finished: Finished<P, Listening, MemSink>,
@@ -163,8 +165,8 @@ fn seen<P: StreamPort>(
     Ok(seen)
 }
 
-// The same of a worker over two such links, the one a round after the other, before a desk that grants so, at a stream for one
-// player and two recorders.
+// The same of a worker over two such links, the one a round after the other, before a desk with that grant,
+// at a stream for one player and two recorders.
 fn ran<W: Wait, P: StreamPort>(
     rt: &W,
     alloc: Global,
@@ -182,7 +184,7 @@ fn ran<W: Wait, P: StreamPort>(
     seen(alloc, finished(rt, worker, granted(letter, place)))
 }
 
-// The same over a port of its own, by the door that fails so often.
+// The same over a port of its own, by the door that fails that number of times.
 fn told<W: Wait>(
     rt: &W,
     alloc: Global,

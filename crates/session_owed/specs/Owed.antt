@@ -1,4 +1,5 @@
--- WHAT A SESSION OWES for its input and its own calls with their replies, all at once. It knows no cutting of the input.
+-- WHAT A SESSION OWES for its input and its own calls with their replies, all at once. It knows no cutting of
+-- the input.
 use Rattle.std.specs.Prelude.{ℕ, zero, suc, ◌-◌, List, ◌++◌, length}
 use Rattle.chunk_wire.specs.declared.message.Message.{Message}
 use Rattle.chunk_writer.specs.WriterKnown.{WriterKnown}

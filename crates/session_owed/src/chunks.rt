@@ -5,7 +5,8 @@ ghost use Rattle.chunk_writer.specs.InHand.{has_more};
 ghost use Rattle.chunk_writer.specs.Written.{bytes_of};
 ghost use Rattle.session_owed.specs.Chunks.{Hand, Pending, all_first, begin, next_chunk, pending_bytes, say_bytes};
 
-/// What is pending may be encoded as late as it is sent, a chunk at a time: the bytes that it stands for are the same.
+/// Shows that pending messages may be encoded as late as they are sent, a chunk at a time: they stand for the
+/// same bytes.
 pub fn chunks_law()
     // A message that is begun adds its bytes.
     ensures begins { (w : WriterKnown) (m : Message) (first : List ℕ)
@@ -18,7 +19,7 @@ pub fn chunks_law()
     ensures ends { (first later : List ℕ) (h : Hand) → has_more h.sending h.body ≡ false
         → pending_bytes (all_first (first ++ later)) ≡ pending_bytes (record { first = first; hand = Some h; later = later }) }
 
-    // What is said meanwhile stands after all of it.
+    // Bytes that are said meanwhile stand after all of it.
     ensures says { (p : Pending) (b : List ℕ) → pending_bytes (say_bytes p b) ≡ pending_bytes p ++ b }
 
     // The first bytes are sent.

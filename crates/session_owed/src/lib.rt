@@ -1,9 +1,11 @@
-//! What a session owes: the bytes that it is to send for its input and its own calls, as one definition that knows no
-//! cutting of the input, and how it grows with each step of a session.
+//! The bytes that a session owes: those that it is to send for its input and its own calls. They are one
+//! definition, which doesn't depend on how the input was cut. The laws say how they grow with each step of a
+//! session.
 //!
 //! The section numbers are those of Adobe's RTMP 1.0.
 //!
-//! Read [`growth_law`] first. What is owed is `specs/Owed.antt`, what is published `specs/Published.antt`. It has no code that runs.
+//! Read [`growth_law`] first. `specs/Owed.antt` defines the bytes owed, `specs/Published.antt` the units
+//! published. The crate has no code that runs.
 #![tactic(auto)]
 
 mod chunks;

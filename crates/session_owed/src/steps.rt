@@ -11,33 +11,36 @@ ghost use Rattle.session_owed.specs.Standing.{answered_so, new_keeps, pending_no
 ghost use Rattle.session_owed.specs.Talk.{hand_bytes, is_take, item_of};
 ghost use Rattle.session_owed.specs.Talks.{NeverTakes, kept_by};
 
-/// A new session stands for the empty past.
+/// Shows that a new session stands for the empty past.
 pub fn new_step<S>()
     ensures { (d : Dialogue S) → Stands d new_past (new_keeps d) }
 {}
 
-/// The first pending bytes were sent.
+/// Shows that a session still stands for its past after the first pending bytes were sent.
 pub fn send_step<S>()
     ensures { (d : Dialogue S) (p : Past) (k : Keeps S) (b rest : List ℕ) → Stands d p k → k.pending ≡ b ++ rest
         → Stands d (sent_more p b) (pending_now k rest) }
 {}
 
-/// Bytes of the handshake were fed, and `more` is what its answer grew by.
+/// Shows that a session still stands for its past after bytes of the handshake were fed. `more` are the bytes
+/// by which its answer grew.
 pub fn hand_step<S>()
     ensures { (d : Dialogue S) (p : Past) (k : Keeps S) (q more : List ℕ)
         → length p.x < hand_bytes → length (p.x ++ q) ≤ hand_bytes → answered p.x ++ more ≡ answered (p.x ++ q) → Stands d p k
         → Stands d (fed_more p q) (pending_now k (k.pending ++ more)) }
 {}
 
-/// Bytes of chunks were fed that end no message, at most up to the next place of an acknowledgement.
+/// Shows that a session still stands for its past after bytes of chunks were fed that end no message, at most
+/// up to the next place of an acknowledgement.
 pub fn bytes_step<S>()
     ensures { (d : Dialogue S) (p : Past) (k : Keeps S) (q : List ℕ)
         → hand_bytes ≤ length p.x → p.kept ≡ None → length q ≤ room_of k.window → Stands d p k
         → Stands d (fed_more p q) (took k (length q)) }
 {}
 
-/// Bytes of chunks were fed that end a message. What it says at once stands after the acknowledgement of its last
-/// byte, and the call that it makes waits for its reply.
+/// Shows that a session still stands for its past after bytes of chunks were fed that end a message. The
+/// messages that it says at once stand after the acknowledgement of its last byte, and the call that it makes
+/// waits for its reply.
 pub fn message_step<S>()
     ensures { (d : Dialogue S) (p : Past) (k : Keeps S) (q : List ℕ) (m : Message)
         → NeverTakes d → hand_bytes ≤ length p.x → p.kept ≡ None → 0 < length q → length q ≤ room_of k.window → Stands d p k
@@ -45,14 +48,14 @@ pub fn message_step<S>()
         (stepped (took k (length q)) m (d.does k.state m)) }
 {}
 
-/// The call that waits is answered.
+/// Shows that a session still stands for its past after the call that waits is answered.
 pub fn reply_step<S>()
     ensures { (d : Dialogue S) (p : Past) (k : Keeps S) (e : Entry) (r : Reply)
         → hand_bytes ≤ length p.x → p.kept ≡ Some e → Stands d p k
         → Stands d (with_call p e r) (answered_so k (d.told k.state r)) }
 {}
 
-/// A Take is answered, where a play is granted.
+/// Shows that a session still stands for its past after a Take is answered, if a play is granted.
 pub fn item_step<S>()
     ensures { (d : Dialogue S) (p : Past) (k : Keeps S) (e : Entry) (r : Reply)
         → hand_bytes ≤ length p.x → p.kept ≡ None → e.at ≡ length p.x → is_take e.call ≡ true → d.plays k.state ≡ true → Stands d p k

@@ -44,7 +44,8 @@ impl Model for Pool {
 }
 
 impl Pool {
-    /// A pool of so many slots, which have no name and have had no call. It takes all that its slots take.
+    /// Makes a pool of `slots` slots, which have no name and have had no call. It takes all memory that its
+    /// slots take.
     pub fn new(alloc: Global, slots: u32, limits: StreamLimits) -> Result<Pool, OutOfMemory>
         requires { slots ≤ 64 }
         ensures { IfOk result (λ pool. pool ≡ record { limits = limits; slots = slots; past = [] }) }
@@ -57,10 +58,11 @@ impl Pool {
         })
     }
 
-    /// Answers the call by the rules of a pool, on condition that fewer than 2^62 calls were made. Memory is wanted only
-    /// at a Take that the rules answer with an item; a call so refused changes nothing. Whatever the calls so far, what each
-    /// player was sent at a slot since its Join keeps the viewer's law, and what a Take is answered depends on the slot's items
-    /// and that player's own answers alone.
+    /// Answers the call by the rules of a pool. It requires that fewer than 2^62 calls were made. Memory can
+    /// be refused only at a Take that the rules answer with an item; a call refused for memory changes
+    /// nothing. Whatever the calls so far, the items that each player was sent at a slot since its Join keep
+    /// the viewer's law. The answer to a Take depends on the slot's items and that player's own answers
+    /// alone.
     pub fn apply(&mut self, entry: Entry) -> Result<Reply, OutOfMemory>
         requires { length self.old.past < 2 ^ 62 }
         ensures ok { IfOk result (λ r. (r ≡ pool_reply self.old entry) × (self.new ≡ pool_answered self.old entry r)) }
@@ -76,8 +78,8 @@ impl Pool {
         reply
     }
 
-    /// The same as `apply` with the reply given twice, for a port that keeps a journal. Both shares of a unit are taken
-    /// first, and a call so refused changes nothing.
+    /// Answers as `apply` does, and gives the reply twice, for a port that keeps a journal. Both shares of a
+    /// unit are taken first, and a call refused for memory changes nothing.
     pub fn apply_twice(&mut self, entry: Entry) -> Result<(Reply, Reply), OutOfMemory>
         requires { length self.old.past < 2 ^ 62 }
         ensures ok { IfOk result (λ r. (r.0 ≡ pool_reply self.old entry) × (self.new ≡ pool_answered self.old entry r.0) × (r.1 ≡ r.0)) }
@@ -90,7 +92,8 @@ impl Pool {
         replies
     }
 
-    /// What the slots hold, and the lengths of their names, in bytes: at most what each may, after any calls.
+    /// Gives the sum of the bytes that the slots hold and the lengths of their names. It is at most the sum
+    /// of the slots' bounds, after any calls.
     pub fn held(&self) -> u64
         ensures sum { result ≡ pool_held self.now }
         ensures most { result ≤ self.now.slots * (self.now.limits.bytes + 196672) }
@@ -99,7 +102,8 @@ impl Pool {
         held_in(&self.slots, &self.limits)
     }
 
-    /// Each call so far was answered by the rules of a pool, and what each player was sent at a slot keeps the viewer's law.
+    /// Each call so far was answered by the rules of a pool, and the items that each player was sent at a
+    /// slot keep the viewer's law.
     pub fn history_law(&self)
         ensures rules { IsPoolLawful self.now.limits self.now.slots self.now.past }
         ensures viewers { (slot player : ℕ) → IsLegalAt (pool_shape self.now.limits self.now.slots) self.now.past slot player }
@@ -153,7 +157,7 @@ impl Pool {
     }
 }
 
-// What the slots hold together, each of which has these limits.
+// Gives the sum of the bytes that the slots hold, each of which has these limits.
 fn held_in(slots: &[Slot], limits: &StreamLimits) -> u64
     requires few { length slots.now ≤ 64 }
     requires limits { HaveLimits limits.now slots.now }
@@ -180,7 +184,7 @@ fn new_slots(alloc: Global, count: u32, limits: StreamLimits) -> Result<Vec<Slot
     Ok(slots)
 }
 
-// The least slot that has the name.
+// Finds the least slot that has the name.
 fn with_name(slots: &[Slot], name: &[u8]) -> Option<usize>
     ensures slot { result ≡ least_slot (has_name name.now) slots.now }
     ensures within { IfSome result (λ i. i < length slots.now) }
@@ -194,7 +198,7 @@ fn with_name(slots: &[Slot], name: &[u8]) -> Option<usize>
     found
 }
 
-// The least idle slot.
+// Finds the least idle slot.
 fn idle(slots: &[Slot]) -> Option<usize>
     ensures slot { result ≡ least_slot is_idle slots.now }
     ensures within { IfSome result (λ i. i < length slots.now) }
@@ -208,7 +212,7 @@ fn idle(slots: &[Slot]) -> Option<usize>
     found
 }
 
-// The least slot at which that one publishes.
+// Finds the least slot at which that caller publishes.
 fn published_by(slots: &[Slot], who: u64) -> Option<usize>
     ensures slot { result ≡ least_slot (is_published_by who) slots.now }
     ensures within { IfSome result (λ i. i < length slots.now) }
@@ -222,7 +226,7 @@ fn published_by(slots: &[Slot], who: u64) -> Option<usize>
     found
 }
 
-// The least slot of which that one holds the place.
+// Finds the least slot at which that caller holds the place.
 fn played_by(slots: &[Slot], who: u64, player: u32) -> Option<usize>
     ensures slot { result ≡ least_slot (is_played_by who player) slots.now }
     ensures within { IfSome result (λ i. i < length slots.now) }
@@ -246,7 +250,7 @@ fn slot_named(slots: &[Slot], name: &[u8]) -> Option<usize>
     }
 }
 
-// The slot of a call, if it has one.
+// Finds the slot of a call, if it has one.
 fn slot_for(slots: &[Slot], who: u64, call: &Call) -> Option<usize>
     ensures slot { result ≡ slot_for slots.now who call.now }
     ensures within { IfSome result (λ i. i < length slots.now) }
@@ -264,7 +268,7 @@ fn slot_for(slots: &[Slot], who: u64, call: &Call) -> Option<usize>
     }
 }
 
-// The reply to a call that has no slot.
+// Gives the reply to a call that has no slot.
 fn reply_nowhere(slots: u32, tally: &Tally, call: &Call) -> Reply
     ensures reply { (past : List (Entry × Reply)) → IsTally tally.now past → result ≡ reply_nowhere slots past call.now }
     ensures no_item { Itemless result }

@@ -29,7 +29,7 @@ impl Model for Slot {
 }
 
 impl Slot {
-    /// A slot without a name. It takes all that its stream takes.
+    /// Makes a slot without a name. It takes all memory that its stream takes.
     pub fn new(alloc: Global, limits: StreamLimits) -> Result<Slot, OutOfMemory>
         ensures { IfOk result (λ s. s ≡ new_slot limits) }
     {
@@ -67,7 +67,7 @@ impl Slot {
         self.stream.is_played_by(who, player)
     }
 
-    /// What the stream holds, and the length of the name, in bytes.
+    /// Gives the number of bytes that the stream holds, plus the length of the name.
     pub fn held(&self) -> u64
         ensures sum { result ≡ slot_held self.now }
         ensures most { result ≤ self.now.stream.limits.bytes + 196672 }
@@ -86,7 +86,7 @@ impl Slot {
         }
     }
 
-    // The slot has the name, or takes it. The name is moved, so that this takes no memory.
+    // Takes the name, if the slot doesn't have it. The name is moved, so that this takes no memory.
     fn take_name(&mut self, name: ShortName)
         requires open { (has_name name self.old ≡ true) ⊎ (is_idle self.old ≡ true) }
         requires few { length (items_of self.old.stream.past) + 2 < 3 * 2 ^ 62 }
@@ -133,7 +133,7 @@ impl Slot {
         }
     }
 
-    /// The same with the reply given twice.
+    /// Answers in the same way, and gives the reply twice.
     pub fn answer_twice(
         &mut self,
         seen: Snapshot<Entry>,

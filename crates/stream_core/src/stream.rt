@@ -27,14 +27,15 @@ use stream_law::{takes_alone, viewers_law};
 use stream_model::{Call, Entry, Reply, StreamLimits};
 use unit_ring::Ring;
 
-/// By this name a slot of a pool publishes the markers of a name that it takes. No reply depends on it.
+/// The caller name under which a slot of a pool publishes the markers of a name that it takes. No reply
+/// depends on it.
 const NOBODY: u64 = u64::MAX;
 
-/// One stream: what is published on it, and the players that take from it.
+/// One stream: the items published on it, and the players that take from it.
 ///
-/// It keeps a bounded ring of the items, and for each player a cursor of a few numbers. The ring's slots
-/// and the players' places are taken when it is made, so that a call takes memory only to share a
-/// unit with a player once more.
+/// It keeps a bounded ring of the items, and for each player a cursor of a few numbers. The ring's slots and
+/// the players' places are taken when it is made. So a call takes memory only to share a unit with a player
+/// once more.
 #[derive(Drop)]
 pub struct Stream {
     ring: Ring,
@@ -56,7 +57,7 @@ impl Model for Stream {
 }
 
 impl Stream {
-    /// A stream that has had no call. It takes all slots of its ring and the places of all its players.
+    /// Makes a stream that has had no call. It takes all slots of its ring and the places of all its players.
     pub fn new(alloc: Global, limits: StreamLimits) -> Result<Stream, OutOfMemory>
         ensures { IfOk result (λ stream. stream ≡ record { limits = limits; past = [] }) }
     {
@@ -69,10 +70,10 @@ impl Stream {
         })
     }
 
-    /// Answers the call by the rules of one stream, on condition that fewer than 3 times 2^62 items were published.
-    /// Memory is wanted only at a Take that the rules answer with an item; a call so refused changes nothing.
-    /// Whatever the calls so far, what each player was sent since its Join keeps the viewer's law, and
-    /// what a Take is answered depends on the items and that player's own answers alone.
+    /// Answers the call by the rules of one stream. It requires that fewer than 3 times 2^62 items were
+    /// published. Memory can be refused only at a Take that the rules answer with an item; a call refused for
+    /// memory changes nothing. Whatever the calls so far, the items that each player was sent since its Join
+    /// keep the viewer's law. The answer to a Take depends on the items and that player's own answers alone.
     pub fn apply(&mut self, entry: Entry) -> Result<Reply, OutOfMemory>
         requires { length (items_of self.old.past) < 3 * 2 ^ 62 }
         ensures ok { IfOk result (λ r. (r ≡ reply self.old.limits self.old.past entry) × (self.new ≡ answered self.old entry r)) }
@@ -87,8 +88,8 @@ impl Stream {
         reply
     }
 
-    /// The same with the reply given twice, for a port that keeps a journal. Both shares of a unit are taken first, and a
-    /// call so refused changes nothing.
+    /// Answers as `apply` does, and gives the reply twice, for a port that keeps a journal. Both shares of a
+    /// unit are taken first, and a call refused for memory changes nothing.
     pub fn apply_twice(&mut self, entry: Entry) -> Result<(Reply, Reply), OutOfMemory>
         requires { length (items_of self.old.past) < 3 * 2 ^ 62 }
         ensures ok { IfOk result (λ r. (r.0 ≡ reply self.old.limits self.old.past entry) × (self.new ≡ answered self.old entry r.0) × (r.1 ≡ r.0)) }
@@ -101,8 +102,8 @@ impl Stream {
         replies
     }
 
-    /// The lengths of the bodies of the items in the window and of the configurations in effect at its
-    /// base, in bytes: at most the limit and 196,608, after any calls.
+    /// Gives the sum of the lengths of the bodies of the items in the window and of the configurations in
+    /// effect at its base, in bytes. It is at most the limit plus 196,608, after any calls.
     pub fn held(&self) -> u64
         ensures sum { result ≡ held self.now.limits (items_of self.now.past) }
         ensures most { result ≤ self.now.limits.bytes + 196608 }
@@ -111,7 +112,7 @@ impl Stream {
         self.ring.held()
     }
 
-    /// Each call so far was answered by the rules, and what each player was sent keeps the viewer's
+    /// Each call so far was answered by the rules, and the items that each player was sent keep the viewer's
     /// law.
     pub fn history_law(&self)
         ensures rules { IsLawful self.now.limits self.now.past }
@@ -126,7 +127,7 @@ impl Stream {
         ensures { length (items_of self.now.past) ≤ length self.now.past }
     {}
 
-    /// Whether it isn't live, and nobody holds a place of it.
+    /// Tells whether it isn't live, and no caller holds a place of it.
     pub(crate) fn is_free(&self) -> bool
         ensures { result ≡ is_free self.now }
     {
@@ -134,7 +135,7 @@ impl Stream {
         self.publisher.is_none() && none_held(&self.places)
     }
 
-    /// Whether it is live, and that one publishes.
+    /// Tells whether it is live, and that caller publishes.
     pub(crate) fn is_published_by(&self, who: u64) -> bool
         ensures { result ≡ is_who (publisher self.now.past) who }
     {
@@ -142,7 +143,7 @@ impl Stream {
         is_who(self.publisher, who)
     }
 
-    /// Whether that one holds the place.
+    /// Tells whether that caller holds the place.
     pub(crate) fn is_played_by(&self, who: u64, player: u32) -> bool
         ensures { result ≡ is_who (holder self.now.past player) who }
     {
@@ -374,7 +375,7 @@ impl Stream {
     }
 }
 
-// A reply without an item, twice.
+// Gives a reply without an item, twice.
 pub(crate) fn twice(reply: Reply) -> (Reply, Reply)
     requires { Itemless reply }
     ensures { (result.0 ≡ reply) × (result.1 ≡ reply) }
@@ -383,7 +384,7 @@ pub(crate) fn twice(reply: Reply) -> (Reply, Reply)
     (reply, again)
 }
 
-// The reply, which is counted, and which the past has from then on.
+// Counts the reply, adds it to the past, and gives it back.
 pub(crate) fn noted(
     past: &mut History<Pair<Entry, Reply>>,
     tally: &mut Tally,
@@ -408,7 +409,7 @@ fn free_places(alloc: Global, count: u32) -> Result<Vec<Place>, OutOfMemory>
     Ok(places)
 }
 
-// Whether nobody holds any of them.
+// Tells whether none of them has a holder.
 fn none_held(places: &[Place]) -> bool
     ensures { result ≡ none_held (λ p. (slice_index_or places.now p free_place).who) (length places.now) }
 {
@@ -419,7 +420,7 @@ fn none_held(places: &[Place]) -> bool
     none
 }
 
-// The least place that nobody holds.
+// Finds the least place without a holder.
 fn free_place(places: &[Place]) -> Option<usize>
     ensures place { result ≡ position (λ p. is_none p.who) places.now }
     ensures within { IfSome result (λ p. p < length places.now) }

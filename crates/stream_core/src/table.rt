@@ -9,7 +9,7 @@ use av_unit::OutOfMemory;
 use std::alloc::Global;
 use stream_model::{Entry, Reply, Shape};
 
-/// What a place has: a stream, or a pool of slots that take the names that callers give.
+/// The machine of a place: a stream, or a pool of slots that take the names that callers give.
 #[derive(Drop)]
 pub enum Table {
     Stream(Stream),
@@ -17,7 +17,7 @@ pub enum Table {
 }
 
 impl Table {
-    /// A stream or a pool of that shape, which has had no call.
+    /// Makes a stream or a pool of that shape, which has had no call.
     #[tactic(auto, using(crate::proofs::Tables::shape_none, crate::proofs::Tables::shape_some))]
     pub fn new(alloc: Global, shape: Shape) -> Result<Table, OutOfMemory>
         requires { AreFewSlots shape.slots }
@@ -29,9 +29,10 @@ impl Table {
         }
     }
 
-    /// Answers the call by the rules of a stream or of a pool, on condition that fewer than 2^62 calls were made. Memory is
-    /// wanted only at a Take that the rules answer with an item; a call so refused changes nothing. What each player was sent
-    /// at a slot since its Join keeps the viewer's law.
+    /// Answers the call by the rules of a stream or of a pool. It requires that fewer than 2^62 calls were
+    /// made. Memory can be refused only at a Take that the rules answer with an item; a call refused for
+    /// memory changes nothing. The items that each player was sent at a slot since its Join keep the viewer's
+    /// law.
     pub fn apply(&mut self, entry: Entry) -> Result<Reply, OutOfMemory>
         requires { length (known self.old).past < 2 ^ 62 }
         ensures ok { IfOk result (λ r. (r ≡ shape_reply (known self.old).shape (known self.old).past entry) × (known self.new ≡ table_answered (known self.old) entry r)) }
@@ -48,8 +49,8 @@ impl Table {
         }
     }
 
-    /// The same with the reply given twice, for a port that keeps a journal. Both shares of a unit are taken first, and a
-    /// call so refused changes nothing.
+    /// Answers as `apply` does, and gives the reply twice, for a port that keeps a journal. Both shares of a
+    /// unit are taken first, and a call refused for memory changes nothing.
     pub fn apply_twice(&mut self, entry: Entry) -> Result<(Reply, Reply), OutOfMemory>
         requires { length (known self.old).past < 2 ^ 62 }
         ensures ok { IfOk result (λ r. (r.0 ≡ shape_reply (known self.old).shape (known self.old).past entry) × (known self.new ≡ table_answered (known self.old) entry r.0) × (r.1 ≡ r.0)) }
@@ -66,8 +67,9 @@ impl Table {
         }
     }
 
-    /// What it holds, in bytes: a stream the bodies of the items in its window and of the configurations in effect at its base,
-    /// a pool the same of each slot and the lengths of the slots' names.
+    /// Gives the number of bytes it holds. For a stream these are the bodies of the items in its window and
+    /// of the configurations in effect at its base. For a pool they are the same of each slot and the lengths
+    /// of the slots' names.
     pub fn held(&self) -> u64
         ensures sum { result ≡ shape_held (known self.now).shape (known self.now).past }
         ensures most { result ≤ most_held (known self.now).shape }
@@ -78,7 +80,8 @@ impl Table {
         }
     }
 
-    /// Each call so far was answered by the rules, and what each player was sent at a slot keeps the viewer's law.
+    /// Each call so far was answered by the rules, and the items that each player was sent at a slot keep the
+    /// viewer's law.
     pub fn history_law(&self)
         ensures rules { IsShapeLawful (known self.now).shape (known self.now).past }
         ensures viewers { (slot player : ℕ) → IsLegalAt (known self.now).shape (known self.now).past slot player }

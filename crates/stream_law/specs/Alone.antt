@@ -24,8 +24,8 @@ abbrev pub left_alone : Reply → Reply
 left_alone (Left player) = Left 0
 left_alone r = r
 
--- a call that publishes stays, whoever made it. A call of the place's player stays, and its place is the first one then. All others,
--- and Counts, are taken out
+-- a call that publishes stays, whoever made it. A call of the place's player stays, and its place is the
+-- first one then. All others, and Counts, are taken out
 abbrev pub call_alone : Entry → Call → Reply → ℕ → History → History
 call_alone entry call.Begin r place past = (calling entry call.Begin, r) ∷ past
 call_alone entry (call.BeginAs name) r place past = (calling entry (call.BeginAs name), r) ∷ past

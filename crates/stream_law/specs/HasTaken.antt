@@ -23,8 +23,8 @@ pub record HasTaken (name : List ℕ) (k : StreamKnown) : Type 0 where
   pub past_is : k.past ≡ newer ++ (cleared older).past
   pub asks : AskFor name newer
 
--- A player at the place of a slot of that name was sent nothing that stood there before the slot took the name: no number below that
--- of the items which the slot had then, with the markers of the name.
+-- A player at the place of a slot of that name was sent nothing that stood there before the slot took the
+-- name: no number below that of the items which the slot had then, with the markers of the name.
 pub record SentOfItsName (name : List ℕ) (k : StreamKnown) (place : ℕ) : Type 0 where
   pub taken : HasTaken name k
   pub since : All (λ n. length (items_of (cleared taken.older).past) ≤ n) (sent (spell k.past place))

@@ -1,10 +1,11 @@
 //! The laws of a stream, and of a pool of slots, that stand above their definitions.
 //!
-//! Each law is the contract of a function that does nothing: a fact about every history of calls,
-//! every list of items and every limit. The viewer's law and what follows from it speak of what a
-//! player is sent. The other laws read the definitions of the window, the configuration in effect,
-//! a whole chain of frames and the join place as plain relations between items and numbers. A slot of a
-//! pool is a stream, so all of them hold there; the laws of a pool say so, and what its names keep apart.
+//! Read `viewers_law` in `players.rt` first. Each law is the contract of a function that does nothing: a fact
+//! about every history of calls, every list of items and every limit. The viewer's law and its consequences
+//! are about the items that a player is sent. The other laws read the definitions as plain relations between
+//! items and numbers: the window, the configuration in effect, a whole chain of frames and the join place. A
+//! slot of a pool is a stream, so all of them hold there; the laws of a pool say so, and which items its
+//! names keep apart. It has no code that runs.
 #![tactic(auto)]
 
 mod definitions;

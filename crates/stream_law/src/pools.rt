@@ -14,9 +14,9 @@ ghost use Rattle.stream_model.specs.Legal.{Legal};
 ghost use Rattle.stream_model.specs.Pool.{IsPoolLawful, slots_of, slot_at, slot_for, reply_at, cleared};
 ghost use Rattle.stream_law.specs.HasTaken.{HasTaken, SentOfItsName, joins};
 
-/// Each slot of a pool is a stream: it has the pool's limits, and each of its calls was answered by the rules
-/// of a stream after the slot's calls before it, the Begin and the End of each name that it took among them. So
-/// each law of a stream holds of each slot, the viewer's law too.
+/// Each slot of a pool is a stream: it has the pool's limits. Each of its calls was answered by the rules of
+/// a stream after the slot's calls before it. Among them are the Begin and the End of each name that it took.
+/// So each law of a stream holds for each slot, the viewer's law too.
 pub fn slots_law()
     ensures slots { (limits : StreamLimits) (n : ℕ) (past : History) → IsPoolLawful limits n past → length (slots_of limits n past) ≡ n }
     ensures limits { (limits : StreamLimits) (n : ℕ) (past : History) → IsPoolLawful limits n past → (i : ℕ) → i < n
@@ -27,8 +27,8 @@ pub fn slots_law()
         → (place : ℕ) → Legal limits (slot_at (slots_of limits n past) i).stream.past place }
 {}
 
-/// A slot that has a name took it while nobody published or played there, and since then all that asked for
-/// a name there asked for this one. No two slots have the same name.
+/// A slot that has a name took it while nobody published or played there. Since then all callers that asked
+/// for a name there asked for this one. No two slots have the same name.
 pub fn names_law()
     ensures taken { (limits : StreamLimits) (n : ℕ) (past : History) → IsPoolLawful limits n past → (i : ℕ) → i < n → (name : List ℕ)
         → (slot_at (slots_of limits n past) i).name ≡ Some name → HasTaken name (slot_at (slots_of limits n past) i).stream }
@@ -36,15 +36,16 @@ pub fn names_law()
         → (slot_at (slots_of limits n past) i).name ≡ Some name → (slot_at (slots_of limits n past) j).name ≡ Some name → i ≡ j }
 {}
 
-/// What a player is sent that joined since a slot took its name was published since then: its number is not
-/// below the number of items that the slot had with the markers of the name.
+/// If a player joined since a slot took its name, the items that it is sent were published since then. Their
+/// numbers are at least the number of items that the slot had with the markers of the name.
 pub fn since_law()
     ensures { (older : StreamKnown) (newer : History) → IsLawful older.limits (newer ++ (cleared older).past) → (place : ℕ) → joins newer place ≡ true
         → All (λ n. length (items_of (cleared older).past) ≤ n) (sent (spell (newer ++ (cleared older).past) place)) }
 {}
 
-/// A player is sent nothing of another name. At a slot that has a name, who holds a place was sent only what was published there since
-/// the slot took that name, by calls that asked for that name or found their caller there.
+/// A player is sent no item of another name. At a slot that has a name, the holder of a place was sent only
+/// items published there since the slot took that name. The calls that published them asked for that name or
+/// found their caller there.
 pub fn own_name_law()
     ensures { (limits : StreamLimits) (n : ℕ) (past : History) → IsPoolLawful limits n past → (i : ℕ) → i < n → (name : List ℕ)
         → (slot_at (slots_of limits n past) i).name ≡ Some name
@@ -52,8 +53,9 @@ pub fn own_name_law()
         → SentOfItsName name (slot_at (slots_of limits n past) i).stream place }
 {}
 
-/// Of a pool as of a stream: what a player is answered to a Take depends on what was published at its slot, on who holds the
-/// place there, and on what that player itself was answered since its Join, alone.
+/// The same holds for a pool as for a stream. The answer to a player's Take depends on three things alone.
+/// These are the items published at its slot, the holder of the place there, and that player's own answers
+/// since its Join.
 pub fn takes_alone_at_pools()
     ensures { (limits : StreamLimits) (n : ℕ) (past : History) → IsPoolLawful limits n past
         → (entry : Entry) (i player : ℕ) (want : Want) (other : History) → entry.call ≡ Take player want
@@ -64,8 +66,8 @@ pub fn takes_alone_at_pools()
         → reply_at (slots_of limits n past) past entry ≡ reply limits other entry }
 {}
 
-/// The viewer's law of a place, whether it has a stream or a pool: what each player was sent at a slot keeps it. A stream is its own
-/// one slot.
+/// The viewer's law of a place, whether it has a stream or a pool: the items that each player was sent at a
+/// slot keep it. A stream is its own one slot.
 pub fn tables_law()
     ensures { (s : Shape) (past : History) → IsShapeLawful s past → (slot player : ℕ) → IsLegalAt s past slot player }
 {}

@@ -59,7 +59,8 @@ abbrev pub most_by : ℕ → Option ℕ → ℕ
 most_by bytes None = bytes + 196608
 most_by bytes (Some n) = n * (bytes + 196672)
 
--- what it holds at most: of each stream its window, and three configurations of 65,536 bytes; of each slot its name of 64 bytes too
+-- what it holds at most: of each stream its window, and three configurations of 65,536 bytes; of each slot
+-- its name of 64 bytes too
 abbrev pub most_held : Shape → ℕ
 most_held s = most_by s.limits.bytes s.slots
 

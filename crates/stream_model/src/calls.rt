@@ -1,27 +1,27 @@
 use crate::names::ShortName;
 use av_unit::{UnitArc, Want};
 
-/// What the window of a stream has at most, and how many players it has.
-#[derive(Clone, Copy, Debug, PartialEq, Eq)]
+/// The limits of a stream: those of its window, and its number of players.
+#[derive(Clone, Copy)]
 pub struct StreamLimits {
-    /// The costs of the items in the window together, in bytes.
+    /// The sum of the costs of the items in the window, in bytes.
     pub bytes: u64,
-    /// The items in the window.
+    /// The number of items in the window.
     pub items: u32,
     /// The places for players, recorders among them.
     pub players: u32,
 }
 
-/// What never changes of a place: the limits of its stream, or of each slot where it has a pool.
-#[derive(Clone, Copy, Debug, PartialEq, Eq)]
+/// The constants of a place: the limits of its stream, or those of each slot if it has a pool.
+#[derive(Clone, Copy)]
 pub struct Shape {
     pub limits: StreamLimits,
-    /// How many slots the pool has; `None` where the place has a stream.
+    /// The number of slots of the pool; `None` if the place has a stream.
     pub slots: Option<u32>,
 }
 
 /// A call at a stream or a pool.
-#[derive(Debug, PartialEq, Eq, Drop)]
+#[derive(Debug, Drop)]
 pub enum Call {
     /// Begins a broadcast.
     Begin,
@@ -35,7 +35,7 @@ pub enum Call {
     Take { player: u32, want: Want },
     /// Gives the player's place back.
     Leave { player: u32 },
-    /// Asks how often the stream has answered so far.
+    /// Asks for the counts of the stream's answers so far.
     Count,
     /// Begins a broadcast of that name. A stream answers it as `Begin`.
     BeginAs(ShortName),
@@ -44,12 +44,12 @@ pub enum Call {
 }
 
 /// A call with its caller.
-#[derive(Debug, PartialEq, Eq, Drop)]
+#[derive(Debug, Drop)]
 pub struct Entry {
     /// The name of the caller.
     pub who: u64,
-    /// How many bytes of input the caller had been fed.
+    /// The number of bytes of input that the caller had been fed.
     pub at: u64,
-    /// What it asks.
+    /// The call itself.
     pub call: Call,
 }

@@ -1,11 +1,12 @@
-//! What a stream or a pool of slots is asked and what it answers, and their rules as definitions.
+//! The calls and replies of a stream or a pool of slots, and their rules as definitions.
 //!
-//! The definitions stand in `specs/`: the items that a history has published, the window that the
-//! limits leave of them, the configurations in effect, the join place, whole chains of frames,
-//! whether a player lags, the reply to each call after a history, and what one player is sent. A slot
-//! of a pool is a stream with a name: which slot a call has, and when a slot takes a name, stands in
-//! `specs/Pool.antt`. Everything that keeps or serves a stream or a pool cites them; the code here is
-//! the types alone, and some worked rows.
+//! Read `Call` and `Reply` first. The definitions stand in `specs/`. Those of a stream are the items that a
+//! history has published, the window that the limits leave of them, the configurations in effect, and the
+//! join place. Further ones are whole chains of frames, whether a player lags, the reply to each call after a
+//! history, and the items that one player is sent. A slot of a pool is a stream with a name. The slot that a
+//! call has, and the conditions under which a slot takes a name, stand in `specs/Pool.antt`. Everything that
+//! keeps or serves a stream or a pool cites them. The code here is the types alone, and some worked rows; it
+//! keeps no stream.
 #![tactic(auto)]
 
 mod calls;

@@ -6,7 +6,7 @@ use av_unit::{Bytes, OutOfMemory};
 use std::marker::Model;
 
 /// A name that a caller gives to a broadcast: at most 64 bytes. Contracts see it as the list of its bytes.
-#[derive(Debug, PartialEq, Eq, Drop)]
+#[derive(Debug, Drop)]
 pub struct ShortName {
     bytes: Bytes,
 }
@@ -24,7 +24,7 @@ impl Model for ShortName {
 }
 
 impl ShortName {
-    /// These bytes as a name.
+    /// Makes a name of these bytes.
     pub fn new(bytes: Bytes) -> ShortName
         requires { length bytes ≤ 64 }
         ensures { result ≡ bytes }
@@ -32,7 +32,7 @@ impl ShortName {
         ShortName { bytes }
     }
 
-    /// The bytes.
+    /// Gives the bytes.
     pub fn as_slice(&self) -> &[u8]
         ensures bytes { result.now ≡ self.now }
         ensures few { length self.now ≤ 64 }
@@ -40,7 +40,7 @@ impl ShortName {
         self.bytes.as_slice()
     }
 
-    /// The same name once more, in memory of its own.
+    /// Copies the name, to memory of its own.
     pub fn again(&self) -> Result<ShortName, OutOfMemory>
         ensures { IfOk result (λ other. other ≡ self.now) }
     {
@@ -49,7 +49,7 @@ impl ShortName {
         })
     }
 
-    /// The bytes, in the memory that they have.
+    /// Gives the bytes, in the memory that they have.
     pub fn into_bytes(self) -> Bytes
         ensures bytes { result ≡ self }
         ensures few { length self ≤ 64 }
@@ -58,7 +58,8 @@ impl ShortName {
     }
 }
 
-/// Whether bytes are a name that a caller may give to a broadcast: 1 to 64 letters, digits, `.`, `_` or `-`.
+/// Tells whether bytes are a name that a caller may give to a broadcast: 1 to 64 letters, digits, `.`, `_` or
+/// `-`.
 pub fn is_name(bytes: &[u8]) -> bool
     ensures value { result ≡ is_name bytes.now }
     ensures few { result ≡ true → length bytes.now ≤ 64 }

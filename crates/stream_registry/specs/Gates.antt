@@ -1,4 +1,5 @@
--- What a gate's history tells a caller: the calls refused for memory are left out, and the numbers are counted without them
+-- What a gate's history tells a caller: the calls refused for memory are left out, and the numbers are
+-- counted without them
 use Rattle.std.specs.Prelude.{ℕ, List, [], ◌∷◌, ◌++◌, reverse, length, take, slice_get, Option, Some, None}
 use Rattle.std.specs.declared.result.Result.TheVariants.{Ok, Err}
 use Rattle.stream_registry.specs.declared.place_table.Site.{Site}

@@ -39,8 +39,8 @@ abbrev pub IsOpenOf : List OpenName → List ℕ → Option ℕ → Type 0
 IsOpenOf opens app (Some table) = (table < length opens) × IsOpenAt opens table app × NoneOpen opens table app
 IsOpenOf opens app None = NoneOpen opens (length opens) app
 
--- The open table that a pair of names has where no stream has it: the one of its app, if the name is one that a caller may give. Its
--- place is behind those of the streams.
+-- The open table that a pair of names has where no stream has it: the one of its app, if the name is one that
+-- a caller may give. Its place is behind those of the streams.
 pub record IsOpenPlace (names : List Name) (opens : List OpenName) (app name : List ℕ) (place : ℕ) : Type 0 where
   pub unlisted : NoneNamed names (length names) app name
   pub given : is_name name ≡ true
@@ -48,8 +48,9 @@ pub record IsOpenPlace (names : List Name) (opens : List OpenName) (app name : L
   pub open_there : IsOpenOf opens app (Some table)
   pub place_is : place ≡ length names + table
 
--- THE PLACE of a pair: that of the first stream that has it, else that of the first open table of its app. There is none exactly
--- where no stream has the pair and either no open table has the app or the name isn't one that a caller may give
+-- THE PLACE of a pair: that of the first stream that has it, else that of the first open table of its app.
+-- There is none exactly where no stream has the pair and either no open table has the app or the name isn't
+-- one that a caller may give
 abbrev pub IsPlaceOf : List Name → List OpenName → List ℕ → List ℕ → Result ℕ NotFound → Type 0
 IsPlaceOf names opens app name (Ok place) = IsListedAt names app name (Some place) ⊎ IsOpenPlace names opens app name place
 IsPlaceOf names opens app name (Err e) = NoneNamed names (length names) app name × (NoneOpen opens (length opens) app ⊎ (is_name name ≡ false))

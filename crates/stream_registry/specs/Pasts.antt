@@ -1,5 +1,6 @@
--- Which past a gate's history is, where the gate's machine is a stream or a pool.
--- The history has each call with its reply or want of memory, the oldest first. The past leaves out the calls that memory refused, and is newest first.
+-- Which past a gate's history is, where the gate's machine is a stream or a pool. The history has each call
+-- with its reply or want of memory, the oldest first. The past leaves out the calls that memory refused, and
+-- is newest first.
 use Rattle.std.specs.Prelude.{◌≡◌, List, [], ◌∷◌, ◌++◌}
 use Rattle.std.specs.List.{fold}
 use Rattle.std.specs.declared.result.Result.{Result}
@@ -31,7 +32,8 @@ AreWants limits past [] = Unit {0}
 AreWants limits past ((entry, Ok r) ∷ h) = AreWants limits ((entry, r) ∷ past) h
 AreWants limits past ((entry, Err e) ∷ h) = IsSent (shape_reply limits past entry) × AreWants limits past h
 
--- the calls that memory didn't refuse were answered by the rules of these limits, and the others wanted memory for an item
+-- the calls that memory didn't refuse were answered by the rules of these limits, and the others wanted
+-- memory for an item
 abbrev pub IsLawfulAt : Shape → List Attempt → Type 0
 IsLawfulAt limits h = IsShapeLawful limits (past_of h) × AreWants limits [] h
 

@@ -13,7 +13,8 @@ use Rattle.stream_registry.specs.declared.port.PortFail.{PortFail}
 use Rattle.stream_registry.specs.declared.port.PortFail.TheVariants as fail
 use Rattle.stream_registry.specs.Pasts.{Attempt, IsLawfulAt, past_of}
 
--- the turn was free, there was room in the history, the rules answer the call with an item, and memory was refused for it
+-- the turn was free, there was room in the history, the rules answer the call with an item, and memory was
+-- refused for it
 pub record IsRefusedMemory (v : PassKnown Site Attempt) (entry : Entry) (w : PassKnown Site Attempt) : Type 0 where
   pub free : w.met ≡ v.met
   pub before : List Attempt
@@ -23,8 +24,8 @@ pub record IsRefusedMemory (v : PassKnown Site Attempt) (entry : Entry) (w : Pas
   pub refusal : OutOfMemory
   pub seen_is : w.seen ≡ before ++ (entry, Err refusal) ∷ []
 
--- A HISTORY THAT IS FULL: the place has had as many calls as it can count, those for which there was no memory among them. The rules
--- answer the others, and would have answered each of these with an item
+-- A HISTORY THAT IS FULL: the place has had as many calls as it can count, those for which there was no
+-- memory among them. The rules answer the others, and would have answered each of these with an item
 pub record IsFull (limits : Shape) (attempts : List Attempt) : Type 0 where
   pub all : length attempts ≡ 2 ^ 62
   pub lawful : IsLawfulAt limits attempts

@@ -5,8 +5,8 @@ use Rattle.turn_gate.specs.Branches.{trunk, IsWhole}
 use Rattle.turn_gate.specs.Histories.{Begins, longer, AreOwn, AreAll}
 use Rattle.turn_gate.specs.Known.{PassKnown, GateId}
 
--- a gate, what was seen of its history, the place of the root among the passes of its gate, and the places in the history of the calls
--- that are its own: those of all passes that it took in
+-- a gate, what was seen of its history, the place of the root among the passes of its gate, and the places in
+-- the history of the calls that are its own: those of all passes that it took in
 pub record Root (A E : Type 0) : Type 0 where
   pub gate : GateId A
   pub seen : List E

@@ -29,8 +29,8 @@ pub record SharedState (A E : Type 0) : Type 0 where
 abbrev pub IsShoot : Kin → Kin → Type 0
 IsShoot kin other = (q : ℕ) → other q ≡ offshoot (kin q)
 
--- another port to the same gates, which has seen the same, and met nobody. Each of its roots was split off from the first port's, and
--- none was yet split off from them
+-- another port to the same gates, which has seen the same, and met nobody. Each of its roots was split off
+-- from the first port's, and none was yet split off from them
 abbrev pub IsFork : {A E : Type 0} → SharedState A E → SharedState A E → Type 0
 IsFork s p = (p.names ≡ s.names) × (p.opens ≡ s.opens) × Unlearned s.roots p.roots × (p.busies ≡ 0) × IsShoot (kin_at s.roots) (kin_at p.roots)
 

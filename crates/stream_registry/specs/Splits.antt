@@ -1,4 +1,5 @@
--- What a port's roots and passes split off and take in. At a port of one thread there are no branches, and nothing of this says anything
+-- What a port's roots and passes split off and take in. At a port of one thread there are no branches, and
+-- nothing of this says anything
 use Rattle.std.specs.Prelude.{◌≡◌, ◌≢◌, ℕ, ◌+◌, ◌<◌, List, [], ◌∷◌, ◌++◌}
 use Rattle.std.specs.declared.result.Result.{Result}
 use Rattle.std.specs.declared.result.Result.TheVariants.{Ok, Err}
@@ -37,7 +38,8 @@ pub record Forks (kin kin' other : Kin) : Type 0 where
   pub split : (q : ℕ) → kin' q ≡ cut_off (kin q)
   pub shoots : (q : ℕ) → other q ≡ offshoot (kin q)
 
--- What a call splits off from a root: one pass, which the caller's takes in, and where the turn was held by another, nothing
+-- What a call splits off from a root: one pass, which the caller's takes in, and where the turn was held by
+-- another, nothing
 abbrev pub SplitBy : List Branch → List Branch → Result Reply PortFail → List Branch → List Branch → Type 0
 SplitBy root pass (Ok r) root' pass' = (root' ≡ cut_off root) × (pass' ≡ pass ++ offshoot root)
 SplitBy root pass (Err (Busy e)) root' pass' = (root' ≡ root) × (pass' ≡ pass)
@@ -53,7 +55,8 @@ pub record CallSplits (kin : Kin) (branches : List Branch) (result : Result Repl
 abbrev pub Owns : Type 0
 Owns = ℕ → List ℕ
 
--- THE CALLS OF A PASS ARE NOT LOST: with the pass the root at this place took in its own calls, and no other root took in any
+-- THE CALLS OF A PASS ARE NOT LOST: with the pass the root at this place took in its own calls, and no other
+-- root took in any
 pub record OwnsMore (owns : Owns) (mine : List ℕ) (owns' : Owns) (place : ℕ) : Type 0 where
   pub here : owns' place ≡ owns place ++ mine
   pub others : (q : ℕ) → q ≢ place → owns' q ≡ owns q

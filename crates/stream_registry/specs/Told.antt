@@ -1,4 +1,5 @@
--- Histories as a caller sees them: each call with its reply, the oldest first, without the calls that were refused for memory
+-- Histories as a caller sees them: each call with its reply, the oldest first, without the calls that were
+-- refused for memory
 use Rattle.std.specs.Prelude.{ℕ, ◌+◌, ◌-◌, ◌≤◌, ◌^◌, min, List, reverse}
 use Rattle.stream_model.specs.declared.calls.Entry.{Entry}
 use Rattle.stream_model.specs.declared.calls.Shape.{Shape}
@@ -13,7 +14,8 @@ Step = Entry × Reply
 abbrev pub Histories : Type 0
 Histories = ℕ → List Step
 
--- each reply is the one that the rules give after the calls before it, and what each player was sent at a slot keeps the viewer's law. A stream is its own one slot
+-- each reply is the one that the rules give after the calls before it, and what each player was sent at a
+-- slot keeps the viewer's law. A stream is its own one slot
 pub record Keeps (limits : Shape) (seen : List Step) : Type 0 where
   pub rules : IsShapeLawful limits (reverse seen)
   pub viewers : (slot player : ℕ) → IsLegalAt limits (reverse seen) slot player

@@ -5,7 +5,7 @@ ghost use Rattle.stream_registry.specs.Wants.{taking, numbers_of};
 use av_unit::{OutOfMemory, Want};
 use stream_core::{Call, Entry};
 
-/// The same entry once more: its unit is shared, and its name copied.
+/// Gives the same entry once more: its unit is shared, and its name copied.
 pub(crate) fn entry_again(entry: &Entry) -> Result<Entry, OutOfMemory>
     ensures { IfOk result (λ other. other ≡ entry.now) }
 {
@@ -72,7 +72,7 @@ pub(crate) fn entry_again(entry: &Entry) -> Result<Entry, OutOfMemory>
     }
 }
 
-/// The numbers of a Take, of which it can be made once more.
+/// The numbers of a Take, from which the same Take can be made once more.
 #[derive(Clone, Copy)]
 pub(crate) struct TakeNumbers {
     pub who: u64,

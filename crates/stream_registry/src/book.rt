@@ -15,7 +15,7 @@ use stream_law::{takes_alone, takes_alone_at_pools};
 /// The number of calls in a full journal.
 const FULL: usize = 1 << 62;
 
-/// What a place has, and all its calls with their replies.
+/// The machine of a place, and all its calls with their replies.
 #[derive(Drop)]
 pub(crate) struct Book {
     table: Table,
@@ -45,14 +45,14 @@ impl Book {
         })
     }
 
-    /// All calls so far, the oldest first.
+    /// Gives all calls so far, the oldest first.
     pub fn journal(&self) -> &[(Entry, Reply)]
         ensures { result.now ≡ self.now.journal }
     {
         &self.journal
     }
 
-    /// What the stream or the pool holds, in bytes.
+    /// Gives the number of bytes that the stream or the pool holds.
     pub fn held(&self) -> u64
         ensures sum { result ≡ shape_held self.now.limits (reverse self.now.journal) }
         ensures most { result ≤ most_held self.now.limits }

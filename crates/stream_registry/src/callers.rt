@@ -1,4 +1,4 @@
-//! Whose calls those of a place are. Each is a law: the contract of a function that does nothing.
+//! The callers of a place's calls. Each is a law: the contract of a function that does nothing.
 ghost use Rattle.std.specs.Prelude.{◌≡◌, ◌<◌, ℕ, List, [], ◌++◌};
 ghost use Rattle.turn_gate.specs.declared.view.Branch.{Branch};
 ghost use Rattle.turn_gate.specs.Branches.{trunk, offshoot, IsWhole, Kindred};
@@ -14,8 +14,9 @@ ghost use Rattle.stream_registry.specs.Told.{Step};
 ghost use Rattle.stream_model.specs.declared.replies.Reply.{Reply};
 ghost use Rattle.std.specs.declared.result.Result.{Result};
 
-/// NOBODY ELSE CALLED. Where the root at a place has taken in every other pass, and its own calls are those of these callers, each under
-/// its name, then each call of the history is one of theirs. Where their names are apart, the calls that bear a name are all of its bearer's.
+/// NO OTHER CALLER CALLED. Suppose that the root at a place has taken in every other pass, and its own calls
+/// are those of these callers, each under its name. Then each call of the history is one of theirs. If their
+/// names are distinct, the calls that bear a name are all of its bearer's.
 pub fn callers_law()
     ensures theirs { (roots : List (Root Site Attempt)) (q : ℕ) (callers : List Caller) → IsWhole (kin_at roots q) → OwnsAllAt roots q
         → made_at roots q ≡ all_made callers → EachBears (told_at roots q) callers → AreTheirs (told_at roots q) callers }
@@ -23,8 +24,8 @@ pub fn callers_law()
     ensures its { (h : List Step) (callers : List Caller) → AreNamedApart callers → AreTheirs h callers → AllBornAreIts h callers }
 {}
 
-/// NO PASS IS LOST. What each step of a port does to the branches of its roots and passes keeps them kindred, kindred is passed on, and what
-/// has become of the first pass of a gate is all of it.
+/// NO PASS IS LOST. The changes that each step of a port makes to the branches of its roots and passes keep
+/// them kindred. Kindred is passed on. And the branches that come of the first pass of a gate are all of it.
 pub fn kindred_law()
     ensures whole { (kin : List Branch) → Kindred trunk kin → IsWhole kin }
     ensures ports { (n : ℕ) (ports : List Streams) → AreSplit n ports → (q : ℕ) → q < n → Kindred trunk (all_kin ports q) }

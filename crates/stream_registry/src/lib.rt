@@ -1,9 +1,9 @@
-//! Ports: the ways of sessions, recorders and workers to the streams and pools at some places.
+//! Ports: the handles of sessions, recorders and workers to the streams and pools at some places.
 //!
-//! A [`StreamPort`] answers calls at each place, and tells what was seen of that place's one history.
-//! A place has a stream that was listed, or a pool, an open table, whose broadcasts have the names that
-//! their publishers give. [`Sole`] serves one thread, and keeps a journal of each place's calls.
-//! [`Shared`] puts each place behind a gate, and many threads have one each.
+//! Read [`StreamPort`] first. It answers calls at each place, and says which calls it has seen of that
+//! place's one history. A place has a listed stream, or a pool: an open table, whose broadcasts have the
+//! names that their publishers give. [`Sole`] serves one thread, and keeps a journal of each place's calls.
+//! [`Shared`] puts each place behind a gate, and many threads have one each. A call never waits.
 #![tactic(auto)]
 
 mod again;

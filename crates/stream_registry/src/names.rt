@@ -10,7 +10,7 @@ use stream_model::is_name;
 use thiserror::Error;
 
 /// The name of a stream: that of its application, and its own.
-#[derive(Debug, Drop)]
+#[derive(Drop)]
 pub struct Name {
     /// The application.
     pub app: Bytes,
@@ -29,11 +29,11 @@ impl Name {
 }
 
 /// An open table: an application whose publishers give the names of their broadcasts themselves.
-#[derive(Debug, Drop)]
+#[derive(Drop)]
 pub struct OpenName {
     /// The application.
     pub app: Bytes,
-    /// How many names it has at a time.
+    /// The number of names it has at a time.
     pub slots: u32,
 }
 
@@ -46,12 +46,12 @@ impl OpenName {
 }
 
 /// No place has a stream of that name, nor does an open table take it.
-#[derive(Clone, Copy, Debug, PartialEq, Eq, Error)]
+#[derive(Clone, Copy, Debug, Error)]
 #[error("no stream has that name, and no open table takes it")]
 pub struct NotFound;
 
 /// The names of the streams at each place.
-#[derive(Debug, Drop)]
+#[derive(Drop)]
 pub struct NameList {
     list: Vec<Name>,
 }
@@ -66,7 +66,7 @@ impl Model for NameList {
 }
 
 impl NameList {
-    /// No names.
+    /// Makes a list without names.
     pub fn new(alloc: Global) -> NameList
         ensures { result ≡ [] }
     {
@@ -75,7 +75,7 @@ impl NameList {
         }
     }
 
-    /// The name of one place more.
+    /// Adds the name of one place more.
     pub fn push(&mut self, name: Name) -> Result<(), OutOfMemory>
         ensures ok { OnOk result (self.new ≡ self.old ++ name ∷ []) }
         ensures err { OnErr result (self.new ≡ self.old) }
@@ -86,21 +86,21 @@ impl NameList {
         }
     }
 
-    /// How many places there are.
+    /// Gives the number of places.
     pub fn len(&self) -> usize
         ensures { result ≡ length self.now }
     {
         self.list.len()
     }
 
-    /// The names, in the order of the places.
+    /// Gives the names, in the order of the places.
     pub fn as_slice(&self) -> &[Name]
         ensures { result.now ≡ self.now }
     {
         &self.list
     }
 
-    /// The first place that has that pair, if one has it.
+    /// Finds the first place that has that pair, if one has it.
     pub fn find(&self, app: &[u8], name: &[u8]) -> Option<u32>
         requires { length self.now ≤ 2 ^ 32 }
         ensures place { IsListedAt self.now app.now name.now result }
@@ -116,7 +116,7 @@ impl NameList {
 }
 
 /// The open tables, in the order of their places.
-#[derive(Debug, Drop)]
+#[derive(Drop)]
 pub struct OpenList {
     list: Vec<OpenName>,
 }
@@ -131,7 +131,7 @@ impl Model for OpenList {
 }
 
 impl OpenList {
-    /// No open tables.
+    /// Makes a list without open tables.
     pub fn new(alloc: Global) -> OpenList
         ensures { result ≡ [] }
     {
@@ -140,7 +140,7 @@ impl OpenList {
         }
     }
 
-    /// One open table more.
+    /// Adds an open table.
     pub fn push(&mut self, table: OpenName) -> Result<(), OutOfMemory>
         ensures ok { OnOk result (self.new ≡ self.old ++ table ∷ []) }
         ensures err { OnErr result (self.new ≡ self.old) }
@@ -151,21 +151,21 @@ impl OpenList {
         }
     }
 
-    /// How many open tables there are.
+    /// Gives the number of open tables.
     pub fn len(&self) -> usize
         ensures { result ≡ length self.now }
     {
         self.list.len()
     }
 
-    /// The open tables.
+    /// Gives the open tables.
     pub fn as_slice(&self) -> &[OpenName]
         ensures { result.now ≡ self.now }
     {
         &self.list
     }
 
-    /// The first open table that has that application, if one has it.
+    /// Finds the first open table that has that application, if one has it.
     pub fn find(&self, app: &[u8]) -> Option<u32>
         requires { length self.now ≤ 2 ^ 32 }
         ensures { IsOpenOf self.now app.now result }
@@ -179,8 +179,9 @@ impl OpenList {
     }
 }
 
-/// The place of a pair of names: the first stream that has it, else the first open table of the application, where the name is
-/// one that a caller may give. The open tables have the places behind the streams.
+/// Finds the place of a pair of names. It is that of the first stream that has the pair, else of the first
+/// open table of the application, if a caller may give the name. The places of the open tables come after
+/// those of the streams.
 pub(crate) fn place_of(
     names: &NameList,
     opens: &OpenList,

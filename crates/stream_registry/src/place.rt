@@ -1,4 +1,5 @@
-//! One thread's way to one gate. It is generic in the machine, so that it is seen to cross threads.
+//! One thread's handle to one gate. It is generic in the machine, so that the checker sees that it may cross
+//! threads.
 ghost use Rattle.std.specs.Prelude.{◌≡◌, ◌++◌, [], length, IfOk, IfErr};
 ghost use Rattle.turn_gate.specs.Histories.{Begins, longer, AreOwn};
 ghost use Rattle.turn_gate.specs.Branches.{trunk, cut_off, offshoot};
@@ -10,8 +11,8 @@ use std::marker::Model;
 use std::sync::Arc;
 use turn_gate::{CallFail, Gate, Machine, Pass};
 
-/// A gate that other threads have too, and a pass of its own: the root. Contracts see the gate, what the root has
-/// seen, its place among the passes, and which calls are its own.
+/// A gate that other threads have too, and a pass of its own: the root. Contracts see the gate, the calls
+/// that the root has seen, its place among the passes, and which calls are its own.
 #[derive(Drop)]
 pub struct Place<T: Machine + Drop> {
     gate: Arc<Gate<T>, Global>,
@@ -31,7 +32,7 @@ impl<T: Machine + Drop> Model for Place<T> {
 }
 
 impl<T: Machine + Drop> Place<T> {
-    /// A gate with no calls yet.
+    /// Makes a gate with no calls yet.
     pub fn new(alloc: Global, machine: T, about: &T::About) -> Result<Place<T>, AllocError>
         requires { T.stands machine [] × (about.now ≡ T.about machine) }
         ensures { IfOk result (λ p. (p.seen ≡ []) × (p.kin ≡ trunk) × (p.mine ≡ []) × (p.gate.about ≡ about.now)) }
@@ -43,7 +44,7 @@ impl<T: Machine + Drop> Place<T> {
         Ok(Place { gate, root })
     }
 
-    /// Another thread's way to the same gate.
+    /// Makes another thread's handle to the same gate.
     pub fn fork(&mut self) -> Result<Place<T>, AllocError>
         ensures fork { IfOk result (λ p. (p ≡ root_shoot self.old (offshoot self.old.kin)) × (self.new.kin ≡ cut_off self.old.kin)) }
         ensures same { self.new ≡ root_with self.old self.new.kin }
@@ -55,7 +56,7 @@ impl<T: Machine + Drop> Place<T> {
         Ok(Place { gate, root })
     }
 
-    /// A pass that has made no call, and has seen what the root has.
+    /// Makes a pass that has made no call, and has seen the same calls as the root.
     pub fn attach(&mut self) -> Pass<T>
         ensures new { result ≡ newcomer self.old.gate (offshoot self.old.kin) self.old.seen }
         ensures same { self.new ≡ root_with self.old (cut_off self.old.kin) }
@@ -63,7 +64,7 @@ impl<T: Machine + Drop> Place<T> {
         self.gate.split(&mut self.root)
     }
 
-    /// The root has then seen the longer of what both had seen, which both begin.
+    /// Takes in a pass. The root has then seen the longer of the two histories seen; both begin it.
     pub fn detach(&mut self, pass: Pass<T>)
         requires { pass.gate ≡ self.old.gate }
         ensures stays { Stays self.old self.new × Begins pass.seen self.new.seen }
@@ -78,7 +79,8 @@ impl<T: Machine + Drop> Place<T> {
         self.gate.join(&mut self.root, pass);
     }
 
-    /// What the other's root had seen is a beginning of what this one has then seen.
+    /// Takes in another root. The history that the other had seen is a beginning of the one that this root
+    /// has then seen.
     pub fn gather(&mut self, other: Place<T>)
         requires { other.gate ≡ self.old.gate }
         ensures stays { Stays self.old self.new × Begins other.seen self.new.seen }
@@ -95,7 +97,7 @@ impl<T: Machine + Drop> Place<T> {
         self.gate.join(&mut self.root, root);
     }
 
-    /// Tries once. The calls before begin with all that the root and the pass had seen.
+    /// Tries once. The calls before begin with all calls that the root and the pass had seen.
     pub fn call(&mut self, pass: &mut Pass<T>, call: T::Call) -> Result<T::Reply, CallFail<T::Call>>
         requires { pass.old.gate ≡ self.old.gate }
         ensures port { self.new ≡ root_with self.old self.new.kin }

@@ -1,4 +1,4 @@
-//! What stands behind a gate: a stream or a pool.
+//! The machine behind a gate: a stream or a pool.
 ghost use Rattle.std.specs.Prelude.{◌≡◌, ◌≤◌, List, [], ◌∷◌, ◌++◌, length, Result};
 ghost use Rattle.av_unit.specs.declared.bytes.OutOfMemory.{OutOfMemory};
 ghost use Rattle.stream_model.specs.declared.calls.Entry.{Entry};
@@ -13,12 +13,12 @@ use av_unit::OutOfMemory;
 use stream_core::{Entry, Reply, Shape, Table};
 use turn_gate::Machine;
 
-/// What never changes of a place.
-#[derive(Clone, Copy, Debug, PartialEq, Eq)]
+/// The constants of a place.
+#[derive(Clone, Copy)]
 pub struct Site {
-    /// The place, by which the gates of a port are told apart.
+    /// The number of the place, which tells the gates of a port apart.
     pub place: u32,
-    /// What the place has, and its limits.
+    /// The machine of the place, and its limits.
     pub limits: Shape,
 }
 
@@ -51,8 +51,9 @@ impl Machine for PlaceTable {
     ghost legal = { λ d h s. s.1 };
 }
 
-/// The past that a gate's history is has at most as many calls. A call more at the end of the history is the newest of the
-/// past, unless memory refused it. Where a history begins another, its past goes on to the other's.
+/// The past of a gate's history has at most as many calls as the history. A further call at the end of the
+/// history is the newest of the past, unless memory refused it. If a history begins another, the other's past
+/// continues its past.
 pub fn pasts_law()
     ensures length { (h : List Attempt) → length (past_of h) ≤ length h }
     ensures last { (h : List Attempt) (e : Entry) (r : Result Reply OutOfMemory) → past_of (h ++ (e, r) ∷ []) ≡ past_after (past_of h) e r }

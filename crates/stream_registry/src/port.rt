@@ -1,4 +1,4 @@
-//! A way to streams and pools.
+//! A handle to streams and pools.
 ghost use Rattle.std.specs.Prelude.{◌≡◌, ◌≢◌, ◌<◌, ◌≤◌, ◌^◌, ℕ, List, [], ◌++◌, length, IfOk, IfErr};
 ghost use Rattle.stream_model.specs.declared.calls.Shape.{Shape};
 ghost use Rattle.turn_gate.specs.declared.view.Branch.{Branch};
@@ -29,29 +29,29 @@ pub enum PortFail {
     OutOfMemory(Entry),
 }
 
-/// A way to the streams and pools at some places. What it has seen of each is its root there.
+/// A handle to the streams and pools at some places. The history that it has seen of each is its root there.
 pub trait StreamPort: Drop {
     /// The right to make calls at one place. It has seen a beginning of that place's history.
     type Pass: Drop;
 
-    // How many calls were answered Busy; it never falls.
+    // The number of calls that were answered Busy; it never falls.
     ghost busies: { Self → ℕ };
 
-    // What never changes of it: the names of its streams and open tables, and what each place has with its limits.
+    // Its constants: the names of its streams and open tables, and the machine of each place with its limits.
     ghost rules: { Self → PortRules };
 
-    // What the root has seen at each place.
+    // The history that the root has seen at each place.
     ghost root: { Self → Histories };
 
     // The pass was attached at this place, to this port or to one made with it.
     ghost fits: { Self → ℕ → Self.Pass → Type 0 };
 
-    // What its place has, and its limits.
+    // The machine of its place, and its limits.
     ghost limits: { Self.Pass → Shape };
 
     ghost seen: { Self.Pass → List Step };
 
-    // The numbers of its own calls in what it has seen.
+    // The numbers of its own calls in the history that it has seen.
     ghost mine: { Self.Pass → List ℕ };
 
     // Which passes were split off from which: the branches of the root at each place, and of a pass.
@@ -62,31 +62,33 @@ pub trait StreamPort: Drop {
     // The numbers of the calls that the root at each place owns: those of all passes that it took in.
     ghost owns: { Self → Owns };
 
-    // What the roots own once the one at a place has taken in a pass with calls of these numbers. A port of one thread tells nothing.
+    // The calls that the roots own after the one at a place has taken in a pass with calls of these numbers.
+    // It says nothing for a port of one thread.
     ghost gains: { Owns → List ℕ → Owns → ℕ → Type 0 };
 
-    // What calls add to the history of their place, which was the first and is the last. A port that shares its places tells nothing.
+    // The calls that are added to the history of their place, by the history before and the one after. It
+    // says nothing for a port that shares its places.
     ghost adds: { List Step → List Step → List Step → Type 0 };
 
-    // How many calls it has seen, those that were refused for memory as well.
+    // The number of calls it has seen, with those that were refused for memory.
     ghost count: { Self.Pass → ℕ };
 
-    // Whether there may be no memory for this call.
+    // Whether memory may be refused for this call.
     ghost wants: { Entry → Type 0 };
 
-    /// The first place that has a stream of that name, else the first open table of that application, where the name is one that a
-    /// caller may give. `NotFound` comes exactly where no stream has the pair, and no open table has the application or the name is
-    /// no such name.
+    /// Finds the first place that has a stream of that name, else the first open table of that application,
+    /// if a caller may give the name. `NotFound` comes exactly if no stream has the pair, and no open table
+    /// has the application or the name isn't such a name.
     fn find(&self, app: &[u8], name: &[u8]) -> Result<u32, NotFound>
         ensures place { IsPlaceOf (rules self.now).names (rules self.now).opens app.now name.now result }
         ensures there { IfOk result (λ place. place < places (rules self.now)) }
         ensures few { IfOk result (λ _. length name.now ≤ 64) };
 
-    /// How many calls were answered Busy.
+    /// Gives the number of calls that were answered Busy.
     fn busies(&self) -> u64
         ensures { result ≡ busies self.now };
 
-    /// A pass that has made no call, and has seen what the root has.
+    /// Makes a pass that has made no call, and has seen the same calls as the root.
     fn attach(&mut self, place: u32) -> Self::Pass
         requires { place < places (rules self.old) }
         ensures pass { fits self.new place result × (limits result ≡ (rules self.old).limits place) }
@@ -97,13 +99,13 @@ pub trait StreamPort: Drop {
         ensures split { SplitsOff (kin self.old) (kin self.new) place × (branches result ≡ offshoot (kin self.old place)) }
         ensures fits { (q : ℕ) (p : Self.Pass) → fits self.old q p → fits self.new q p };
 
-    /// The root has then seen the longer of what it and the pass had seen.
+    /// Takes in a pass. The root has then seen the longer of the two histories that it and the pass had seen.
     fn detach(&mut self, place: u32, pass: Self::Pass)
         requires { fits self.old place pass }
         ensures here { root self.new place ≡ longer (root self.old place) (seen pass) }
         ensures taken { TakesIn (kin self.old) (branches pass) (kin self.new) place }
         ensures gains { gains (owns self.old) (mine pass) (owns self.new) place }
-        // where the root has then taken in every other pass, nobody else called
+        // if the root has then taken in every other pass, no other caller called
         ensures all { IsWhole (kin self.new place) → HasAll (owns self.new place) (length (root self.new place)) }
         ensures adds { adds (root self.old place) [] (root self.new place) }
         ensures both { Begins (root self.old place) (root self.new place) × Begins (seen pass) (root self.new place) }
@@ -111,7 +113,7 @@ pub trait StreamPort: Drop {
         ensures fixed { (rules self.new ≡ rules self.old) × (busies self.new ≡ busies self.old) }
         ensures fits { (q : ℕ) (p : Self.Pass) → fits self.old q p → fits self.new q p };
 
-    /// One call, answered after all that came before it. It tries the place once, and never waits.
+    /// Makes one call, answered after all calls before it. It tries the place once, and never waits.
     fn call(&mut self, place: u32, pass: &mut Self::Pass, entry: Entry) -> Result<Reply, PortFail>
         requires { fits self.old place pass.old }
         ensures pass { fits self.new place pass.new × (limits pass.new ≡ limits pass.old) × Begins (seen pass.old) (seen pass.new) }
@@ -132,7 +134,7 @@ pub trait StreamPort: Drop {
         ensures fixed { rules self.new ≡ rules self.old }
         ensures fits { (q : ℕ) (p : Self.Pass) → fits self.old q p → fits self.new q p };
 
-    // No call adds nothing, and what two runs of calls add is what both add together.
+    // Zero calls add nothing, and the additions of two runs of calls are together those of both.
     ghost adds_none: { (h : List Step) → adds h [] h };
 
     ghost adds_both: { (h i j xs ys : List Step) → adds h xs i → adds i ys j → adds h (xs ++ ys) j };

@@ -1,4 +1,4 @@
-//! What the places of a port have: the streams, and behind them the open tables.
+//! The shapes of a port's places: the streams, and after them the open tables.
 ghost use Rattle.std.specs.Prelude.{◌≡◌, ◌<◌, ◌+◌, ◌++◌, ℕ, List, length, map, slice_get, Some, IfOk, OnOk};
 ghost use Rattle.stream_model.specs.Shape.{stream_shape, pool_shape};
 ghost use Rattle.stream_model.specs.declared.calls.StreamLimits.{StreamLimits};
@@ -11,7 +11,7 @@ use av_unit::OutOfMemory;
 use std::alloc::Global;
 use stream_core::{Shape, StreamLimits};
 
-/// The place of each name has a stream, and each place behind those the pool of its open table.
+/// The place of each name has a stream, and each place after those the pool of its open table.
 pub fn places_law()
     ensures listed { (limits : StreamLimits) (names : List Name) (opens : List OpenName) (place : ℕ) → place < length names
         → shape_at (shapes_of limits names opens) place ≡ stream_shape limits }
@@ -19,7 +19,7 @@ pub fn places_law()
         → slice_get opens table ≡ Some o → shape_at (shapes_of limits names opens) (length names + table) ≡ pool_shape limits o.slots }
 {}
 
-/// What each place has, in order.
+/// Gives the shape of each place, in order.
 pub(crate) fn place_shapes(
     alloc: Global,
     names: &NameList,

@@ -25,8 +25,8 @@ use stream_core::{Entry, Reply, Shape, StreamLimits, Table};
 use stream_law::{tables_law, takes_alone, takes_alone_at_pools};
 use turn_gate::{CallFail, Machine, Pass};
 
-/// A gate for each place, and what was seen there. The machine behind a gate is a [`PlaceTable`], a stream or a pool. The type is generic in
-/// it, so that it is seen to cross threads.
+/// A gate for each place, and the calls seen there. The machine behind a gate is a [`PlaceTable`], a stream
+/// or a pool. The type is generic in it, so that the checker sees that it may cross threads.
 #[derive(Drop)]
 pub struct Shared<T: Machine + Drop> {
     ways: Ways<T>,
@@ -48,8 +48,9 @@ impl<T: Machine + Drop> Model for Shared<T> {
         × (length (arc_value s.names) + length (arc_value s.opens) ≤ 64) };
 }
 
-/// Ports for so many threads to streams with these names and to these open tables. Each stream and each slot has these limits.
-/// At each place all ports have the same gate, and at no two places. Each but the last was split off from the last.
+/// Makes ports for a number of threads to streams with these names and to these open tables. Each stream and
+/// each slot has these limits. At each place all ports have the same gate, and no two places have the same
+/// gate. Each but the last was split off from the last.
 pub fn shared_ports(
     alloc: Global,
     names: NameList,
@@ -69,7 +70,7 @@ pub fn shared_ports(
     Ok(list)
 }
 
-// So many ports to the gates of the first.
+// Makes `ports` ports to the gates of the first.
 fn fork_ports(
     alloc: Global,
     first: &mut Shared<PlaceTable>,
@@ -87,7 +88,7 @@ fn fork_ports(
     Ok(list)
 }
 
-// Ways to a new gate for each place, which has one of these.
+// Makes handles to a new gate for each place, which has the machine of one of these shapes.
 fn new_ways(alloc: Global, shapes: &[Shape]) -> Result<Ways<PlaceTable>, OutOfMemory>
     requires { AreTables shapes.now }
     ensures { IfOk result (λ w. (length w ≡ length shapes.now) × AreNewRoots shapes.now w × AreTrunks w) }
@@ -100,7 +101,7 @@ fn new_ways(alloc: Global, shapes: &[Shape]) -> Result<Ways<PlaceTable>, OutOfMe
     Ok(ways)
 }
 
-// A new gate at that place, which has one of that shape.
+// Makes a new gate at that place, which has a machine of that shape.
 #[tactic(auto, using(crate::proofs::Wanting::stands_first))]
 fn new_way(alloc: Global, place: u32, limits: Shape) -> Result<Place<PlaceTable>, OutOfMemory>
     requires { AreFewSlots limits.slots }
@@ -140,7 +141,7 @@ impl Shared<PlaceTable> {
         })
     }
 
-    // A port for another thread, to the same gates.
+    // Makes a port for another thread, to the same gates.
     pub(crate) fn fork(&mut self, alloc: Global) -> Result<Shared<PlaceTable>, OutOfMemory>
         ensures fork { IfOk result (IsFork self.old) }
         ensures kin { IfOk result (λ _. (q : ℕ) → kin_at self.new.roots q ≡ cut_off (kin_at self.old.roots q)) }
@@ -161,8 +162,8 @@ impl Shared<PlaceTable> {
         })
     }
 
-    /// What the other's root had seen is a beginning of what this one has then seen, at each place. Both come from one call
-    /// of `shared_ports`.
+    /// Takes in another port. The history that the other's root had seen is a beginning of the one that this
+    /// root has then seen, at each place. Both come from one call of `shared_ports`.
     pub fn gather(&mut self, other: Shared<PlaceTable>)
         requires { shared_rules other ≡ shared_rules self.old }
         ensures same { (shared_rules self.new ≡ shared_rules self.old) × (self.new.busies ≡ self.old.busies) }
@@ -172,7 +173,7 @@ impl Shared<PlaceTable> {
         ensures kin { TakesAll (kin_at self.old.roots) (kin_at other.roots) (kin_at self.new.roots) }
         ensures mine { OwnsBoth (mine_at self.old.roots) (mine_at other.roots) (mine_at self.new.roots) }
         ensures made { OwnsBoth (made_at self.old.roots) (made_at other.roots) (made_at self.new.roots) }
-        // at each place where it has then taken in every other pass, nobody else called
+        // at each place whose root has then taken in every other pass, no other caller called
         ensures whole { (q : ℕ) → OwnsAllAt self.new.roots q }
     {
         let Shared {
@@ -279,14 +280,14 @@ impl StreamPort for Shared<PlaceTable> {
         ensures mine { OwnsMore (mine_at self.old.roots) pass.mine (mine_at self.new.roots) place }
         ensures gains { OwnsMore (made_at self.old.roots) (numbers pass.seen pass.mine) (made_at self.new.roots) place }
         ensures all { IsWhole (kin_at self.new.roots place) → HasAll (made_at self.new.roots place) (length (told_at self.new.roots place)) }
-        // where the root has then taken in every other pass, nobody else called
+        // if the root has then taken in every other pass, no other caller called
         ensures whole { OwnsAllAt self.new.roots place }
     {
         self.ways.detach(place as usize, pass);
     }
 
-    /// As the trait says. The root learns nothing by it. And by what the pass then knows of the gate: `Busy` comes exactly where its
-    /// swap found the turn held.
+    /// As the trait says. The root learns nothing by it. By the pass's knowledge of the gate after it, `Busy`
+    /// comes exactly if its swap found the turn held.
     fn call(
         &mut self,
         place: u32,

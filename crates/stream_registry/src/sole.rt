@@ -56,7 +56,7 @@ impl Model for SolePass {
 }
 
 impl Sole {
-    /// A port to streams with these names and to these open tables. Each stream and each slot has these limits.
+    /// Makes a port to streams with these names and to these open tables. Each stream and each slot has these limits.
     pub fn new(
         alloc: Global,
         names: NameList,
@@ -76,8 +76,9 @@ impl Sole {
         })
     }
 
-    /// What that place holds, in bytes: the lengths of the bodies of the items in its window and of the configurations in effect at
-    /// its base, or of a pool the same of each slot with the lengths of the names. The journal isn't counted.
+    /// Gives the number of bytes that the place holds. For a stream these are the bodies of the items in its
+    /// window and of the configurations in effect at its base. For a pool they are the same of each slot with
+    /// the lengths of the names. The journal isn't counted.
     pub fn held(&self, place: u32) -> u64
         requires { place < places (sole_rules self.now.rules) }
         ensures sum { result ≡ shape_held (shape_at (shapes_in self.now.rules) place) (reverse (journal_at self.now.books place)) }
@@ -88,7 +89,7 @@ impl Sole {
         book.held()
     }
 
-    /// The history of that place, the oldest call first.
+    /// Gives the history of that place, the oldest call first.
     pub fn journal(&self, place: u32) -> &[(Entry, Reply)]
         requires { place < places (sole_rules self.now.rules) }
         ensures { result.now ≡ journal_at self.now.books place }
@@ -167,7 +168,7 @@ impl StreamPort for Sole {
     ghost ruled = { λ x q p f. f.limits };
 }
 
-// What these places have, with no call.
+// Makes the machines of these places, with no call.
 fn new_books(alloc: Global, shapes: &[Shape]) -> Result<Vec<Book>, OutOfMemory>
     requires { AreTables shapes.now }
     ensures { IfOk result (λ books. books.items ≡ map new_book shapes.now) }
@@ -180,7 +181,7 @@ fn new_books(alloc: Global, shapes: &[Shape]) -> Result<Vec<Book>, OutOfMemory>
     Ok(books)
 }
 
-// One call, which the pass has then seen with all before it.
+// Makes one call, which the pass has then seen with all before it.
 fn ask(book: &mut Book, pass: &mut SolePass, entry: Entry) -> Result<Reply, PortFail>
     requires { (pass.old.limits ≡ book.old.limits) × Begins pass.old.seen book.old.journal }
     ensures book { (book.new.limits ≡ book.old.limits) × Begins book.old.journal book.new.journal }

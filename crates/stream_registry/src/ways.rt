@@ -1,4 +1,4 @@
-//! One thread's ways to the gates at all places.
+//! One thread's handles to the gates at all places.
 ghost use Rattle.std.specs.Prelude.{◌≡◌, ◌≢◌, ℕ, ◌<◌, Some, [], ◌++◌, ◌∷◌, length, IfOk, IfErr, OnOk, OnErr, slice_get};
 ghost use Rattle.turn_gate.specs.Histories.{Begins, longer, AreOwn};
 ghost use Rattle.turn_gate.specs.Branches.{cut_off, offshoot};
@@ -11,7 +11,7 @@ use std::alloc::{AllocError, Global};
 use std::marker::Model;
 use turn_gate::{CallFail, Machine, Pass};
 
-/// Contracts see what its root has seen at each place, and where it stands among the passes there.
+/// Contracts see the history that its root has seen at each place, and its position among the passes there.
 #[derive(Drop)]
 pub struct Ways<T: Machine + Drop> {
     places: Vec<Place<T>>,
@@ -27,7 +27,7 @@ impl<T: Machine + Drop> Model for Ways<T> {
 }
 
 impl<T: Machine + Drop> Ways<T> {
-    /// Ways to no place.
+    /// Makes handles to no place.
     pub fn new(alloc: Global) -> Ways<T>
         ensures { result ≡ [] }
     {
@@ -36,7 +36,7 @@ impl<T: Machine + Drop> Ways<T> {
         }
     }
 
-    /// One place more.
+    /// Adds one place more.
     pub fn add(&mut self, place: Place<T>) -> Result<(), AllocError>
         ensures ok { OnOk result (self.new ≡ self.old ++ place ∷ []) }
         ensures err { OnErr result (self.new ≡ self.old) }
@@ -47,7 +47,7 @@ impl<T: Machine + Drop> Ways<T> {
         }
     }
 
-    /// Another thread's ways to the same places.
+    /// Makes another thread's handles to the same places.
     pub fn fork(&mut self, alloc: Global) -> Result<Ways<T>, AllocError>
         ensures fork { IfOk result (λ s. Unlearned self.old s × Forks (kin_at self.old) (kin_at self.new) (kin_at s)) }
         ensures same { Unlearned self.old self.new }
@@ -56,7 +56,7 @@ impl<T: Machine + Drop> Ways<T> {
         Ok(Ways { places })
     }
 
-    /// What the other's roots had seen begins what these have then seen.
+    /// Takes in other roots. The history that each had seen begins the one that this root has then seen.
     pub fn gather(&mut self, other: Ways<T>)
         requires { gates other ≡ gates self.old }
         ensures grown { Grown self.old self.new }
@@ -71,7 +71,7 @@ impl<T: Machine + Drop> Ways<T> {
         gather_all(self.places.as_mut_slice(), places);
     }
 
-    /// A pass that has made no call, and has seen what the root has at that place.
+    /// Makes a pass that has made no call, and has seen the same calls as the root at that place.
     pub fn attach(&mut self, place: usize) -> Pass<T>
         requires { place < length self.old }
         ensures gate { Some result.gate ≡ slice_get (gates self.old) place }
@@ -83,7 +83,8 @@ impl<T: Machine + Drop> Ways<T> {
         self.places[place].attach()
     }
 
-    /// The root has then seen the longer of what both had seen at that place, which both begin.
+    /// Takes in a pass. The root has then seen the longer of the two histories seen at that place; both begin
+    /// it.
     pub fn detach(&mut self, place: usize, pass: Pass<T>)
         requires { slice_get (gates self.old) place ≡ Some pass.gate }
         ensures grown { Grown self.old self.new }
@@ -98,7 +99,7 @@ impl<T: Machine + Drop> Ways<T> {
         self.places[place].detach(pass);
     }
 
-    /// Tries once. The calls before begin with all that the root and the pass had seen at that place.
+    /// Tries once. The calls before begin with all calls that the root and the pass had seen at that place.
     pub fn call(
         &mut self,
         place: usize,

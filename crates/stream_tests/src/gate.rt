@@ -9,15 +9,15 @@ use std::thread::Threads;
 use std::{hint, thread};
 use turn_gate::*;
 
-// How often a thread tries before it gives up.
+// The number of tries before a thread gives up.
 const TRIES: u64 = 1 << 28;
 
 const NAME: u64 = 77;
 
 type Reply = Option<(u64, u64)>;
 
-/// A list of numbers with a name. A call adds one, and is answered by its place and the last number before it, which for
-/// the first is the name.
+/// A list of numbers with a name. A call adds one, and is answered by its place and the last number before
+/// it, which for the first is the name.
 #[derive(Drop)]
 struct Numbers {
     name: u64,
@@ -85,7 +85,7 @@ fn add(gate: &Gate<Numbers>, pass: &mut Pass<Numbers>, number: u64) -> Reply
     None
 }
 
-/// Makes one call where there is memory for a gate and for the number.
+/// Makes one call if there is memory for a gate and for the number.
 #[test]
 fn a_gate_is_made_where_there_is_memory(rt: HostRuntime) -> Result<(), Fail> {
     match new_gate(rt.alloc()) {
@@ -118,7 +118,7 @@ fn is_send<X: Send>() {}
 
 fn is_sync<X: Sync>() {}
 
-/// A gate and its passes may cross threads where the machine, its calls and its replies may.
+/// A gate and its passes may cross threads if the machine, its calls and its replies may.
 fn cross_threads<T: Machine + Drop + Send>()
 where
     T::Call: Send,
@@ -191,7 +191,7 @@ fn slow_call(gate: &Gate<Slow>, mut pass: Pass<Slow>) -> (Pass<Slow>, Option<u64
     (pass, reply)
 }
 
-/// Calls while the other thread's call is in progress, and says whether that was busy.
+/// Calls while the other thread's call is in progress, and says whether the answer was Busy.
 fn call_beside(
     gate: &Gate<Slow>,
     mut pass: Pass<Slow>,

@@ -12,10 +12,10 @@ use std::{hint, thread};
 use stream_core::{Call, Entry, Reply, ShortName, StreamLimits};
 use stream_registry::*;
 
-// How often a call is tried before its caller gives up.
+// The number of tries of a call before its caller gives up.
 const TRIES: u64 = 1 << 28;
 
-// How many calls each thread makes at each place.
+// The number of calls of each thread at each place.
 const CALLS: u64 = 600;
 
 const LIMITS: StreamLimits = StreamLimits {
@@ -62,7 +62,7 @@ fn names(alloc: Global) -> Result<NameList, OutOfMemory>
     Ok(names)
 }
 
-/// One open table, of two names.
+/// Makes one open table, of two names.
 fn opens(alloc: Global) -> Result<OpenList, OutOfMemory>
     ensures { IfOk result (λ o. HaveSlots o × (slots_sum o ≤ 2)) }
 {
@@ -74,7 +74,7 @@ fn opens(alloc: Global) -> Result<OpenList, OutOfMemory>
     Ok(opens)
 }
 
-/// The call of a letter. A Take and a Leave are of this place.
+/// Builds the call of a letter. A Take and a Leave are of this place.
 fn call_of(alloc: Global, letter: u8, player: u32) -> Result<Call, OutOfMemory> {
     let call = match letter {
         b'b' => Call::Begin,
@@ -95,7 +95,7 @@ fn call_of(alloc: Global, letter: u8, player: u32) -> Result<Call, OutOfMemory> 
     Ok(call)
 }
 
-/// The same, tried again where there was no memory.
+/// Builds the call of a letter, and tries again if memory was refused.
 fn call_again(alloc: Global, letter: u8, player: u32) -> Result<Call, OutOfMemory> {
     match call_of(alloc, letter, player) {
         Ok(call) => Ok(call),
@@ -103,7 +103,7 @@ fn call_again(alloc: Global, letter: u8, player: u32) -> Result<Call, OutOfMemor
     }
 }
 
-/// Makes one call over any port, again where it is busy, and where there was no memory.
+/// Makes one call over any port, and tries again if it is busy or memory was refused.
 fn until_made<P: StreamPort>(
     port: &mut P,
     place: u32,
@@ -126,7 +126,7 @@ fn until_made<P: StreamPort>(
     None
 }
 
-/// What one caller was answered at one place.
+/// The answers that one caller got at one place.
 #[derive(Clone, Copy)]
 struct Tally {
     who: u64,
@@ -137,7 +137,7 @@ struct Tally {
     ended: u64,
     joined: u64,
     skips: u64,
-    /// The number that its next item has at least.
+    /// The lowest number that its next item may have.
     next: u64,
     /// Its own items have their numbers in the order of its calls, and each call was made.
     in_order: bool,
@@ -197,7 +197,7 @@ impl Tally {
         self.in_order = self.in_order && other.in_order;
     }
 
-    /// What a Count after all these calls is answered.
+    /// Gives the answer to a Count after all these calls.
     fn counts(&self) -> Reply {
         Reply::Counts {
             began: self.began,
@@ -260,7 +260,7 @@ fn make_all<P: StreamPort>(alloc: Global, port: &mut P, app: &[u8], name: &[u8],
     port.detach(place, pass);
 }
 
-/// What a Count is answered now.
+/// Gives the answer to a Count now.
 fn counts<P: StreamPort>(port: &mut P, app: &[u8], name: &[u8]) -> Option<Reply>
     ensures { P.rules port.new ≡ P.rules port.old }
 {
@@ -276,7 +276,7 @@ fn counts<P: StreamPort>(port: &mut P, app: &[u8], name: &[u8]) -> Option<Reply>
     Some(reply)
 }
 
-/// The next port of a list, all of which have the same names and gates.
+/// Gives the next port of a list, all of which have the same names and gates.
 fn next_port(list: &mut Vec<Shared<PlaceTable>>) -> Option<Shared<PlaceTable>>
     ensures { (r : PortRules) → All (λ s. shared_rules s ≡ r) list.old.items
         → All (λ s. shared_rules s ≡ r) list.new.items × IfSome result (λ s. shared_rules s ≡ r) }
@@ -299,7 +299,7 @@ fn next_pair(list: &mut Vec<Shared<PlaceTable>>) -> Option<TwoPorts>
     Some((one, other))
 }
 
-/// Four ports to the same gates.
+/// Makes four ports to the same gates.
 fn four_ports(alloc: Global) -> Result<(TwoPorts, TwoPorts), OutOfMemory>
     ensures near { IfOk result (λ p. shared_rules p.0.1 ≡ shared_rules p.0.0) }
     ensures far { IfOk result (λ p. (shared_rules p.1.0 ≡ shared_rules p.0.0) × (shared_rules p.1.1 ≡ shared_rules p.1.0)) }
@@ -314,7 +314,7 @@ fn four_ports(alloc: Global) -> Result<(TwoPorts, TwoPorts), OutOfMemory>
     Ok((near, far))
 }
 
-/// All calls of a thread, at a stream and at an open table.
+/// Makes all calls of a thread, at a stream and at an open table.
 fn work(
     alloc: Global,
     mut port: Shared<PlaceTable>,
@@ -328,7 +328,8 @@ fn work(
     port
 }
 
-/// Two threads. The port that is given back has taken in what the other had seen; the tallies are the sums of both.
+/// Runs two threads. The port that is given back has taken in the calls that the other had seen; the tallies
+/// are the sums of both.
 fn two_threads<R: Threads + Sync>(
     rt: &R,
     alloc: Global,
@@ -424,7 +425,7 @@ fn write(out: &mut Vec<u8>, reply: &Reply) {
     }
 }
 
-/// The replies to the calls of these letters. A capital is a call of another caller.
+/// Gives the replies to the calls of these letters. A capital is a call of another caller.
 fn replies<P: StreamPort>(
     alloc: Global,
     port: &mut P,
@@ -455,7 +456,7 @@ fn new_sole(alloc: Global) -> Result<Sole, OutOfMemory> {
     Sole::new(alloc, names(alloc)?, opens(alloc)?, LIMITS)
 }
 
-/// Whether both ports give these replies to all kinds of calls at the place of that pair of names.
+/// Tells whether both ports give these replies to all kinds of calls at the place of that pair of names.
 fn are_given(
     alloc: Global,
     sole: &mut Sole,
@@ -475,7 +476,7 @@ fn are_given(
     Ok(text.as_slice() == wanted && other.as_slice() == wanted)
 }
 
-/// The number of calls in the journal of that place, and what it holds.
+/// Gives the number of calls in the journal of that place, and the number of bytes that it holds.
 fn kept(sole: &Sole, app: &[u8], name: &[u8]) -> Option<(usize, u64)> {
     let place = sole.find(app, name).ok()?;
     Some((sole.journal(place).len(), sole.held(place)))
@@ -495,7 +496,8 @@ fn both_ports_give_the_same_replies_at_each_place(rt: HostRuntime) -> Result<(),
     let (near, _) = ports;
     let (mut shared, _) = near;
     let stream = b"c00000x0b0u1p1x1j01s11ny2p2s22l0e3x0c12110".as_slice();
-    // An open table's first name comes with two markers, and who publishes nothing there is told of nobody.
+    // An open table's first name comes with two markers, and a caller that publishes nothing there is
+    // answered without a live publisher.
     let open = b"c00000x0b2u1p3x0j03s33ny4p4s44l0e5x0c12110".as_slice();
     assert!(rt; sole.find(b"two", b"live").is_err());
     assert!(rt; sole.find(b"open", b"no name").is_err());

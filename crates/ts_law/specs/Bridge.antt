@@ -1,5 +1,5 @@
--- The units that a transport stream carries of items, and what is read of their text. Lists of items and of parts have the
--- newest first.
+-- The units that a transport stream carries of items, and what is read of their text. Lists of items and of
+-- parts have the newest first.
 use Rattle.std.specs.Prelude.{◌≡◌, List, [], ◌∷◌, ◌++◌, Option, Some, None, Ok, Err, option_to_list}
 use Rattle.av_unit.specs.declared.item.Item.{Item}
 use Rattle.pes_packets.specs.Tables.{audio_pid, pat_pid, pmt_pid, video_pid}
@@ -19,8 +19,8 @@ carried (Ok None) = []
 carried (Ok (Some f)) = unit_of f ∷ []
 carried (Err left) = []
 
--- THE BRIDGED UNITS, the oldest first: each picture and each sound that isn't left out, with its times. No packet, counter or
--- table stands in this definition
+-- THE BRIDGED UNITS, the oldest first: each picture and each sound that isn't left out, with its times. No
+-- packet, counter or table stands in this definition
 abbrev pub bridge : List Item → List TsUnit
 bridge [] = []
 bridge (item ∷ past) = bridge past ++ carried (reading (in_force past) item)

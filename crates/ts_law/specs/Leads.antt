@@ -36,8 +36,8 @@ with_pmt m video audio = record m { pmt = next m.pmt; listed = record { video = 
 abbrev pub with_tables : Mux → Bool → Bool → Mux
 with_tables m video audio = with_pmt (with_pat m) video audio
 
--- both tables, with the next counters of their PIDs, and where they may follow: the PES packet before them, if there is one,
--- has this unit
+-- both tables, with the next counters of their PIDs, and where they may follow: the PES packet before them,
+-- if there is one, has this unit
 abbrev pub tables_text : Mux → Bool → Bool → ℕ → List ℕ
 tables_text m video audio version = section_text pat_pid m.pat pat ++ section_text pmt_pid m.pmt (pmt video audio version)
 

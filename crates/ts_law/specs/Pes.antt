@@ -41,8 +41,8 @@ pub record IsFrame (f : Frame) : Type 0 where
   pub short : f.video ≡ false → length_told f.video (length f.payload) < 2 ^ 16
   pub carried : is_carried f.video f.payload ≡ true
 
--- it may follow here: its stream is listed, it has a clock reference exactly on the clock's PID, and it ends the PES packet
--- before it, if there is one, whose unit is this
+-- it may follow here: its stream is listed, it has a clock reference exactly on the clock's PID, and it ends
+-- the PES packet before it, if there is one, whose unit is this
 pub record MayFollow (m : Mux) (f : Frame) (flags : PesFlags) (u : Option TsUnit) : Type 0 where
   pub listed : lists f.video m ≡ true
   pub counter : IsCounter (counter_of f.video m)

@@ -38,9 +38,10 @@ pub fn a_pes_packet_is_read()
     ensures { (n : ℕ) (m : Mux) (f : Frame) (flags : PesFlags) (u : Option TsUnit) → IsFrame f → MayFollow m f flags u → ArePackets n m f flags u }
 {}
 
-/// The text that a writer makes of items is read, and its units, the last of them given at the end, are the bridged units:
-/// each picture and each sound that isn't left out, in order, with its bytes, and its times in units of 1/90,000 second
-/// modulo 2^33 (2.4.3.7). It reads so in one way, and nothing of it is refused.
+/// The text that a writer makes of items is read, and its units are the bridged units, the last of them given
+/// at the end. These are all video frames and audio frames that aren't left out, in order, with their bytes,
+/// and their times in units of 1/90,000 second modulo 2^33 (2.4.3.7). The text has one reading only, and no
+/// byte of it is refused.
 pub fn what_is_written_is_read()
     ensures read { (items : List Item) → IsReadBack items }
     ensures only { (items : List Item) (us : List TsUnit) (u : Option TsUnit) → Ends (ts_text items) us u → us ++ option_to_list u ≡ bridge items }
@@ -48,14 +49,15 @@ pub fn what_is_written_is_read()
     ensures not_at_end { (items : List Item) (us : List TsUnit) (e : TsFail) → EndFails (ts_text items) us e → ⊥ }
 {}
 
-/// Where the milliseconds of units begin anew at 2^32, the times of a transport stream go on: 90 times 2^32 is 45 times 2^33.
+/// If the milliseconds of units wrap at 2^32, the times of a transport stream go on: 90 times 2^32 is 45
+/// times 2^33.
 pub fn times_go_on()
     ensures decoded { (time : ℕ) → clock (time + 2 ^ 32) ≡ clock time }
     ensures presented { (time composition : ℕ) → shown (time + 2 ^ 32) composition ≡ shown time composition }
 {}
 
-/// A worked example of the definition: of an AAC configuration and a frame of sound one unit is bridged, with the 16 bytes of
-/// its ADTS frame.
+/// A worked example of the definition: an AAC configuration and an audio frame give one bridged unit, with
+/// the 16 bytes of its ADTS frame.
 pub fn a_frame_of_sound_is_bridged()
     ensures { bridge sound_items ≡ sound_units }
 {}

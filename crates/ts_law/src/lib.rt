@@ -1,6 +1,7 @@
-//! What is written as a transport stream is read back.
+//! Proves that a stream written as a transport stream is read back.
 //!
-//! The units that are read back are `Bridge` (`specs/Bridge.antt`). It has no code that runs.
+//! Read `laws.rt` first. The units that are read back are `Bridge` (`specs/Bridge.antt`). It has no code that
+//! runs.
 #![tactic(auto)]
 
 mod laws;

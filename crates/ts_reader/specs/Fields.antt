@@ -1,5 +1,5 @@
--- The fields of a transport packet of 188 bytes (ISO/IEC 13818-1, 2.4.3.2 to 2.4.3.4), as they are read. A byte that isn't
--- there counts as 0.
+-- The fields of a transport packet of 188 bytes (ISO/IEC 13818-1, 2.4.3.2 to 2.4.3.4), as they are read. A
+-- byte that isn't there counts as 0.
 use Rattle.std.specs.Prelude.{ℕ, ◌+◌, ◌*◌, ◌/◌, ◌%◌, Bool, ◌==◌, ◌&&◌, not, nat_lt, if◌then◌else◌, List, take, drop, slice_index, Option, Some, None}
 use Rattle.std.specs.List.{list_all}
 

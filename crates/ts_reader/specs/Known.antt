@@ -1,5 +1,5 @@
--- What contracts see of a reader: the bytes that it was fed up to now, or up to the byte that it refused, the units that it
--- gave, and how it failed, if it did
+-- What contracts see of a reader: the bytes that it was fed up to now, or up to the byte that it refused, the
+-- units that it gave, and how it failed, if it did
 use Rattle.std.specs.Prelude.{ℕ, List, [], Option, None}
 use Rattle.ts_reader.specs.declared.unit.TsUnit.{TsUnit}
 use Rattle.ts_reader.specs.declared.fail.TsFail.{TsFail}

@@ -4,15 +4,15 @@ use Rattle.pes_packets.specs.Tables.{audio_pid, pat_pid, pmt_pid, video_pid}
 use Rattle.ts_reader.specs.declared.unit.TsUnit.{TsUnit}
 use Rattle.ts_reader.specs.Sections.{Listed}
 
--- a PES packet that hasn't ended: how many bytes stand before its first packet, its PES_packet_length, and its unit with
--- the payload that is there
+-- a PES packet that hasn't ended: how many bytes stand before its first packet, its PES_packet_length, and
+-- its unit with the payload that is there
 pub record Opened : Type 0 where
   pub at : ℕ
   pub length : ℕ
   pub unit : TsUnit
 
--- the counters of the next packets, whether an association table was read, the streams of the last map, and the open PES
--- packet
+-- the counters of the next packets, whether an association table was read, the streams of the last map, and
+-- the open PES packet
 pub record Mux : Type 0 where
   pub pat : ℕ
   pub pmt : ℕ

@@ -4,8 +4,9 @@ ghost use Rattle.ts_reader.specs.declared.fail.TsFail.TheVariants.{OutOfMemory a
 use av_unit::OutOfMemory;
 use thiserror::Error;
 
-/// Why bytes are refused as a transport stream. A place is the number of bytes that stand before the packet's first byte.
-#[derive(Clone, Copy, Debug, Drop, PartialEq, Eq, Error)]
+/// Why bytes are refused as a transport stream. A place is the number of bytes that stand before the packet's
+/// first byte.
+#[derive(Clone, Copy, Debug, Drop, Error)]
 pub enum TsFail {
     /// The packet there doesn't begin with a sync byte (2.4.3.2), or the stream ends before its 188 bytes.
     #[error("no packet at {at}")]
@@ -14,11 +15,12 @@ pub enum TsFail {
     /// before any association table.
     #[error("no table at {at}")]
     BadTable { at: u64 },
-    /// The packet there has the counter `found`, where `kept` is the next of its PID.
+    /// The packet there has the counter `found`, but the next of its PID is `kept`.
     #[error("counter {found} where {kept} is next at {at}")]
     BadCounter { at: u64, kept: u8, found: u8 },
-    /// The packet there has a PID that the last map doesn't list, or goes on with no open PES packet, or isn't of the form
-    /// that is written (2.4.3.4, 2.4.3.6). Or the PES packet of audio that begins there has another length than it says.
+    /// The packet there has a PID that the last map doesn't list, or continues a PES packet though none is
+    /// open. Or it isn't of the form that is written (2.4.3.4, 2.4.3.6). Or the audio PES packet that begins
+    /// there has another length than its header gives.
     #[error("no PES packet at {at}")]
     BadPes { at: u64 },
     /// The PES packet that begins there carries no access unit with a delimiter before it, or no frame of ADTS.

@@ -8,7 +8,7 @@ const WITH_ONE: usize = 14;
 
 const WITH_TWO: usize = 19;
 
-/// What a header tells: the times, PES_packet_length, and how many bytes it has itself.
+/// The fields of a header: the times, PES_packet_length, and the length of the header itself in bytes.
 #[derive(Clone, Copy)]
 pub(crate) struct Head {
     pub pts: u64,
@@ -17,7 +17,7 @@ pub(crate) struct Head {
     pub size: usize,
 }
 
-// Whether five bytes are a time behind these four bits.
+// Tells whether five bytes are a time after these four bits.
 fn has_time(bytes: &[u8], prefix: u8) -> bool
     requires { 5 ≤ length bytes.now }
     ensures { result ≡ is_time prefix bytes.now }
@@ -25,7 +25,7 @@ fn has_time(bytes: &[u8], prefix: u8) -> bool
     bytes[0] / 16 == prefix && bytes[0] % 2 == 1 && bytes[2] % 2 == 1 && bytes[4] % 2 == 1
 }
 
-// The time in them.
+// Gives the time in them.
 fn time_of(bytes: &[u8]) -> u64
     requires { 5 ≤ length bytes.now }
     ensures { result ≡ time_in bytes.now }
@@ -37,7 +37,7 @@ fn time_of(bytes: &[u8]) -> u64
         + (bytes[4] / 2) as u64
 }
 
-// PES_packet_length.
+// Gives PES_packet_length.
 fn length_of(payload: &[u8]) -> usize
     requires { 14 ≤ length payload.now }
     ensures { result ≡ length_in payload.now }
@@ -45,7 +45,7 @@ fn length_of(payload: &[u8]) -> usize
     payload[4] as usize * 256 + payload[5] as usize
 }
 
-// Whether a PES packet of the stream begins here.
+// Tells whether a PES packet of the stream begins here.
 fn has_begun(payload: &[u8], video: bool) -> bool
     requires { 14 ≤ length payload.now }
     ensures { result ≡ begins video payload.now }
@@ -59,7 +59,7 @@ fn has_begun(payload: &[u8], video: bool) -> bool
         && (!video || length_of(payload) == 0)
 }
 
-// A header with a presentation time alone.
+// Reads a header with a presentation time alone.
 fn with_one(payload: &[u8]) -> Option<Head>
     requires { 14 ≤ length payload.now }
     ensures { option_map told_of result ≡ one_time payload.now }
@@ -76,7 +76,7 @@ fn with_one(payload: &[u8]) -> Option<Head>
     })
 }
 
-// A header with both times.
+// Reads a header with both times.
 fn with_two(payload: &[u8]) -> Option<Head>
     requires { 14 ≤ length payload.now }
     ensures { option_map told_of result ≡ two_times payload.now }
@@ -96,7 +96,7 @@ fn with_two(payload: &[u8]) -> Option<Head>
     })
 }
 
-/// The header at the front of a payload, where all of it is there.
+/// Reads the header at the front of a payload, if all of it is there.
 #[tactic(auto, using(std::proofs::lemmas::Bool::Decides::nat_tests), unfolding(crate::specs::Times::header_of))]
 pub(crate) fn read_header(payload: &[u8], video: bool) -> Option<Head>
     ensures value { option_map told_of result ≡ header_of video payload.now }

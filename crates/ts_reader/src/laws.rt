@@ -17,12 +17,12 @@ pub fn one_reading()
     ensures { (b : List ℕ) (us vs : List TsUnit) (m n : Mux) (q r : List ℕ) → Reads b us m q → Reads b vs n r → SameReading us vs m n q r }
 {}
 
-/// The first bytes of what is read are read too, as the first of its units.
+/// If bytes are read, their first bytes are read too, as the first of the units.
 pub fn beginnings_are_read()
     ensures { (b : List ℕ) (n : ℕ) (us : List TsUnit) (m : Mux) (r : List ℕ) → Reads b us m r → ReadsPart b n us }
 {}
 
-/// Where a byte is refused, no list that begins with the bytes up to it and with it is read.
+/// If a byte is refused, no list that begins with the bytes up to and including it is read.
 pub fn refused_bytes_are_not_read()
     ensures { (b more : List ℕ) (e : TsFail) (n : ℕ) (us vs : List TsUnit) (m : Mux) (r : List ℕ) → Stops b n us e → Reads (take (n + 1) b ++ more) vs m r → ⊥ }
 {}
@@ -32,7 +32,7 @@ pub fn one_refusal()
     ensures { (b : List ℕ) (c d : TsFail) (m n : ℕ) (us vs : List TsUnit) → Stops b m us c → Stops b n vs d → SameStop c d m n us vs }
 {}
 
-/// Bytes behind a refused packet change nothing.
+/// Bytes after a refused packet change nothing.
 pub fn refused_bytes_stay_refused()
     ensures { (b more : List ℕ) (e : TsFail) (n : ℕ) (us : List TsUnit) → Stops b n us e → Stops (b ++ more) n us e }
 {}
@@ -43,8 +43,8 @@ pub fn one_end()
     ensures refused { (b : List ℕ) (us vs : List TsUnit) (u : Option TsUnit) (e : TsFail) → Ends b us u → EndFails b vs e → ⊥ }
 {}
 
-/// What is taken for a byte stream is NAL units, each behind a zero byte and a start code (ISO/IEC 14496-10, annex B), and
-/// each such byte stream is taken: it is what `split_annexb` reads.
+/// Bytes taken for a byte stream are NAL units, each after a zero byte and a start code (ISO/IEC 14496-10,
+/// annex B). Each such byte stream is taken: it is one that `split_annexb` reads.
 pub fn a_byte_stream_is_nal_units()
     ensures read { (b : List ℕ) → is_stream b ≡ true → StreamOf b }
     ensures written { (units : List (List ℕ)) → AreNals units → is_stream (annexb units) ≡ true }

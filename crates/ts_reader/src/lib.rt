@@ -1,8 +1,9 @@
-//! A transport stream (ISO/IEC 13818-1) read back into the pictures and sounds that it carries: the form that is written here,
-//! one program with at most one stream of AVC and one of AAC, whose PES packets don't interleave.
+//! Reads a transport stream (ISO/IEC 13818-1) back into its video and audio units. It reads the form that
+//! `ts_writer` writes: one program with at most one AVC stream and one AAC stream, whose PES packets don't
+//! interleave.
 //!
-//! Read `TsReader::feed` first. The units of bytes are `specs/Reads.antt`, the fields of packets `specs/Fields.antt`. Other forms of
-//! transport streams are refused, at their byte.
+//! Read `TsReader::feed` first. The units of bytes are `specs/Reads.antt`, the fields of packets
+//! `specs/Fields.antt`. Other forms of transport streams are refused, at their byte.
 #![tactic(auto)]
 
 mod fail;

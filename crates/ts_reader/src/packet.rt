@@ -6,7 +6,7 @@ ghost use Rattle.ts_reader.specs.Fields.{counter_in, is_plain, payload_at, pid_i
 /// The bytes of a packet.
 pub(crate) const PACKET: usize = 188;
 
-/// The PID.
+/// Gives the PID.
 pub(crate) fn pid_of(packet: &[u8]) -> u16
     requires { length packet.now ≡ 188 }
     ensures { result ≡ pid_in packet.now }
@@ -14,7 +14,7 @@ pub(crate) fn pid_of(packet: &[u8]) -> u16
     (packet[1] % 32) as u16 * 256 + packet[2] as u16
 }
 
-/// The continuity counter.
+/// Gives the continuity counter.
 pub(crate) fn counter_of(packet: &[u8]) -> u8
     requires { length packet.now ≡ 188 }
     ensures value { result ≡ counter_in packet.now }
@@ -23,7 +23,7 @@ pub(crate) fn counter_of(packet: &[u8]) -> u8
     packet[3] % 16
 }
 
-/// Whether a unit starts in the packet.
+/// Tells whether a unit starts in the packet.
 pub(crate) fn has_start(packet: &[u8]) -> bool
     requires { length packet.now ≡ 188 }
     ensures { result ≡ starts packet.now }
@@ -31,7 +31,7 @@ pub(crate) fn has_start(packet: &[u8]) -> bool
     packet[1] / 64 % 2 == 1
 }
 
-/// Whether the bits for an error, priority and scrambling are 0.
+/// Tells whether the bits for an error, priority and scrambling are 0.
 pub(crate) fn has_no_marks(packet: &[u8]) -> bool
     requires { length packet.now ≡ 188 }
     ensures { result ≡ is_plain packet.now }
@@ -39,22 +39,22 @@ pub(crate) fn has_no_marks(packet: &[u8]) -> bool
     packet[1] / 128 == 0 && packet[1] / 32 % 2 == 0 && packet[3] / 64 == 0
 }
 
-// Whether all bytes are FF.
+// Tells whether all bytes are FF.
 fn is_stuffing(bytes: &[u8]) -> bool
     ensures { result ≡ list_all (λ b. b == 255) bytes.now }
 {
     bytes.iter().all(|byte| *byte == 0xFF)
 }
 
-// The bytes behind so many, or none.
+// Gives the bytes after the first `count`, or none.
 fn after(bytes: &[u8], count: usize) -> &[u8]
     ensures { result.now ≡ drop count bytes.now }
 {
     &bytes[count.min(bytes.len())..]
 }
 
-/// The place of the payload, of which there is a byte at least, where the fields before it are of the forms that are read.
-/// With `clock` a clock reference has to stand before it.
+/// Gives the place of the payload, which has at least one byte, if the fields before it are of the forms that
+/// are read. With `clock` a clock reference must stand before it.
 #[tactic(auto, using(std::proofs::lemmas::Bool::Decides::nat_tests), unfolding(crate::specs::Fields::payload_at))]
 pub(crate) fn payload_place(packet: &[u8], clock: bool) -> Option<usize>
     requires { length packet.now ≡ 188 }

@@ -1,11 +1,11 @@
-//! Whether bytes are what a PES packet may carry.
+//! Checks the payload of a PES packet.
 ghost use Rattle.std.specs.Prelude.{◌≡◌, ◌<◌, ◌≤◌, length, drop, option_map, IfSome};
 ghost use Rattle.ts_reader.specs.Payloads.{behind_unit, is_carried, is_stream, unit_length};
 
 use aac_adts::read_adts;
 use avc_annexb::first_triple;
 
-// What stands behind the first bytes.
+// Gives the bytes after the first ones.
 fn after(bytes: &[u8], count: usize) -> &[u8]
     requires { count ≤ length bytes.now }
     ensures { result.now ≡ drop count bytes.now }
@@ -13,7 +13,7 @@ fn after(bytes: &[u8], count: usize) -> &[u8]
     &bytes[count..]
 }
 
-// How many bytes stand before the first 00 00 and a byte of at most 2.
+// Gives the number of bytes before the first 00 00 that a byte of at most 2 follows.
 #[tactic(auto, unfolding(crate::specs::Payloads::unit_length))]
 fn unit_len(bytes: &[u8]) -> usize
     ensures value { result ≡ unit_length bytes.now }
@@ -25,7 +25,7 @@ fn unit_len(bytes: &[u8]) -> usize
     }
 }
 
-// What stands behind the NAL unit at the front, which has a start code before it.
+// Gives the bytes after the NAL unit at the front, which has a start code before it.
 #[tactic(auto, using(std::proofs::lemmas::Bool::Decides::nat_tests), unfolding(crate::specs::Payloads::behind_unit))]
 fn behind(bytes: &[u8]) -> Option<&[u8]>
     ensures value { option_map (λ r. r.now) result ≡ behind_unit bytes.now }
@@ -42,7 +42,7 @@ fn behind(bytes: &[u8]) -> Option<&[u8]>
     Some(after(unit, len))
 }
 
-// Whether NAL units with start codes fill the bytes.
+// Tells whether NAL units with start codes fill the bytes.
 fn units_fill(bytes: &[u8]) -> bool
     ensures { result ≡ is_stream bytes.now }
 {
@@ -56,7 +56,7 @@ fn units_fill(bytes: &[u8]) -> bool
     true
 }
 
-/// Whether the bytes are an access unit that begins with a delimiter, or a frame of ADTS.
+/// Tells whether the bytes are an access unit that begins with a delimiter, or an ADTS frame.
 pub(crate) fn may_be_carried(video: bool, bytes: &[u8]) -> bool
     ensures { result ≡ is_carried video bytes.now }
 {

@@ -12,8 +12,8 @@ use past::Flow;
 use std::alloc::Global;
 use std::marker::Model;
 
-/// What a feed used of its piece, and the unit that ends there.
-#[derive(Debug, PartialEq, Eq, Drop)]
+/// The result of a feed: the number of bytes used of its piece, and the unit that ends there.
+#[derive(Drop)]
 pub struct TsFed {
     pub used: usize,
     pub unit: Option<TsUnit>,
@@ -41,7 +41,8 @@ impl Model for TsReader {
     ghost invariant = { λ r. IsSound r.state r.part r.at r.failed r.fed r.given };
 }
 
-// Takes bytes of the packet that begins after so many, no more than are missing: in place where they are all of it.
+// Takes bytes of the packet that begins after `at` bytes, at most those that are missing. If they are the
+// whole packet, it is read in place.
 fn take_run(
     state: &mut State,
     part: &mut Bytes,
@@ -66,7 +67,7 @@ fn take_run(
     Ok(unit)
 }
 
-// How many bytes stand before the next packet, or before this one where it isn't whole.
+// Gives the number of bytes before the next packet, or before this one if it isn't whole.
 fn place_after(at: u64, part: &Bytes) -> u64
     requires { at < 2 ^ 63 }
     ensures whole { part.now ≡ [] → result ≡ at + 188 }
@@ -79,7 +80,7 @@ fn place_after(at: u64, part: &Bytes) -> u64
     }
 }
 
-// Takes the unit of the PES packet that is open at the end, where no packet has begun.
+// Takes the unit of the PES packet that is open at the end, if no packet has begun.
 fn take_last(state: &mut State, part: &Bytes, at: u64) -> Result<Option<TsUnit>, TsFail>
     ensures ok { IfOk result (λ u. IsLast (mux_of state.old) part.now u) }
     ensures err { IfErr result (λ e. LastFails at (mux_of state.old) part.now e) }
@@ -101,7 +102,7 @@ fn note(given: &mut Flow<TsUnit>, unit: &Option<TsUnit>)
 }
 
 impl TsReader {
-    /// A reader that was fed nothing.
+    /// Makes a reader that was fed no bytes.
     pub fn new(alloc: Global) -> TsReader
         ensures { result ≡ fresh }
     {
@@ -144,8 +145,8 @@ impl TsReader {
 
     /// Takes a piece up to its end, or to the end of the packet that ends a unit.
     ///
-    /// It refuses the first packet by which what it was fed can't be a stream, once that is whole (see `TsFail`). A reader
-    /// that refused answers the same again.
+    /// It refuses the first packet after which the bytes fed can't be a stream, once that packet is whole
+    /// (see `TsFail`). A reader that refused gives the same answer again.
     pub fn feed(&mut self, alloc: Global, piece: &[u8]) -> Result<TsFed, TsFail>
         requires near { length self.old.fed + length piece.now < 2 ^ 63 }
         ensures again { IfSome self.old.failed (λ e. (result ≡ Err e) × (self.new ≡ self.old)) }
@@ -170,10 +171,11 @@ impl TsReader {
         Ok(TsFed { used, unit: None })
     }
 
-    /// Ends what it was fed, and gives the unit of the last PES packet, if one is open. After that the reader is as new.
+    /// Ends the input, and gives the unit of the last PES packet, if one is open. After that the reader is as
+    /// new.
     ///
-    /// It refuses a packet that isn't whole (`NoSync`), and a last PES packet (`BadPes`, `BadUnit`). A reader that refused
-    /// answers the same again.
+    /// It refuses a packet that isn't whole (`NoSync`), and a last PES packet (`BadPes`, `BadUnit`). A reader
+    /// that refused gives the same answer again.
     pub fn finish(&mut self, alloc: Global) -> Result<Option<TsUnit>, TsFail>
         ensures again { IfSome self.old.failed (λ e. (result ≡ Err e) × (self.new ≡ self.old)) }
         ensures ok { self.old.failed ≡ None → IfOk result (λ u. IsEnded self.old u self.new) }

@@ -1,4 +1,4 @@
-//! What is kept between packets, and what a packet does.
+//! The state between packets, and the effect of a packet on it.
 ghost use Rattle.std.specs.Prelude.{◌≡◌, ◌<◌, ◌+◌, ◌%◌, length, option_map, true, None, Some};
 ghost use Rattle.ts_reader.specs.Mux.{kept, next, start};
 ghost use Rattle.ts_reader.specs.Steps.{closed, continued, counted, first_step, has_its_length, more_step, pat_step, pes_step, pid_step, pmt_step, step};
@@ -15,11 +15,11 @@ use std::alloc::Global;
 
 const SYNC: u8 = 0x47;
 
-// The bytes that PES_packet_length counts of a header with one time.
+// The bytes of a header with one time that PES_packet_length counts.
 const COUNTED: usize = 8;
 
-/// A PES packet that hasn't ended: the place of its first packet, its PES_packet_length, and its unit with the payload that
-/// is there.
+/// A PES packet that hasn't ended: the place of its first packet, its PES_packet_length, and its unit with
+/// the payload so far.
 #[derive(Drop)]
 pub(crate) struct Open {
     pub at: u64,
@@ -27,8 +27,8 @@ pub(crate) struct Open {
     pub unit: TsUnit,
 }
 
-/// The counters of the next packets, whether an association table was read, the streams of the last map, and the open PES
-/// packet.
+/// The counters of the next packets, whether an association table was read, the streams of the last map, and
+/// the open PES packet.
 #[derive(Drop)]
 pub(crate) struct State {
     pub pat: u8,
@@ -40,7 +40,7 @@ pub(crate) struct State {
     pub pes: Option<Open>,
 }
 
-/// Before the first packet.
+/// Gives the state before the first packet.
 pub(crate) fn before() -> State
     ensures { mux_of result ≡ start }
 {
@@ -58,14 +58,14 @@ pub(crate) fn before() -> State
     }
 }
 
-// The counter after this one.
+// Gives the counter after this one.
 fn counter_after(counter: u8) -> u8
     ensures { result ≡ next counter }
 {
     (counter % 16 + 1) % 16
 }
 
-// The counter that the next packet of a PID has.
+// Gives the counter that the next packet of a PID has.
 fn counter_for(state: &State, pid: u16) -> u8
     ensures { result ≡ kept (mux_of state.now) pid }
 {
@@ -78,14 +78,14 @@ fn counter_for(state: &State, pid: u16) -> u8
     }
 }
 
-// Whether PES_packet_length is that of what follows it. Video has none.
+// Tells whether PES_packet_length counts the bytes that follow it. Video has no such length.
 fn has_its_length(pes: &Open) -> bool
     ensures { result ≡ has_its_length (opened_of pes.now) }
 {
     pes.unit.video || pes.length >= COUNTED && pes.length - COUNTED == pes.unit.payload.len()
 }
 
-/// The unit of the PES packet that ends, if one was open.
+/// Gives the unit of the PES packet that ends, if one was open.
 #[tactic(auto, unfolding(crate::specs::Steps::closed))]
 pub(crate) fn close(ended: Option<Open>) -> Result<Option<TsUnit>, TsFail>
     ensures { result ≡ closed (option_map opened_of ended) }
@@ -147,7 +147,7 @@ fn read_pmt(
     Ok(unit)
 }
 
-// One packet more of a stream, which leaves this open.
+// Reads a packet of a stream that leaves the given PES packet open.
 fn count(state: &mut State, video: bool, pes: Option<Open>)
     ensures { mux_of state.new ≡ counted video (mux_of state.old) (option_map opened_of pes) }
 {
@@ -199,7 +199,7 @@ fn read_first(
     Ok(unit)
 }
 
-// Goes on with the open PES packet.
+// Continues the open PES packet.
 #[tactic(auto, unfolding(crate::specs::Steps::continued))]
 fn go_on(pes: &mut Open, at: u64, packet: &[u8], video: bool) -> Result<(), TsFail>
     requires { length packet.now ≡ 188 }
@@ -280,8 +280,8 @@ fn read_pid(
     }
 }
 
-/// Reads a packet, before which so many bytes stand, and gives the unit that it ends. After a refusal nothing is promised of
-/// the state.
+/// Reads a packet with `at` bytes of the stream before it, and gives the unit that it ends. After a refusal
+/// nothing is promised of the state.
 #[tactic(auto, using(std::proofs::lemmas::Bool::Decides::nat_tests), unfolding(crate::specs::Steps::step))]
 pub(crate) fn read_packet(
     state: &mut State,

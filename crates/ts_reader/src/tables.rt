@@ -1,4 +1,4 @@
-//! The packets of tables: a table is told by writing the one that it would be.
+//! Recognises the packets of tables, by a comparison with the table as it would be written.
 ghost use Rattle.std.specs.Prelude.{◌≡◌, length, option_map, IfOk};
 ghost use Rattle.ts_reader.specs.Sections.{is_pat, is_pmt, listed_in};
 ghost use Rattle.ts_reader.specs.Sound.{listed_of};
@@ -15,7 +15,7 @@ pub(crate) struct Streams {
     pub audio: bool,
 }
 
-/// Whether the packet is the association table's.
+/// Tells whether the packet is the association table's.
 pub(crate) fn has_pat(packet: &[u8], alloc: Global) -> Result<bool, OutOfMemory>
     requires { length packet.now ≡ 188 }
     ensures { IfOk result (λ b. b ≡ is_pat packet.now) }
@@ -25,7 +25,7 @@ pub(crate) fn has_pat(packet: &[u8], alloc: Global) -> Result<bool, OutOfMemory>
     Ok(text.as_slice() == packet)
 }
 
-// Whether the packet is that of a map of these streams.
+// Tells whether the packet is that of a map of these streams.
 fn has_pmt(packet: &[u8], streams: Streams, alloc: Global) -> Result<bool, OutOfMemory>
     requires { length packet.now ≡ 188 }
     ensures { IfOk result (λ b. b ≡ is_pmt streams.video streams.audio packet.now) }
@@ -37,7 +37,7 @@ fn has_pmt(packet: &[u8], streams: Streams, alloc: Global) -> Result<bool, OutOf
     Ok(text.as_slice() == packet)
 }
 
-/// The streams that the packet's map lists, if it has one.
+/// Gives the streams that the packet's map lists, if it has one.
 #[tactic(auto, unfolding(crate::specs::Sections::listed_in))]
 pub(crate) fn streams_in(packet: &[u8], alloc: Global) -> Result<Option<Streams>, OutOfMemory>
     requires { length packet.now ≡ 188 }

@@ -1,5 +1,6 @@
--- What the units of a stream are in a transport stream: access units of AVC and frames of AAC with their times, or why a unit
--- is left out. The sections by E are those of Adobe's FLV 10.1, whose tags have the bodies of units.
+-- What the units of a stream are in a transport stream: access units of AVC and frames of AAC with their
+-- times, or why a unit is left out. The sections by E are those of Adobe's FLV 10.1, whose tags have the
+-- bodies of units.
 use Rattle.std.specs.Prelude.{◌≡◌, ◌<◌, ℕ, ◌+◌, ◌-◌, ◌*◌, ◌%◌, ◌^◌, Bool, true, false, ◌==◌, ◌&&◌, nat_lt, if◌then◌else◌, List, [], ◌∷◌, ◌++◌, length, drop, Option, Some, None, Result, Ok, Err}
 use Rattle.relay_base.specs.Numbers.{be24_of}
 use Rattle.av_unit.specs.Classes.{high, low, second_is}
@@ -42,14 +43,15 @@ audio_config body = of_aac (config_of (drop 2 body))
 abbrev pub clock : ℕ → ℕ
 clock time = time * 90 % 2 ^ 33
 
--- the same so much later, or earlier where the first bit of the 24 says so (E.4.3.1). A time before 0 counts back from 2^33
+-- the same so much later, or earlier where the first bit of the 24 says so (E.4.3.1). A time before 0 counts
+-- back from 2^33
 unfoldable pub shown : ℕ → ℕ → ℕ
 shown time composition =
     if nat_lt composition (2 ^ 23) then (time + composition) * 90 % 2 ^ 33
     else (time * 90 + (2 ^ 33 - (2 ^ 24 - composition) * 90)) % 2 ^ 33
 
--- a unit that can be written: whether it is a picture, whether a decoder can begin at it, when it is shown and when it is
--- decoded, and its bytes
+-- a unit that can be written: whether it is a picture, whether a decoder can begin at it, when it is shown
+-- and when it is decoded, and its bytes
 pub record Frame : Type 0 where
   pub video : Bool
   pub random : Bool

@@ -21,7 +21,8 @@ length_or_none (Some c) = sets_length c
 abbrev pub held_of : InForce → ℕ
 held_of s = length_or_none s.video
 
--- a configuration whose record had so many bytes at most: a set has a byte, and stands behind two there and behind four here
+-- a configuration whose record had so many bytes at most: a set has a byte, and stands behind two there and
+-- behind four here
 pub record IsWithin (n : ℕ) (c : Config) : Type 0 where
   pub size : 1 ≤ c.size
   pub kept : sets_length c ≤ n

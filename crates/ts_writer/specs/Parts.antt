@@ -1,4 +1,5 @@
--- The parts of a transport stream's text, and what each part owes to those before it. Lists of parts have the newest first.
+-- The parts of a transport stream's text, and what each part owes to those before it. Lists of parts have the
+-- newest first.
 use Rattle.std.specs.Prelude.{ℕ, ◌+◌, ◌-◌, ◌%◌, ◌^◌, Bool, true, false, ◌==◌, ◌&&◌, ◌||◌, not, nat_le, if◌then◌else◌, is_some, List, [], ◌∷◌, ◌++◌, length, Option, Some}
 use Rattle.pes_packets.specs.declared.flags.PesFlags.{PesFlags}
 use Rattle.pes_packets.specs.Packet.{section_text, pes_text, runs_of, silent}

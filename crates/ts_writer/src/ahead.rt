@@ -1,4 +1,4 @@
-//! What the text so far asks of what follows.
+//! The state after the text so far that the next part depends on.
 ghost use Rattle.std.specs.Prelude.{◌≡◌, ◌+◌, min, if◌then◌else◌, List, [], ◌∷◌};
 ghost use Rattle.pes_packets.specs.Packet.{counted, AreFlags, IsTime};
 ghost use Rattle.ts_writer.specs.declared.part.Part.{Part as APart};
@@ -9,15 +9,16 @@ ghost use Rattle.ts_writer.specs.Ahead.{ahead_of};
 use crate::part::{Pes, Streams};
 use pes_packets::{AUDIO_PID, PesFlags, VIDEO_PID};
 
-// How many units of sound stand between tables where there are no pictures.
+// The number of audio units between tables if there is no video.
 const SOUNDS: u8 = 32;
 
 // Half a second, by which a clock reference stands before the unit's decoding time, in units of 1/90,000 second.
 const LEAD: u64 = 45_000;
 
-/// The next counter of each PID, the streams last listed, that list's version, how many units of sound were written since
-/// the last tables (32 stands for more), whether there was a clock reference, and whether the next one jumps.
-#[derive(Clone, Copy, Debug, Drop)]
+/// The next counter of each PID, the streams last listed, and that list's version. Also the number of audio
+/// units since the last tables (32 stands for more), whether there was a clock reference, and whether the
+/// next one jumps.
+#[derive(Clone, Copy, Drop)]
 pub struct Ahead {
     pub pat: u8,
     pub pmt: u8,
@@ -30,14 +31,14 @@ pub struct Ahead {
     pub jump: bool,
 }
 
-/// The PID of pictures or of sound.
+/// Gives the PID of video or of audio.
 pub fn pid_of(video: bool) -> u16
     ensures { result ≡ pid_is video }
 {
     if video { VIDEO_PID } else { AUDIO_PID }
 }
 
-/// A number where something is so, else another.
+/// Gives one number if a condition holds, else another.
 pub fn choice(so: bool, number: u8, other: u8) -> u8
     ensures { result ≡ (if so then number else other) }
 {
@@ -45,7 +46,7 @@ pub fn choice(so: bool, number: u8, other: u8) -> u8
 }
 
 impl Ahead {
-    /// At the beginning of a text.
+    /// Gives the state at the beginning of a text.
     pub fn new() -> Ahead
         ensures { result ≡ ahead_of [] }
     {
@@ -62,7 +63,7 @@ impl Ahead {
         }
     }
 
-    /// Whether the last tables list these streams.
+    /// Tells whether the last tables list these streams.
     fn lists(self, streams: Streams) -> bool
         ensures { (ps : List APart) → self ≡ ahead_of ps → result ≡ is_last streams (lists_of ps) }
     {
@@ -72,7 +73,7 @@ impl Ahead {
         }
     }
 
-    /// Whether tables stand before the unit that follows.
+    /// Tells whether tables stand before the next unit.
     pub fn owes_tables(self, streams: Streams, video: bool, random: bool) -> bool
         ensures { (ps : List APart) → self ≡ ahead_of ps → result ≡ tables_due streams video random ps }
     {
@@ -85,7 +86,7 @@ impl Ahead {
         self.sounds >= SOUNDS
     }
 
-    /// The version of a map table that lists these streams.
+    /// Gives the version of a map table that lists these streams.
     pub fn version_of(self, streams: Streams) -> u8
         ensures { (ps : List APart) → self ≡ ahead_of ps → result ≡ version_is streams ps }
     {
@@ -101,7 +102,7 @@ impl Ahead {
         }
     }
 
-    /// What the first packet of the unit that follows tells.
+    /// Gives the fields of the first packet of the next unit.
     #[tactic(auto, using(std::proofs::lemmas::Bool::Decides::nat_tests))]
     pub fn flags(self, streams: Streams, video: bool, random: bool, dts: u64) -> PesFlags
         requires { IsTime dts }
@@ -122,7 +123,7 @@ impl Ahead {
         }
     }
 
-    /// After the beginning of a broadcast.
+    /// Gives the state after the beginning of a broadcast.
     pub fn started(self) -> Ahead
         ensures { (ps : List APart) → self ≡ ahead_of ps → result ≡ ahead_of (Start ∷ ps) }
     {
@@ -132,7 +133,7 @@ impl Ahead {
         }
     }
 
-    /// After tables, with the next counters of their PIDs and the map's version.
+    /// Gives the state after tables, with the next counters of their PIDs and the map's version.
     pub fn after_tables(self, streams: Streams, pat: u8, pmt: u8, version: u8) -> Ahead
         requires pat { pat ≡ counted self.pat 1 }
         requires pmt { pmt ≡ counted self.pmt 1 }
@@ -149,7 +150,7 @@ impl Ahead {
         }
     }
 
-    /// How many units of sound were written since the last tables, with one unit more.
+    /// Gives the number of audio units since the last tables, after one unit more.
     fn sounds_with(self, video: bool) -> u8
         ensures { result ≡ (if video then self.sounds else min 32 (self.sounds + 1)) }
     {
@@ -160,7 +161,7 @@ impl Ahead {
         }
     }
 
-    /// After a PES packet, with the next counter of its PID.
+    /// Gives the state after a PES packet, with the next counter of its PID.
     pub fn after_pes(self, pes: &Pes, next: u8) -> Ahead
         requires { (ps : List APart) → self ≡ ahead_of ps → next ≡ counter (pid_is pes.now.video) (APes pes.now ∷ ps) }
         ensures { (ps : List APart) → self ≡ ahead_of ps → result ≡ ahead_of (APes pes.now ∷ ps) }

@@ -1,7 +1,8 @@
-//! The items of a stream as a transport stream (ISO/IEC 13818-1): AVC as access units, AAC in ADTS frames, and the tables that
-//! name them.
+//! Writes the items of a stream as a transport stream (ISO/IEC 13818-1): AVC as access units, AAC in ADTS
+//! frames, and the tables that name them.
 //!
-//! Read `TsWriter::item` first. The whole text of a list of items is `ts_text` (`specs/Text.antt`). It writes to bytes, and to no file.
+//! Read `TsWriter::item` first. The whole text of a list of items is `ts_text` (`specs/Text.antt`). The crate
+//! appends to bytes in memory; it writes no file.
 #![tactic(auto)]
 
 mod ahead;

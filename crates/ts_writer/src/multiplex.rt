@@ -36,7 +36,7 @@ impl Model for Multiplex {
 }
 
 impl Multiplex {
-    /// No parts.
+    /// Makes a stream without parts.
     pub fn new(alloc: Global) -> Multiplex
         ensures { result ≡ [] }
     {
@@ -47,7 +47,7 @@ impl Multiplex {
         }
     }
 
-    /// A broadcast begins.
+    /// Begins a broadcast.
     pub fn start(&mut self)
         ensures { self.new ≡ Start ∷ self.old }
     {
@@ -85,7 +85,7 @@ impl Multiplex {
         Ok(())
     }
 
-    /// Appends the packets of a PES packet.
+    /// Appends the transport packets of a PES packet.
     fn put_packets(&mut self, pes: Pes, out: &mut Bytes) -> Result<(), OutOfMemory>
         requires flags { AreFlags pes.flags }
         requires some { 0 < length pes.bytes }
@@ -107,7 +107,7 @@ impl Multiplex {
         Ok(())
     }
 
-    /// Appends a unit, and before it both tables where they are due.
+    /// Appends a unit, and before it both tables if they are due.
     pub fn put(
         &mut self,
         streams: Streams,

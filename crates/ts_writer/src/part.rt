@@ -1,4 +1,4 @@
-//! What a transport stream is made of, part by part.
+//! The parts of a transport stream.
 ghost use Rattle.std.specs.Prelude.{◌≡◌};
 ghost use Rattle.ts_writer.specs.Parts.{are_same};
 
@@ -6,14 +6,14 @@ use av_unit::Bytes;
 use pes_packets::PesFlags;
 
 /// The streams that a map table lists.
-#[derive(Clone, Copy, Debug, Drop)]
+#[derive(Clone, Copy, Drop)]
 pub struct Streams {
     pub video: bool,
     pub audio: bool,
 }
 
 impl Streams {
-    /// Whether they are the same.
+    /// Tells whether they are the same.
     pub fn is(self, other: Streams) -> bool
         ensures { result ≡ are_same self other }
     {
@@ -21,8 +21,8 @@ impl Streams {
     }
 }
 
-/// A PES packet: whether it is of pictures or of sound, what its first packet tells, and its bytes.
-#[derive(Debug, Drop)]
+/// A PES packet: whether it is video or audio, the fields of its first packet, and its bytes.
+#[derive(Drop)]
 pub struct Pes {
     pub video: bool,
     pub flags: PesFlags,
@@ -30,7 +30,7 @@ pub struct Pes {
 }
 
 /// A part: the beginning of a broadcast, which has no bytes, both tables, or the packets of a PES packet.
-#[derive(Debug, Drop)]
+#[derive(Drop)]
 pub enum Part {
     Start,
     Tables(Streams),

@@ -9,7 +9,7 @@ use av_unit::OutOfMemory;
 use avc_annexb::AvcFail;
 
 /// A unit is left out, or memory was refused.
-#[derive(Clone, Copy, Debug, Drop)]
+#[derive(Clone, Copy, Drop)]
 pub enum Stop {
     Out(Left),
     Memory,

@@ -21,27 +21,28 @@ const AVC: u8 = 7;
 
 const AAC: u8 = 10;
 
-// How many raw bytes a frame has at most.
+// The longest raw data block of a frame, in bytes.
 const MOST_RAW: usize = 8_184;
 
-// How many bytes stand before raw bytes, behind the length of their PES packet: what is left of its header, and that of the
-// frame.
+// The number of bytes between the length field of a PES packet and the raw data block: the rest of the PES
+// header, and the ADTS header.
 const AHEAD: usize = 8 + 7;
 
-// Room for what a PES packet has before the bytes of its unit: both headers, a delimiter and a start code.
+// Room for the bytes of a PES packet before its unit: both headers, an access unit delimiter and a start
+// code.
 const HEADS: usize = 32;
 
-// How many times fit in 33 bits.
+// The number of times that fit in 33 bits.
 const TIMES: u64 = 1 << 33;
 
-/// The bytes behind the first.
+/// Gives the bytes after the first.
 fn after(bytes: &[u8], count: usize) -> &[u8]
     ensures { result.now ≡ drop count bytes.now }
 {
     &bytes[count.min(bytes.len())..]
 }
 
-/// The low four bits of the first byte.
+/// Gives the low four bits of the first byte.
 fn low(body: &[u8]) -> u8
     ensures { result ≡ low_of body.now }
 {
@@ -51,7 +52,7 @@ fn low(body: &[u8]) -> u8
     }
 }
 
-/// The high four bits of the first byte.
+/// Gives the high four bits of the first byte.
 fn high(body: &[u8]) -> u8
     ensures { result ≡ high_of body.now }
 {
@@ -61,7 +62,7 @@ fn high(body: &[u8]) -> u8
     }
 }
 
-/// Whether the second byte is 1: NAL units or raw bytes follow.
+/// Tells whether the second byte is 1: NAL units or raw bytes follow.
 fn has_units(body: &[u8]) -> bool
     ensures { result ≡ second_is 1 body.now }
 {
@@ -71,7 +72,7 @@ fn has_units(body: &[u8]) -> bool
     }
 }
 
-/// The video configuration in a unit.
+/// Reads the video configuration in a unit.
 #[tactic(auto, using(std::proofs::lemmas::Bool::Decides::nat_tests), unfolding(crate::specs::Frames::video_config))]
 pub fn read_video(alloc: Global, body: &[u8]) -> Result<Avcc, Stop>
     ensures read { Gives result (video_config body.now) }
@@ -83,7 +84,7 @@ pub fn read_video(alloc: Global, body: &[u8]) -> Result<Avcc, Stop>
     Ok(Avcc::read(alloc, after(body, 5))?)
 }
 
-/// The audio configuration in a unit.
+/// Reads the audio configuration in a unit.
 #[tactic(auto, unfolding(crate::specs::Frames::audio_config))]
 pub fn read_audio(body: &[u8]) -> Result<Asc, Stop>
     ensures { Gives result (audio_config body.now) }
@@ -91,7 +92,7 @@ pub fn read_audio(body: &[u8]) -> Result<Asc, Stop>
     Ok(Asc::read(after(body, 2))?)
 }
 
-/// Milliseconds in units of 1/90,000 second, in 33 bits.
+/// Converts milliseconds to units of 1/90,000 second, in 33 bits.
 fn clock_of(time: u32) -> u64
     ensures value { result ≡ clock time }
     ensures fits { result < 2 ^ 33 }
@@ -99,7 +100,7 @@ fn clock_of(time: u32) -> u64
     time as u64 * 90 % TIMES
 }
 
-/// The same a composition time later, or earlier where that is negative.
+/// Adds a composition time to such a time; a negative one makes it earlier.
 #[tactic(auto, using(std::proofs::lemmas::Bool::Decides::nat_tests), unfolding(crate::specs::Frames::shown))]
 fn shown_at(time: u32, composition: u32) -> u64
     requires { composition < 2 ^ 24 }
@@ -113,7 +114,7 @@ fn shown_at(time: u32, composition: u32) -> u64
     }
 }
 
-/// Appends a configuration's parameter sets where a picture is a key picture.
+/// Appends a configuration's parameter sets if a video frame is a keyframe.
 fn put_sets(config: &Avcc, key: bool, out: &mut Bytes) -> Result<(), OutOfMemory>
     ensures ok { OnOk result (out.new ≡ out.old ++ sets_if key config.now) }
     ensures left { OnErr result ((more : List ℕ) × (out.new ≡ out.old ++ more)) }
@@ -125,7 +126,7 @@ fn put_sets(config: &Avcc, key: bool, out: &mut Bytes) -> Result<(), OutOfMemory
     to_annexb(&config.pps, out)
 }
 
-/// Appends the access unit of a picture's NAL units.
+/// Appends the access unit of a video frame's NAL units.
 fn put_access_unit(config: &Avcc, key: bool, units: &[u8], out: &mut Bytes) -> Result<(), Stop>
     ensures ok { OnOk result ((text : List ℕ) × (kept_of config.now.size units.now ≡ AnOk text) × (0 < length text)
         × (out.new ≡ out.old ++ access_unit config.now key text)) }
@@ -141,7 +142,7 @@ fn put_access_unit(config: &Avcc, key: bool, units: &[u8], out: &mut Bytes) -> R
     Ok(())
 }
 
-/// A picture by its configuration.
+/// Frames a video unit by its configuration.
 #[tactic(auto, using(std::proofs::lemmas::Bool::Decides::nat_tests), unfolding(crate::specs::Frames::units_text))]
 fn picture_by(
     alloc: Global,
@@ -170,7 +171,7 @@ fn picture_by(
     })
 }
 
-/// A picture, by the configuration in force.
+/// Frames a video unit by the configuration in force.
 #[tactic(auto, using(std::proofs::lemmas::Bool::Decides::nat_tests), unfolding(crate::specs::Frames::video_frame))]
 pub fn make_picture(
     alloc: Global,
@@ -191,7 +192,7 @@ pub fn make_picture(
     }
 }
 
-/// Sound by its configuration.
+/// Frames an audio unit by its configuration.
 fn sound_by(alloc: Global, asc: Asc, time: u32, raw: &[u8]) -> Result<Framed, Stop>
     ensures made { Gives result (framed_of (some_raw asc time raw.now)) }
     ensures fits { IfOk result IsFramed }
@@ -215,7 +216,7 @@ fn sound_by(alloc: Global, asc: Asc, time: u32, raw: &[u8]) -> Result<Framed, St
     })
 }
 
-/// Sound, by the configuration in force.
+/// Frames an audio unit by the configuration in force.
 #[tactic(auto, using(std::proofs::lemmas::Bool::Decides::nat_tests), unfolding(crate::specs::Frames::audio_frame))]
 pub fn make_sound(
     alloc: Global,

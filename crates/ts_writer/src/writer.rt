@@ -20,7 +20,7 @@ use std::alloc::Global;
 use std::marker::Model;
 
 impl InForce {
-    /// None.
+    /// Gives no configurations.
     fn none() -> InForce
         ensures { result ≡ none_in_force }
     {
@@ -30,7 +30,7 @@ impl InForce {
         }
     }
 
-    /// The streams that they list.
+    /// Gives the streams that they list.
     fn listed(&self) -> Streams
         ensures { result ≡ listed_of self.now }
     {
@@ -40,7 +40,7 @@ impl InForce {
         }
     }
 
-    /// Takes a video configuration, or leaves none where it can't be read.
+    /// Takes a video configuration, or leaves none if it can't be read.
     fn set_video(&mut self, alloc: Global, body: &[u8]) -> Result<Option<Framed>, Stop>
         ensures made { Gives result (made_of (nothing_of (video_config body.now))) }
         ensures set { UnlessMemory result (self.new ≡ record { video = read_or_none (video_config body.now); audio = self.old.audio }) }
@@ -52,7 +52,7 @@ impl InForce {
         Ok(None)
     }
 
-    /// Takes an audio configuration, or leaves none where it can't be read.
+    /// Takes an audio configuration, or leaves none if it can't be read.
     fn set_audio(&mut self, body: &[u8]) -> Result<Option<Framed>, Stop>
         ensures made { Gives result (made_of (nothing_of (audio_config body.now))) }
         ensures set { UnlessMemory result (self.new ≡ record { video = self.old.video; audio = read_or_none (audio_config body.now) }) }
@@ -64,7 +64,7 @@ impl InForce {
         Ok(None)
     }
 
-    /// What is made of a unit, which is in force from then on where it is a configuration.
+    /// Makes a PES packet of a unit. If the unit is a configuration, it is in force from then on.
     fn read(&mut self, alloc: Global, unit: &Unit) -> Result<Option<Framed>, Stop>
         ensures made { Gives result (made_of (reading_of self.old unit.now.kind unit.now.time unit.now.body)) }
         ensures set { UnlessMemory result (self.new ≡ in_force_after self.old (AUnit unit.now)) }
@@ -90,7 +90,7 @@ impl InForce {
     }
 }
 
-/// Writes an item behind the text so far.
+/// Appends an item to the text so far.
 fn write(
     alloc: Global,
     in_force: &mut InForce,
@@ -116,7 +116,7 @@ fn write(
     }
 }
 
-/// Writes a unit behind the text so far.
+/// Appends a unit to the text so far.
 fn write_unit(
     alloc: Global,
     in_force: &mut InForce,
@@ -145,8 +145,8 @@ fn write_unit(
 
 /// Writes the items of a stream as a transport stream (ISO/IEC 13818-1): AVC as access units, and AAC in ADTS frames.
 ///
-/// It keeps the configurations in force, the next counter of each PID, and what the tables said last. Contracts see it as the
-/// items that it was given, the newest first, and whether it has wanted memory.
+/// It keeps the configurations in force, the next counter of each PID, and the contents of the last tables.
+/// Contracts see it as the items that it was given, the newest first, and whether memory was ever refused.
 #[derive(Drop)]
 pub struct TsWriter {
     alloc: Global,
@@ -168,7 +168,7 @@ impl Model for TsWriter {
 }
 
 impl TsWriter {
-    /// A writer that was given no item.
+    /// Makes a writer that was given no item.
     pub fn new(alloc: Global) -> TsWriter
         ensures { result ≡ fresh }
     {
@@ -181,13 +181,13 @@ impl TsWriter {
         }
     }
 
-    /// Appends what an item adds to the text of those before it: a unit in packets, and before it both tables where they
-    /// are due. Units of other codecs are left out, and those that can't be read, or without a configuration. A unit adds
-    /// four times its bytes and 131,072 at most.
+    /// Appends the bytes that an item adds to the text of those before it: a unit in packets, and before it
+    /// both tables if they are due. Units of other codecs, units that can't be read and units without a
+    /// configuration are left out. A unit adds at most four times its bytes plus 131,072.
     ///
-    /// Tables stand before the first unit, where the list of streams has changed, before each key picture, and without
-    /// pictures before each 33rd unit of sound. A writer that wanted memory wants it from then on; what `out` held is the
-    /// beginning of what it holds.
+    /// Tables stand before the first unit, before a unit if the list of streams has changed, before each
+    /// keyframe, and without video before each 33rd audio unit. A writer that was refused memory answers
+    /// `OutOfMemory` from then on. `out` always keeps its earlier bytes as its beginning.
     #[tactic(auto, unfolding(crate::specs::Text::item_text))]
     pub fn item(&mut self, item: &Item, out: &mut Bytes) -> Result<Wrote, OutOfMemory>
         ensures known { OnOk result (self.new ≡ given self.old item.now) }
@@ -212,7 +212,7 @@ impl TsWriter {
         }
     }
 
-    /// How many bytes it keeps: those of the parameter sets in force, at most 65,536.
+    /// Gives the number of bytes it keeps: those of the parameter sets in force, at most 65,536.
     pub fn held(&self) -> u64
         ensures sum { self.now.broken ≡ false → result ≡ held_of (in_force self.now.past) }
         ensures most { result ≤ 65536 }
@@ -224,7 +224,7 @@ impl TsWriter {
     }
 }
 
-/// The bytes of NAL units together.
+/// Gives the number of bytes of all NAL units together.
 fn length_of(list: &NalList) -> u64
     requires { lengths list.now ≤ 65536 }
     ensures { result ≡ lengths list.now }

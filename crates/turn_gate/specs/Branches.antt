@@ -1,4 +1,5 @@
--- Which passes were split off from which. A pass has its own branch first, and behind it those of the passes that it took in
+-- Which passes were split off from which. A pass has its own branch first, and behind it those of the passes
+-- that it took in
 use Rattle.std.specs.Prelude.{◌≡◌, ℕ, ◌+◌, if◌then◌else◌, nat_eq, List, [], ◌∷◌}
 use Rattle.turn_gate.specs.declared.view.Branch.{Branch}
 
@@ -29,13 +30,14 @@ abbrev pub cut_at : ℕ → List Branch → ℕ
 cut_at d [] = 0
 cut_at d (b ∷ bs) = (if nat_eq b.depth d then b.cut else 0) + cut_at d bs
 
--- THESE ARE ALL PASSES OF A GATE: the first one, all that were split off from it, all that were split off from these, and so on.
--- A pass with these branches has taken in every other, and nobody else can call
+-- THESE ARE ALL PASSES OF A GATE: the first one, all that were split off from it, all that were split off
+-- from these, and so on. A pass with these branches has taken in every other, and nobody else can call
 pub record IsWhole (kin : List Branch) : Type 0 where
   pub first : at_depth 0 kin ≡ 1
   pub each : (d : ℕ) → at_depth (d + 1) kin ≡ cut_at d kin
 
--- NO PASS IS MISSING, AND NONE CAME FROM ELSEWHERE: the second are the first, after passes were split off from them and taken in by each other
+-- NO PASS IS MISSING, AND NONE CAME FROM ELSEWHERE: the second are the first, after passes were split off
+-- from them and taken in by each other
 pub record Kindred (kin kin' : List Branch) : Type 0 where
   pub first : at_depth 0 kin' ≡ at_depth 0 kin
   pub each : (d : ℕ) → at_depth (d + 1) kin' + cut_at d kin ≡ at_depth (d + 1) kin + cut_at d kin'

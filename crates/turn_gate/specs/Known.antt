@@ -21,8 +21,8 @@ pub record PassKnown (A E : Type 0) : Type 0 where
   pub holds : Bool
   -- how often its swap of the turn word found the turn held by another pass
   pub met : ℕ
-  -- its place among the passes: how many splits lie between the first pass and it, and how many passes were split off from it;
-  -- then the same of each pass that it took in
+  -- its place among the passes: how many splits lie between the first pass and it, and how many passes were
+  -- split off from it; then the same of each pass that it took in
   pub kin : List Branch
   -- the calls that it has seen, with their replies: a beginning of the gate's history
   pub seen : List E
@@ -77,7 +77,8 @@ module _ {A E : Type 0} where
     pub same : Same v w
 
 module _ {C R : Type 0} where
-  -- WHAT A CALL SPLITS OFF FROM A ROOT: one pass, which the caller's takes in, once the turn was had. Where it wasn't had, nothing
+  -- WHAT A CALL SPLITS OFF FROM A ROOT: one pass, which the caller's takes in, once the turn was had. Where
+  -- it wasn't had, nothing
   abbrev pub SplitOnce : List Branch → List Branch → Result R (CallFail C) → List Branch → List Branch → Type 0
   SplitOnce root kin (Ok r) root' kin' = (root' ≡ cut_off root) × (kin' ≡ kin ++ offshoot root)
   SplitOnce root kin (Err (Busy c)) root' kin' = (root' ≡ root) × (kin' ≡ kin)
@@ -89,7 +90,8 @@ module _ {A C R : Type 0} where
   Failed lawful v call (Busy c) w = (c ≡ call) × (w ≡ met_once v)
   Failed lawful v call (Worn c) w = (c ≡ call) × IsWorn lawful v w
 
-  -- What is answered where the turn was found free: Ok exactly where the history has fewer than 2^62 calls then, and Worn exactly where it has 2^62
+  -- What is answered where the turn was found free: Ok exactly where the history has fewer than 2^62 calls
+  -- then, and Worn exactly where it has 2^62
   pub record Settled (v : PassKnown A (C × R)) (call : C) (result : Result R (CallFail C)) (w : PassKnown A (C × R)) : Type 0 where
     pub before : List (C × R)
     pub begins : Begins v.seen before

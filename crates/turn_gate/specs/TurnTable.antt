@@ -1,6 +1,6 @@
--- Only proofs and private functions use it; but that Busy means that another pass held the turn is read here (`Seizes`) and in src/rule.rt.
--- The gate's table. It has one word, the turn word, and one slot, where the machine lies with the number of its calls.
--- Each pass has a seat of it. What such a seat knows is its view.
+-- Only proofs and private functions use it; but that Busy means that another pass held the turn is read here
+-- (`Seizes`) and in src/rule.rt. The gate's table. It has one word, the turn word, and one slot, where the
+-- machine lies with the number of its calls. Each pass has a seat of it. What such a seat knows is its view.
 use Rattle.std.specs.Prelude.{◌≡◌, ◌≢◌, ℕ, ◌+◌, ◌<◌, ◌≤◌, Bool, true, false, List, [], ◌∷◌, ◌++◌, length, slice_index, Option, Some, None}
 use mathlib.Core.Option.{some}
 use lib.ListN.{get_elem?}
@@ -82,8 +82,9 @@ module _ {C R A : Type 0} where
   abbrev pub cuts_at : ℕ → View C R A → ℕ
   cuts_at d v = cut_at d v.kin
 
-  -- EVERY SEAT BUT THE FIRST WAS CUT OFF FROM ONE, which counts it: there is one branch of no depth, and of each further depth there are
-  -- as many as were cut off from those of one less. So no seat comes that none counts, and what is counted stays counted
+  -- EVERY SEAT BUT THE FIRST WAS CUT OFF FROM ONE, which counts it: there is one branch of no depth, and of
+  -- each further depth there are as many as were cut off from those of one less. So no seat comes that none
+  -- counts, and what is counted stays counted
   pub record Cuts (views : List (View C R A)) : Type 0 where
     pub one_first : total (branches_at 0) views ≡ 1
     pub each_counted : (d : ℕ) → total (branches_at (d + 1)) views ≡ total (cuts_at d) views
@@ -98,8 +99,9 @@ module _ {C R A : Type 0} where
   NoneHolds views = (j : ℕ) (v : View C R A) → get_elem? views j ≡ some v → v.holds ≡ false
 
   module _ {H : Type 0} (inside : A → H → List (C × R) → Type 0) where
-    -- The rule, which holds at every moment. `inside key` is what is said of what lies in the slot, at a history.
-    -- Nothing is asked of a slot that is out: the pass that holds the turn has its value in hand, and the history stays.
+    -- The rule, which holds at every moment. `inside key` is what is said of what lies in the slot, at a
+    -- history. Nothing is asked of a slot that is out: the pass that holds the turn has its value in hand,
+    -- and the history stays.
     pub record TurnRule (key : A) (s : State (Option H) (View C R A)) : Type 0 where
       pub one_word : length s.words ≡ 1
       pub one_slot : length s.homes ≡ 1

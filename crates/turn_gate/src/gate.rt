@@ -1,4 +1,4 @@
-//! A machine behind a turn word. The pass that has the turn has the machine.
+//! A machine behind a turn word. The pass that holds the turn may use the machine.
 ghost use Rattle.std.specs.Prelude.{◌≡◌, ◌++◌, [], length, IfOk, IfErr};
 ghost use Rattle.turn_gate.specs.Branches.{trunk, cut_off, offshoot, IsWhole};
 ghost use Rattle.turn_gate.specs.Histories.{Begins, longer, AreOwn, AreAll};
@@ -20,7 +20,7 @@ use std::marker::Model;
 pub enum CallFail<C> {
     /// Another pass held the turn.
     Busy(C),
-    /// The history has 2^62 calls, and takes no more.
+    /// The history has 2^62 calls, and takes no further call.
     Worn(C),
 }
 
@@ -35,13 +35,13 @@ impl<C> fmt::Display for CallFail<C> {
 
 impl<C: fmt::Debug + Drop> Error for CallFail<C> {}
 
-/// A machine that threads share. Each of them calls it through a pass of its own.
+/// A machine that threads share. Each thread calls it through a pass of its own.
 #[derive(Drop)]
 pub struct Gate<T: Machine> {
     turns: Table<Option<Counted<T>>, View<T::Call, T::Reply, T::About>, T::About, Turns<T>, Global>,
 }
 
-// Contracts see which gate it is.
+// Contracts see the gate's identity.
 impl<T: Machine> Model for Gate<T> {
     ghost use Rattle.std.specs.Prelude.{◌≡◌};
     ghost use Rattle.turn_gate.specs.Known.{GateId};
@@ -54,8 +54,8 @@ impl<T: Machine> Model for Gate<T> {
 }
 
 impl<T: Machine + Drop> Gate<T> {
-    /// A gate with no calls yet, and the first pass of it. `about` is what never changes of the machine. The error is want
-    /// of memory, and drops the machine.
+    /// Makes a gate with no calls yet, and its first pass. `about` is the part of the machine that never
+    /// changes. The error means that memory was refused, and drops the machine.
     pub fn new(
         alloc: Global,
         machine: T,
@@ -76,14 +76,14 @@ impl<T: Machine + Drop> Gate<T> {
         }
     }
 
-    /// Tries once to make a call, and never waits. The reply is the machine's after all calls before, which begin with those
-    /// that the pass had seen. `Busy` comes only where another pass held the turn, and `Worn` exactly where the turn was
-    /// free and the history has 2^62 calls. Both leave the machine as it was.
+    /// Tries once to make a call, and never waits. The reply is the machine's after all calls before, which
+    /// begin with those that the pass had seen. `Busy` comes only if another pass held the turn, and `Worn`
+    /// exactly if the turn was free and the history has 2^62 calls. Both leave the machine as it was.
     pub fn call(&self, pass: &mut Pass<T>, call: T::Call) -> Result<T::Reply, CallFail<T::Call>>
         requires { pass.old.gate ≡ self.now }
         ensures reply { IfOk result (λ r. Replied (T.lawful self.now.about) pass.old (call, r) pass.new) }
         ensures fails { IfErr result (λ e. Failed (T.lawful self.now.about) pass.old call e pass.new) }
-        // the turn was found free where `met` stays
+        // the turn was found free if `met` stays
         ensures free { pass.new.met ≡ pass.old.met → Settled pass.old call result pass.new }
         // no other pass was split off or taken in
         ensures kin { pass.new.kin ≡ pass.old.kin }
@@ -95,7 +95,8 @@ impl<T: Machine + Drop> Gate<T> {
         serve(turns, &mut pass.seat, &mut pass.calls, call)
     }
 
-    /// As `call`, and the calls before begin also with all that the root has seen. The root is noted once the turn is had.
+    /// Makes a call as `call` does; the calls before it begin also with all calls that the root has seen. The
+    /// root is noted once the turn is taken.
     pub fn call_after(
         &self,
         root: &mut Pass<T>,
@@ -105,7 +106,7 @@ impl<T: Machine + Drop> Gate<T> {
         requires { (root.old.gate ≡ self.now) × (pass.old.gate ≡ self.now) }
         ensures reply { IfOk result (λ r. RepliedAfter (T.lawful self.now.about) root.old.seen pass.old (call, r) pass.new) }
         ensures fails { IfErr result (λ e. Failed (T.lawful self.now.about) pass.old call e pass.new) }
-        // the turn was found free where `met` stays
+        // the turn was found free if `met` stays
         ensures free { pass.new.met ≡ pass.old.met → Settled pass.old call result pass.new }
         ensures root { root.new ≡ with_kin root.old root.new.kin }
         ensures kin { SplitOnce root.old.kin pass.old.kin result root.new.kin pass.new.kin }
@@ -120,7 +121,7 @@ impl<T: Machine + Drop> Gate<T> {
         serve(turns, &mut pass.seat, &mut pass.calls, call)
     }
 
-    /// A new pass, which has seen what the old one has, and made no call.
+    /// Makes a new pass, which has seen the same calls as the old one, and has made none.
     pub fn split(&self, pass: &mut Pass<T>) -> Pass<T>
         requires { pass.old.gate ≡ self.now }
         ensures new { result ≡ newcomer self.now (offshoot pass.old.kin) pass.old.seen }
@@ -133,8 +134,9 @@ impl<T: Machine + Drop> Gate<T> {
         }
     }
 
-    /// `into` has then seen the longer of what both have seen, which both begin, and has the own calls of both. The other is taken
-    /// in whole: nothing of it is left that could take the turn.
+    /// Takes the other pass into `into`. `into` has then seen the longer of the two passes' lists of calls; each
+    /// list is a beginning of it. It has the own calls of both. The other is taken in whole: nothing of it is
+    /// left that could take the turn.
     pub fn join(&self, into: &mut Pass<T>, other: Pass<T>)
         requires { (into.old.gate ≡ self.now) × (other.gate ≡ self.now) }
         ensures same { Same into.old into.new }
@@ -142,7 +144,7 @@ impl<T: Machine + Drop> Gate<T> {
         ensures seen { into.new.seen ≡ longer into.old.seen other.seen }
         ensures both { Begins into.old.seen into.new.seen × Begins other.seen into.new.seen }
         ensures mine { (into.new.mine ≡ into.old.mine ++ other.mine) × AreOwn into.new.mine (length into.new.seen) }
-        // where it has then taken in every other pass of the gate, nobody else called
+        // if it has then taken in every other pass of the gate, all calls that it has seen are its own
         ensures whole { IsWhole into.new.kin → AreAll into.new.mine (length into.new.seen) }
     {
         let Pass { seat, calls } = other;

@@ -1,13 +1,13 @@
 //! A machine that answers calls, one at a time.
 ghost use Rattle.std.specs.Prelude.{◌≡◌, List, [], ◌∷◌, ◌++◌, length, ◌<◌, ◌^◌};
 
-/// It stands for the history of its calls with their replies, the oldest first.
+/// A machine. It stands for the history of its calls with their replies, the oldest first.
 pub trait Machine {
     type Call;
 
     type Reply;
 
-    /// What never changes of the machine, as its limits.
+    /// The type of the machine's constant data, such as its limits.
     type About;
 
     ghost about: { Self → Self.About };

@@ -1,4 +1,4 @@
-//! What one caller knows of a gate.
+//! The knowledge that one caller has of a gate.
 ghost use Rattle.std.specs.Prelude.{◌≡◌, length, false};
 ghost use Rattle.turn_gate.specs.Histories.{AreOwn};
 
@@ -7,7 +7,7 @@ use crate::view::{Counted, View};
 use atomic_table::Seat;
 use std::marker::Model;
 
-/// The right to call a gate. It has seen a beginning of the gate's history.
+/// The right to call a gate. The pass has seen a beginning of the gate's history.
 #[derive(Drop)]
 pub struct Pass<T: Machine> {
     pub(crate) seat: Seat<Option<Counted<T>>, View<T::Call, T::Reply, T::About>>,
@@ -37,8 +37,8 @@ impl<T: Machine> Model for Pass<T> {
 }
 
 impl<T: Machine> Pass<T> {
-    /// The number of calls that this pass has seen. They are a lawful history, its own calls have each a place of its own
-    /// there, and it doesn't hold the turn.
+    /// Returns the number of calls that this pass has seen. They are a lawful history, each of its own calls
+    /// has a place of its own there, and it doesn't hold the turn.
     pub fn seen(&self) -> u64
         ensures count { result ≡ length self.now.seen }
         ensures lawful { T.lawful self.now.gate.about self.now.seen }

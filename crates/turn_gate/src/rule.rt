@@ -1,4 +1,4 @@
-//! The rule of the table, and what its steps tell.
+//! The rule of the table, and the facts that its steps give.
 ghost use Rattle.std.specs.Prelude.{Option, None};
 ghost use Rattle.turn_gate.specs.TurnTable.{TurnRule, opener, newcomer, cutting, spent, taking, noting, Seizes, Frees, Learns};
 ghost use Rattle.turn_gate.specs.InSlot.{InSlot};
@@ -45,7 +45,7 @@ impl<C, R> Said<C, R> for Nothing {
     ghost entry = { None };
 }
 
-/// The swap that frees the turn. The history grows by what was said.
+/// The swap that frees the turn. The history grows by the entry of `W`.
 pub struct Free<W> {
     marker: PhantomData<W>,
 }
@@ -54,7 +54,7 @@ impl<H, C, R, A, W: Said<C, R>> Play<Option<H>, View<C, R, A>> for Free<W> {
     ghost then = { λ _ m r n. Frees W.entry m n };
 }
 
-/// A new pass is cut off an old one.
+/// A new pass is split off from an old one.
 pub struct Newcomer;
 
 impl<C, R, A> Split<View<C, R, A>> for Newcomer {
@@ -72,7 +72,7 @@ impl<C, R, A> Join<View<C, R, A>> for TakesIn {
     ghost spent = { spent };
 }
 
-/// A pass takes in another, that has made no call, and notes what it has seen.
+/// A pass takes in another that has made no call, and notes the calls that it has seen.
 pub struct Noted;
 
 impl<C, R, A> Join<View<C, R, A>> for Noted {
@@ -81,7 +81,7 @@ impl<C, R, A> Join<View<C, R, A>> for Noted {
     ghost spent = { spent };
 }
 
-/// A pass learns that what it noted is a beginning of what it has seen.
+/// A pass learns that the calls that it noted are a beginning of those that it has seen.
 pub struct Learn;
 
 impl<H, C, R, A> Play<Option<H>, View<C, R, A>> for Learn {

@@ -1,4 +1,4 @@
-//! A call once its pass has the turn.
+//! A call once its pass holds the turn.
 ghost use Rattle.std.specs.Prelude.{◌≡◌, [], ◌∷◌, ◌++◌, Some};
 ghost use Rattle.turn_gate.specs.Histories.{grown};
 ghost use Rattle.turn_gate.specs.InSlot.{InSlot};
@@ -16,10 +16,10 @@ pub(crate) type TurnTable<T, C, R, A> = Shared<Option<Counted<T>>, View<C, R, A>
 
 pub(crate) type TurnSeat<T, C, R, A> = Seat<Option<Counted<T>>, View<C, R, A>>;
 
-/// The count of a full history.
+/// The number of calls in a full history.
 const FULL: u64 = 1 << 62;
 
-// The machine answers, and the turn is freed. `seen` becomes the number of calls in the history.
+// Lets the machine answer, and frees the turn. `seen` becomes the number of calls in the history.
 pub(crate) fn serve<T: Machine + Drop>(
     turns: &TurnTable<T, T::Call, T::Reply, T::About>,
     seat: &mut TurnSeat<T, T::Call, T::Reply, T::About>,
@@ -45,7 +45,7 @@ pub(crate) fn serve<T: Machine + Drop>(
     Ok(reply)
 }
 
-// The turn is freed: one swap.
+// Frees the turn: one swap.
 fn free<T: Machine + Drop, W: Said<T::Call, T::Reply>>(
     turns: &TurnTable<T, T::Call, T::Reply, T::About>,
     seat: &mut TurnSeat<T, T::Call, T::Reply, T::About>,
@@ -58,7 +58,7 @@ fn free<T: Machine + Drop, W: Said<T::Call, T::Reply>>(
     turns.swap::<Free<W>>(seat, 0, 0);
 }
 
-// The turn is freed, and the history grows by a call and its reply.
+// Frees the turn. The history grows by a call and its reply.
 fn free_after<T: Machine + Drop, W: Said<T::Call, T::Reply>>(
     turns: &TurnTable<T, T::Call, T::Reply, T::About>,
     seat: &mut TurnSeat<T, T::Call, T::Reply, T::About>,

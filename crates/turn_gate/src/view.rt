@@ -1,18 +1,20 @@
-//! What seats know, and what lies in the slot.
+//! The knowledge of seats, and the content of the slot.
 
 use std::collections::LinkedList;
 
-/// Where a pass stands among those of its gate: how many splits lie between the first pass and it, and how many passes were
-/// split off from it. No value of it is made.
+/// The place of a pass among those of its gate. `depth` is the number of splits between the first pass and
+/// it, and `cut` the number of passes that were split off from it. No value of this type is made.
 pub struct Branch {
     pub depth: u64,
     pub cut: u64,
 }
 
-/// What a seat knows. `holds`: it holds the turn, and then it has the `whole` history. `met`: how often its try found the
-/// turn held. `kin`: its own branch, and those of the seats that it took in; it has none once it was taken in. `of`: what
-/// never changes of the machine. It has the calls that it has `seen`, and the places of those that are `mine`; `noted` is
-/// what it took in from another. No value of it is made.
+/// The knowledge of a seat. No value of this type is made.
+///
+/// `holds`: it holds the turn, and then it has the `whole` history. `met`: the number of its tries that found
+/// the turn held. `kin`: its own branch, and those of the seats that it took in; it has none once it was
+/// taken in. `of`: the part of the machine that never changes. `seen`: the calls that it has seen. `mine`:
+/// the places of its own calls among them. `noted`: the calls that it took in from another.
 pub struct View<C, R, A> {
     pub holds: bool,
     pub met: u64,

@@ -40,7 +40,7 @@ impl KeptConfigs {
         }
     }
 
-    /// Goes past item `n`, which is kept where it is a configuration and else dropped.
+    /// Goes past item `n`, which is kept if it is a configuration and else dropped.
     pub fn pass(&mut self, n: u64, item: Item)
         ensures kept { self.new ≡ kept_after n item self.old }
         ensures small { AreSmall self.old → AreSmall self.new }
@@ -64,7 +64,7 @@ impl KeptConfigs {
         }
     }
 
-    /// The lengths of their bodies together.
+    /// Gives the sum of the lengths of their bodies.
     pub fn bytes(&self) -> u64
         ensures sum { result ≡ kept_sum self.now }
         ensures most { result ≤ 12582912 }

@@ -33,7 +33,7 @@ impl Marks {
         }
     }
 
-    /// Those in effect after item `n`.
+    /// Gives those in effect after item `n`.
     pub fn after(self, n: u64, item: &Item) -> Marks
         ensures { result ≡ marks_after n item.now self }
     {

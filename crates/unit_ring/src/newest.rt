@@ -1,11 +1,11 @@
-// What a ring knows of the end of its items.
+// The facts that a ring keeps about the end of its items.
 ghost use Rattle.std.specs.Prelude.{◌≡◌, ◌<◌, ◌+◌, ◌^◌, false, None};
 ghost use Rattle.unit_ring.specs.Marks.{no_marks, newest_after};
 
 use crate::marks::Marks;
 use av_unit::{Item, Kind};
 
-/// What is known at the end of the items.
+/// The facts at the end of the items.
 #[derive(Clone, Copy)]
 pub struct Newest {
     /// The number of items.
@@ -33,7 +33,7 @@ impl Newest {
         }
     }
 
-    /// The same after one item more.
+    /// Updates them after one more item.
     pub fn add(&mut self, item: &Item)
         requires { self.old.end + 1 < 2 ^ 64 }
         ensures { self.new ≡ newest_after item.now self.old }

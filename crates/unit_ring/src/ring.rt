@@ -35,7 +35,7 @@ impl Model for Ring {
 }
 
 impl Ring {
-    /// A ring with these limits and no item. It takes all its slots.
+    /// Makes a ring with these limits and no item. It takes all its slots.
     pub fn new(alloc: Global, limits: StreamLimits) -> Result<Ring, OutOfMemory>
         ensures { IfOk result (λ ring. ring ≡ record { limits = limits; items = [] }) }
     {
@@ -46,8 +46,8 @@ impl Ring {
         })
     }
 
-    /// Adds an item at the end, and drops what falls below the base; on condition that fewer than 3 × 2^62 items were
-    /// pushed. It takes no memory.
+    /// Adds an item at the end, and drops the items below the base. It requires that fewer than 3 × 2^62
+    /// items were pushed. It takes no memory.
     pub fn push(&mut self, item: Item)
         requires { length self.old.items < 3 * 2 ^ 62 }
         ensures { self.new ≡ record self.old { items = self.old.items ++ item ∷ [] } }
@@ -57,21 +57,22 @@ impl Ring {
         self.window.push(&self.limits, item, before);
     }
 
-    /// The base: the least number such that the items from it on fit the limits.
+    /// Gives the base: the least number such that the items from it on fit the limits.
     pub fn base(&self) -> u64
         ensures { result ≡ base self.now.limits self.now.items }
     {
         self.window.base
     }
 
-    /// The number of items that were pushed.
+    /// Gives the number of items that were pushed.
     pub fn end(&self) -> u64
         ensures { result ≡ length self.now.items }
     {
         self.newest.end
     }
 
-    /// The lengths of the bodies of the items from the base on and of the configurations in effect there, in bytes.
+    /// Gives the sum of the lengths of the bodies, in bytes: those of the items from the base on and of the
+    /// configurations in effect there.
     pub fn held(&self) -> u64
         ensures sum { result ≡ held self.now.limits self.now.items }
         ensures most { result ≤ self.now.limits.bytes + 196608 }
@@ -80,7 +81,7 @@ impl Ring {
         self.window.held()
     }
 
-    /// Item `n`, on condition that it lies in the window.
+    /// Gives item `n`, which must lie in the window.
     pub fn get(&self, n: u64) -> &Item
         requires { (base self.now.limits self.now.items ≤ n) × (n < length self.now.items) }
         ensures { slice_get self.now.items n ≡ Some result.now }
@@ -88,8 +89,8 @@ impl Ring {
         self.window.item(n)
     }
 
-    /// The configuration in effect at `n`, with its number, on condition that `n` isn't below the base or above the number
-    /// of items. None exactly where no configuration of that kind is in effect there.
+    /// Gives the configuration in effect at `n`, with its number. It requires that `n` isn't below the base
+    /// or above the number of items. None exactly if no configuration of that kind is in effect there.
     pub fn config_at(&self, n: u64, slot: Slot) -> Option<(u64, &UnitArc)>
         requires { (base self.now.limits self.now.items ≤ n) × (n ≤ length self.now.items) }
         ensures number { option_map (λ c. c.0) result ≡ config_at (slot_kind slot) self.now.items n }
@@ -104,7 +105,7 @@ impl Ring {
         }
     }
 
-    // The number of the configuration in effect at `n`.
+    // Gives the number of the configuration in effect at `n`.
     fn mark_at(&self, n: u64, slot: Slot) -> Option<u64>
         requires { (base self.now.limits self.now.items ≤ n) × (n ≤ length self.now.items) }
         ensures { result ≡ config_at (slot_kind slot) self.now.items n }
@@ -116,8 +117,8 @@ impl Ring {
         }
     }
 
-    /// Whether a player at number `n` lags: more than half as many items as the window may have, rounded down, are there from
-    /// it on.
+    /// Tells whether a player at number `n` lags: the number of items from `n` on is more than half of the
+    /// window's limit of items, rounded down.
     #[tactic(auto, using(std::proofs::lemmas::Bool::Decides::nat_tests))]
     pub fn lags(&self, n: u64) -> bool
         ensures { result ≡ lags self.now.limits self.now.items n }
@@ -126,8 +127,8 @@ impl Ring {
         half < self.newest.end.saturating_sub(n)
     }
 
-    /// The keyframe at which a player joins, if there is one: the newest that lies in the window and after the last Begin,
-    /// where the broadcast hasn't ended.
+    /// Gives the keyframe at which a player joins, if there is one. It is the newest that lies in the window
+    /// and after the last Begin, if the broadcast hasn't ended.
     pub fn newest_key(&self) -> Option<u64>
         ensures key { result ≡ newest_key self.now.limits self.now.items }
         ensures join { join self.now.limits self.now.items ≡ number_or (length self.now.items) result }
@@ -148,7 +149,7 @@ impl Ring {
         Some(key)
     }
 
-    /// The number of the last frame or Begin that was ever pushed.
+    /// Gives the number of the last frame or Begin that was ever pushed.
     pub fn last_video(&self) -> Option<u64>
         ensures { result ≡ last_where is_video self.now.items }
     {

@@ -28,15 +28,15 @@ pub struct Window {
     pub slots: VecDeque<Slotted>,
     /// The number of the first item in the slots.
     pub base: u64,
-    /// What the items in the slots cost together.
+    /// The sum of the costs of the items in the slots.
     pub cost: u64,
     pub kept: KeptConfigs,
-    /// All items that were pushed, which nothing keeps.
+    /// All items that were pushed, as data of contracts that takes no memory.
     pub items: Flow<Item>,
 }
 
 impl Window {
-    /// No item yet, with all slots taken.
+    /// Makes a window without items, and takes all its slots.
     pub fn new(alloc: Global, limits: StreamLimits) -> Result<Window, OutOfMemory>
         ensures window { IfOk result (λ w. IsWindow limits w) }
         ensures least { IfOk result (λ w. IsLeast limits w) }
@@ -51,7 +51,7 @@ impl Window {
         })
     }
 
-    // Whether there is room for one item more that costs so much.
+    // Tells whether there is room for one more item of that cost.
     fn has_room(&self, limits: &StreamLimits, more: u64) -> bool
         requires { self.now.cost ≤ limits.now.bytes }
         ensures room { (result ≡ true) ↔ HasRoom limits.now more self.now }
@@ -60,7 +60,7 @@ impl Window {
         self.slots.len() < limits.items as usize && more <= limits.bytes - self.cost
     }
 
-    // Drops the first item, which is kept where it is a configuration.
+    // Drops the first item. A configuration is kept.
     fn drop_first(&mut self, limits: &StreamLimits)
         requires window { IsWindow limits.now self.old }
         requires some { 0 < deque_len self.old.slots }
@@ -77,7 +77,7 @@ impl Window {
         }
     }
 
-    // Drops items until there is room for one more that costs so much, or no item is left.
+    // Drops items until there is room for one more of that cost, or no item is left.
     fn make_room(&mut self, limits: &StreamLimits, more: u64)
         requires window { IsWindow limits.now self.old }
         requires few { length self.old.items < 3 * 2 ^ 62 }
@@ -91,7 +91,8 @@ impl Window {
         }
     }
 
-    /// Adds an item at the end, before which these configurations are in effect, and drops what falls below the base.
+    /// Adds an item at the end, before which these configurations are in effect, and drops the items below
+    /// the base.
     pub fn push(&mut self, limits: &StreamLimits, item: Item, before: Marks)
         requires window { IsWindow limits.now self.old }
         requires least { IsLeast limits.now self.old }
@@ -113,7 +114,7 @@ impl Window {
         }
     }
 
-    /// Item `n`, which lies in the slots.
+    /// Gives item `n`, which lies in the slots.
     pub fn item(&self, n: u64) -> &Item
         requires { (self.now.base ≤ n) × (n < self.now.base + deque_len self.now.slots) }
         ensures { (limits : StreamLimits) → IsWindow limits self.now → slice_get self.now.items n ≡ Some result.now }
@@ -121,7 +122,7 @@ impl Window {
         &self.slots[(n - self.base) as usize].item
     }
 
-    /// The numbers of the configurations in effect at `n`, before which there is a slot.
+    /// Gives the numbers of the configurations in effect at `n`, before which there is a slot.
     pub fn marks(&self, n: u64) -> Marks
         requires { (self.now.base ≤ n) × (n < self.now.base + deque_len self.now.slots) }
         ensures { (limits : StreamLimits) → IsWindow limits self.now → result ≡ marks_at self.now.items n }
@@ -129,7 +130,7 @@ impl Window {
         self.slots[(n - self.base) as usize].before
     }
 
-    /// The lengths of all bodies together.
+    /// Gives the sum of the lengths of all bodies.
     pub fn held(&self) -> u64
         requires { (64 * deque_len self.now.slots ≤ self.now.cost) × (self.now.cost < 2 ^ 63) }
         ensures { result ≡ self.now.cost - 64 * deque_len self.now.slots + kept_sum self.now.kept }
@@ -138,7 +139,7 @@ impl Window {
     }
 }
 
-/// The unit of an item, if it is one.
+/// Gives the unit of an item, if it is one.
 pub fn unit_of(item: &Item) -> Option<&UnitArc>
     ensures { MatchOption result (is_unit item.now ≡ false) (λ u. item.now ≡ Item.Unit u.now) }
 {

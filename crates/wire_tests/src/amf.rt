@@ -14,7 +14,7 @@ const EACH_MARKER: &[u8] =
 \x0A\x00\x00\x00\x02\x05\x06\x0B\x01\x02\x03\x04\x05\x06\x07\x08\x09\x0A\x0C\x00\x00\x00\x01b\x0D\
 \x0F\x00\x00\x00\x01<\x10\x00\x01N\x00\x01k\x0D\x00\x00\x09\x10\x00\x00\x00\x00\x09";
 
-/// Writes the value at the front again, and gives what is behind it.
+/// Writes the value at the front again, and gives the bytes after it.
 fn front_again<'a>(alloc: Global, bytes: &'a [u8], out: &mut Bytes) -> Result<&'a [u8], AmfFail> {
     let (value, used) = decode(alloc, bytes)?;
     match encode(&value, out) {
@@ -23,7 +23,7 @@ fn front_again<'a>(alloc: Global, bytes: &'a [u8], out: &mut Bytes) -> Result<&'
     }
 }
 
-/// The values that are read, one after the other, as `encode` writes them.
+/// Reads values one after the other, and gives them as `encode` writes them.
 fn again(alloc: Global, bytes: &[u8]) -> Result<Bytes, AmfFail> {
     let mut out = Bytes::new(alloc);
     let mut left = bytes;
@@ -50,7 +50,7 @@ const REFUSED: &[u8] =
     b"|\x03\x00\x00\x08|\x02\x00\x05a|\x0A\xFF\xFF\xFF\xFF|\x0A\x00\x00\x00\x02\x04|\x0A\x00\x00\x00\x01\x04|\
 \x11|\x0C\x00\x01\x00\x00a|\x03\x00\x00|\x03\x00\x01a|\x08\x00\x00\x00\x09\x00\x01a\x0E|\x00\x01\x02\x03\x04\x05\x06\x07|";
 
-/// The letter of a refusal, and its place as a digit.
+/// Gives the letter of a refusal, and its place as a digit.
 fn refusal(alloc: Global, bytes: &[u8]) -> [u8; 2] {
     let (letter, at) = match decode(alloc, bytes) {
         Ok(_) => (b'-', 0),
@@ -76,7 +76,7 @@ fn refusals(alloc: Global, rows: &[u8]) -> Result<Bytes, OutOfMemory> {
     Ok(out)
 }
 
-/// So many strict arrays of one value, each inside the one before, and a null.
+/// Makes `count` strict arrays of one value, each inside the one before, and a null.
 fn nested(alloc: Global, count: u32) -> Result<Bytes, OutOfMemory> {
     let mut bytes = Bytes::new(alloc);
     for _ in 0..count {
@@ -103,7 +103,7 @@ fn refusals_have_their_places(rt: HostRuntime) -> Result<(), Fail> {
     Ok(())
 }
 
-/// Whether a number has that pattern and no other.
+/// Tells whether a number has that pattern and no other.
 fn has_pattern(number: u64, bits: u64) -> bool
     requires { number < 2 ^ 53 }
 {
@@ -122,7 +122,7 @@ fn whole_numbers_have_their_patterns(rt: HostRuntime) {
     assert!(rt; whole_of(0x4340_0000_0000_0000).is_none());
 }
 
-/// Adds what is kept of a value.
+/// Adds the part of a value that a `Brief` keeps.
 pub fn add_brief(brief: &Brief, out: &mut Bytes) -> Result<(), OutOfMemory> {
     match brief {
         Brief::Number(bits) => out.append(&bits.to_be_bytes()),
@@ -133,7 +133,7 @@ pub fn add_brief(brief: &Brief, out: &mut Bytes) -> Result<(), OutOfMemory> {
     }
 }
 
-/// Adds what a glance keeps of the value at the front, and how many bytes are behind it.
+/// Adds the part of the value at the front that a glance keeps, and the number of bytes after it.
 fn add_glance(alloc: Global, bytes: &[u8], out: &mut Bytes) -> Result<(), OutOfMemory> {
     match glance(alloc, bytes, 0) {
         Ok((brief, rest)) => {
@@ -144,7 +144,7 @@ fn add_glance(alloc: Global, bytes: &[u8], out: &mut Bytes) -> Result<(), OutOfM
     }
 }
 
-/// Adds what is found of a key: `-` where there is no object, and `.` where it has no such key.
+/// Adds the result of the search for a key: `-` if there is no object, and `.` if it has no such key.
 fn add_found(found: &Option<Option<Brief>>, out: &mut Bytes) -> Result<(), OutOfMemory> {
     match found {
         None => out.append(b"-"),
@@ -153,7 +153,7 @@ fn add_found(found: &Option<Option<Brief>>, out: &mut Bytes) -> Result<(), OutOf
     }
 }
 
-/// Adds what is kept of the first pair of a key, and how many bytes are behind the object.
+/// Adds the kept part of the first pair of a key, and the number of bytes after the object.
 fn add_pair(alloc: Global, bytes: &[u8], key: &[u8], out: &mut Bytes) -> Result<(), OutOfMemory> {
     match pair(alloc, bytes, key) {
         Ok((found, rest)) => {
@@ -164,7 +164,7 @@ fn add_pair(alloc: Global, bytes: &[u8], key: &[u8], out: &mut Bytes) -> Result<
     }
 }
 
-/// How many bytes are behind the value at the front.
+/// Gives the number of bytes after the value at the front.
 fn behind(bytes: &[u8]) -> usize {
     match skip(bytes, 32) {
         Ok(rest) => rest.len(),
@@ -172,7 +172,7 @@ fn behind(bytes: &[u8]) -> usize {
     }
 }
 
-/// The value at the front of each row, and the pair of `app` where it is an object.
+/// Gives the value at the front of each row, and the pair of `app` if it is an object.
 fn kept(alloc: Global, rows: &[u8]) -> Result<Bytes, OutOfMemory> {
     let mut out = Bytes::new(alloc);
     let mut left = rows;

@@ -6,8 +6,8 @@ use rtmp_command::{Answer, Command, CommandFail, Heard, Why, answer_body, comman
 use std::alloc::Global;
 use std::test::Fail;
 
-/// What encoders send to connect to the app `live`: the client of ffmpeg 5.1.9; nine fields; codecs in a strict array; and no
-/// version of the client. Then what a client sends to publish and to pause.
+/// The commands by which encoders connect to the app `live`: the client of ffmpeg 5.1.9; nine fields; codecs
+/// in a strict array; and no version of the client. Then the commands of a client to publish and to pause.
 const ENCODERS: &[u8] =
     b"\x02\x00\x07connect\x00?\xF0\x00\x00\x00\x00\x00\x00\x03\x00\x03app\x02\x00\x04live\
 \x00\x04type\x02\x00\x0Anonprivate\x00\x08flashVer\x02\x00\x24FMLE/3.0 (compatible; Lavf59.27.100)\
@@ -32,7 +32,7 @@ const OTHERS: &[u8] =
 \x05\x02\x00\x01a|\x02\x00\x01a\x05\x11|\x05\x11|\x05\x06|\x02\x00\x01a\x05\x05\x05\x11|\
 \x02\x00\x01a\x05\x03\x00\x03app\x02\x00\x02x|";
 
-/// Adds a space and the keys of the first argument where that is an object.
+/// Adds a space and the keys of the first argument if that is an object.
 fn add_keys(args: &[Amf], out: &mut Bytes) -> Result<(), OutOfMemory> {
     if let [Amf::Object(pairs), ..] = args {
         for pair in pairs.as_slice() {
@@ -69,7 +69,7 @@ fn add_command(alloc: Global, body: &[u8], out: &mut Bytes) -> Result<(), OutOfM
     }
 }
 
-/// Adds what is heard of a command: its name, its transaction, its app and its fourth value.
+/// Adds the fields that are read of a command: its name, its transaction, its app and its fourth value.
 fn add_heard(alloc: Global, body: &[u8], out: &mut Bytes) -> Result<(), OutOfMemory> {
     match hear(alloc, body) {
         Ok(
@@ -149,7 +149,7 @@ x0|x1|x0|x0|x5|x1|x0|x7|x?|";
     Ok(())
 }
 
-/// The cause that a letter stands for.
+/// Gives the cause that a letter stands for.
 fn why_of(letter: u8) -> Why {
     match letter {
         b'a' | b'f' => Why::RoleActive,
@@ -160,7 +160,7 @@ fn why_of(letter: u8) -> Why {
     }
 }
 
-/// The answer that a letter stands for: capital letters for those that tell no refusal.
+/// Gives the answer that a letter stands for: capital letters for those that aren't refusals.
 fn answer_of(letter: u8) -> Answer {
     match letter {
         b'C' => Answer::Connected {
@@ -187,7 +187,7 @@ fn answer_of(letter: u8) -> Answer {
     }
 }
 
-/// The bodies of the answers that the letters stand for.
+/// Gives the bodies of the answers that the letters stand for.
 fn bodies(alloc: Global, letters: &[u8]) -> Result<Bytes, OutOfMemory> {
     let mut out = Bytes::new(alloc);
     for letter in letters {
@@ -241,7 +241,7 @@ fn answers_are_written(rt: HostRuntime) -> Result<(), Fail> {
     Ok(())
 }
 
-/// A command of one letter with so many thousand nulls behind it.
+/// Makes a command of one letter, with that number of thousands of nulls after it.
 fn with_nulls(alloc: Global, thousands: u32) -> Result<Bytes, OutOfMemory> {
     let mut body = Bytes::new(alloc);
     body.append(b"\x02\x00\x01a")?;
@@ -251,7 +251,7 @@ fn with_nulls(alloc: Global, thousands: u32) -> Result<Bytes, OutOfMemory> {
     Ok(body)
 }
 
-/// How many arguments a command has.
+/// Gives the number of arguments of a command.
 fn count_args(alloc: Global, body: &[u8]) -> usize {
     match command_of(alloc, body) {
         Ok(command) => command.args.len(),

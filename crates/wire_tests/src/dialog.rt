@@ -8,10 +8,11 @@ use std::alloc::Global;
 use std::test::Fail;
 use stream_model::Reply;
 
-// A step begins with its letter: c, a, v, d, s and u for a message of type 20, 8, 9, 18, 1 and 4, and B, U, J, F and N for
-// the replies Began, InUse, Joined, Full and NoSlot. A message has the digit of its message stream behind it, and its body.
+// A step begins with its letter. The letters c, a, v, d, s and u are messages of type 20, 8, 9, 18, 1 and 4.
+// B, U, J, F and N are the replies Began, InUse, Joined, Full and NoSlot. A message has the digit of its
+// message stream after the letter, and then its body.
 
-/// What ffmpeg 5.1.9 sends to publish, with a key frame and a sound of few bytes.
+/// The messages of ffmpeg 5.1.9 to publish, with a keyframe and an audio frame of few bytes.
 const CONNECTS: &[u8] =
     b"c0\x02\x00\x07connect\x00\x3F\xF0\x00\x00\x00\x00\x00\x00\x03\x00\x03app\x02\x00\x04live\
 \x00\x04type\x02\x00\x0Anonprivate\x00\x08flashVer\x02\x00\x24FMLE/3.0 (compatible; Lavf59.27.100)\
@@ -33,8 +34,8 @@ a1\xAF\x01|\
 v1\x17\x02\x00\x00\x00|\
 c0\x02\x00\x0CdeleteStream\x00\x40\x1C\x00\x00\x00\x00\x00\x00\x05\x00\x3F\xF0\x00\x00\x00\x00\x00\x00|";
 
-/// What gstreamer's rtmp2sink sends: publish with transaction 0, its metadata again and again, and deleteStream with the
-/// stream's name.
+/// The messages of gstreamer's rtmp2sink: publish with transaction 0, its metadata again and again, and
+/// deleteStream with the stream's name.
 const GSTREAMER_PUBLISHES: &[u8] =
     b"c0\x02\x00\x07connect\x00\x3F\xF0\x00\x00\x00\x00\x00\x00\x03\x00\x03app\x02\x00\x05live/\
 \x00\x0AfourCcList\x0A\x00\x00\x00\x02\x02\x00\x04av01\x02\x00\x04hvc1\x00\x00\x09|\
@@ -47,7 +48,7 @@ d1\x02\x00\x0D@setDataFrame\x02\x00\x0AonMetaData\x08\x00\x00\x00\x00\x00\x00\x0
 c0\x02\x00\x0CdeleteStream\x00\x00\x00\x00\x00\x00\x00\x00\x00\x05\x02\x00\x03cam|\
 d1\x02\x00\x0D@setDataFrame\x02\x00\x0AonMetaData\x08\x00\x00\x00\x00\x00\x00\x09|";
 
-/// What ffmpeg 5.1.9 sends to play, and some switches.
+/// The messages of ffmpeg 5.1.9 to play, and some switches.
 const PLAYER: &[u8] =
     b"c0\x02\x00\x07connect\x00\x3F\xF0\x00\x00\x00\x00\x00\x00\x03\x00\x03app\x02\x00\x04live\
 \x00\x08flashVer\x02\x00\x0DLNX 9,0,124,2\x00\x05tcUrl\x02\x00\x1Brtmp://127.0.0.1:19510/live\
@@ -69,7 +70,7 @@ a1\xAF\x01|";
 const DELETES: &[u8] =
     b"c0\x02\x00\x0CdeleteStream\x00\x40\x14\x00\x00\x00\x00\x00\x00\x05\x00\x3F\xF0\x00\x00\x00\x00\x00\x00|";
 
-/// What is refused, and what is passed over.
+/// Messages that are refused, and messages that are ignored.
 const REFUSALS: &[u8] = b"c0\x02\x00\x0CcreateStream\x00\x40\x00\x00\x00\x00\x00\x00\x00\x05|\
 c0\x02\x00\x07connect\x00\x3F\xF0\x00\x00\x00\x00\x00\x00\x05|\
 c0\x02\x00\x07connect\x00\x3F\xF0\x00\x00\x00\x00\x00\x00\x03\x00\x03app\x02\x00\x09live/?a=b\x00\x00\x09|\
@@ -85,8 +86,8 @@ F|\
 c0\x05\x11|\
 c0|";
 
-/// Pictures that no other picture needs, before and behind configurations with lengths of 4 bytes and of 1 byte, and
-/// in the next publish.
+/// Video frames that no other frame needs, before and after configurations with lengths of 4 bytes and of 1
+/// byte, and in the next publish.
 const SPARES: &[u8] = b"v1\x27\x01\x00\x00\x00\x00\x00\x00\x01\x01|\
 v1\x17\x00\x00\x00\x00\x01\x64\x00\x1F\xFF|\
 v1\x27\x01\x00\x00\x00\x00\x00\x00\x01\x01|\
@@ -106,7 +107,7 @@ N|\
 c1\x02\x00\x04play\x00\x40\x10\x00\x00\x00\x00\x00\x00\x05\x02\x00\x03cam|\
 N|";
 
-/// The type of the message that a letter stands for.
+/// Gives the type of the message that a letter stands for.
 fn kind_of(letter: u8) -> u8 {
     match letter {
         b'a' => 8,
@@ -126,7 +127,7 @@ fn stream_of(digit: u8) -> u32 {
     }
 }
 
-/// The desk has the name `cam` of the app `live`, whose guard refuses the key `abd`.
+/// Gives the grant of a desk that has the name `cam` of the app `live`, whose guard refuses the key `abd`.
 fn grant_of(ask: &Ask) -> Grant {
     if ask.app.as_slice() != b"live".as_slice() || ask.name.as_slice() != b"cam".as_slice() {
         return Grant::NoName;
@@ -137,7 +138,7 @@ fn grant_of(ask: &Ask) -> Grant {
     Grant::Place(3)
 }
 
-/// Each message by its type, its message stream and the length of its body.
+/// Writes each message by its type, its message stream and the length of its body.
 fn add_messages(alloc: Global, list: &MessageList, out: &mut String) -> Result<(), Fail> {
     for message in list.as_slice() {
         let kind = message.kind;
@@ -263,7 +264,7 @@ fn take_step(
     }
 }
 
-/// What a dialogue makes of each step, one after the other.
+/// Writes the effect of each step on a dialogue, one after the other.
 fn tell(alloc: Global, dialog: &mut Dialog, script: &[u8], out: &mut String) -> Result<(), Fail> {
     let mut left = script;
     for _ in 0..script.len() {
@@ -277,7 +278,7 @@ fn tell(alloc: Global, dialog: &mut Dialog, script: &[u8], out: &mut String) -> 
     Ok(())
 }
 
-/// What a new one makes of scripts, one after the other.
+/// Writes the effects of scripts on a new dialogue, one after the other.
 fn told(alloc: Global, scripts: &[&[u8]]) -> Result<String, Fail> {
     let mut dialog = Dialog::new(alloc, 2_500_000);
     let mut out = String::new(alloc);
@@ -326,7 +327,7 @@ fn players_play(rt: HostRuntime) -> Result<(), Fail> {
     Ok(())
 }
 
-/// The player that a granted play has, and its switches.
+/// Gives the player that a granted play has, and its switches.
 fn switches(dialog: &Dialog) -> Option<(u32, bool, bool, bool)> {
     let playing = dialog.playing()?;
     Some((

@@ -3,7 +3,7 @@ use rtmp_handshake::*;
 use std::alloc::{AllocError, Global};
 use std::test::Fail;
 
-/// A client's C0, C1 and C2: version 3, time 01020304, a field that isn't zero, and other bytes.
+/// Gives a client's C0, C1 and C2: version 3, time 01020304, a field that isn't zero, and other bytes.
 fn client(alloc: Global) -> Result<Vec<u8>, AllocError> {
     let mut bytes = Vec::with_capacity(alloc, 3_073)?;
     for i in 0..3_073_usize {
@@ -12,7 +12,7 @@ fn client(alloc: Global) -> Result<Vec<u8>, AllocError> {
     Ok(bytes)
 }
 
-/// The byte of S0, S1 and S2 at a place, for that client.
+/// Gives the byte of S0, S1 and S2 at a place, for that client.
 fn answer_at(i: usize) -> u8 {
     match i {
         0 => 3,
@@ -27,7 +27,7 @@ fn answer_at(i: usize) -> u8 {
     }
 }
 
-/// Whether these bytes are the whole answer.
+/// Tells whether these bytes are the whole answer.
 fn is_answer(out: &[u8]) -> bool {
     if out.len() != 3_073 {
         return false;
@@ -40,7 +40,8 @@ fn is_answer(out: &[u8]) -> bool {
     true
 }
 
-/// What is answered to a piece: `.` that it goes on, `!` that it is done and left so many bytes, and a letter that it is refused.
+/// Adds the answer to a piece: `.` or, if the handshake is done, `!`, then the number of bytes left; or a
+/// refusal.
 fn add_fed(
     hand: &mut Hand,
     alloc: Global,
@@ -60,7 +61,7 @@ fn add_fed(
     Ok(())
 }
 
-/// Feeds the bytes in pieces of so many.
+/// Feeds the bytes in pieces of that length.
 fn feed_parts(
     hand: &mut Hand,
     alloc: Global,
@@ -75,7 +76,7 @@ fn feed_parts(
     Ok(())
 }
 
-/// What is told of the pieces, and behind that `=` where the whole answer was sent.
+/// Gives the answers to the pieces, and after them `=` if the whole answer was sent.
 fn told(alloc: Global, bytes: &[u8], piece: usize) -> Result<Bytes, Fail> {
     let mut hand = Hand::new(alloc);
     let mut out = Bytes::new(alloc);

@@ -19,28 +19,28 @@ fn only(alloc: Global, key: &[u8]) -> Result<Grants, AllocError> {
     Ok(Grants::Keys(KeyList::from_vec(vec![in alloc; key]?)))
 }
 
-// Whether the grants allow the key in mode `Plain`.
+// Tells whether the grants allow the key in mode `Plain`.
 fn is_plain(grants: &Grants, name: &[u8], key: &[u8]) -> bool
     ensures { result ≡ is_allowed Mode.Plain grants.now name.now key.now }
 {
     by_name(grants, name, key)
 }
 
-// Whether the grants allow the key in mode `Digest`.
+// Tells whether the grants allow the key in mode `Digest`.
 fn is_digested(grants: &Grants, name: &[u8], key: &[u8]) -> bool
     ensures { result ≡ is_allowed Mode.Digest grants.now name.now key.now }
 {
     by_digest(grants, name, key)
 }
 
-// Whether the grants allow the key in mode `Named`.
+// Tells whether the grants allow the key in mode `Named`.
 fn is_named(grants: &Grants, name: &[u8], key: &[u8]) -> bool
     ensures { result ≡ is_allowed Mode.Named grants.now name.now key.now }
 {
     by_named(grants, name, key)
 }
 
-// The guards of a relay.
+// Makes the guards of a relay.
 fn guards(alloc: Global) -> Result<Guards, Fail> {
     let plain = Guard::new(Mode::Plain, Box::new(alloc, is_plain)?);
     let digest = Guard::new(Mode::Digest, Box::new(alloc, is_digested)?);
@@ -48,7 +48,7 @@ fn guards(alloc: Global) -> Result<Guards, Fail> {
     Ok(Guards::new(plain, digest, named))
 }
 
-// By each mode and each key, whether the grants allow it for `cam`.
+// Writes, for each mode and each key, whether the grants allow it for `cam`.
 fn told(alloc: Global, guards: &Guards, grants: &Grants) -> Result<Bytes, Fail> {
     let mut out = Bytes::new(alloc);
     for mode in [Mode::Plain, Mode::Digest, Mode::Named] {

@@ -1,4 +1,7 @@
-//! Tests of numbers, units, keys and the outside in memory, and of what goes over the wire: chunks, values, commands, the handshake and the dialogue.
+//! Tests of numbers, units, keys and the in-memory outside, and of the bytes on the wire: chunks, values,
+//! commands, the handshake and the dialogue.
+//!
+//! Read `rows.rt` first: it splits the inputs of many tests. The crate has tests alone, and opens no socket.
 #![tactic(auto)]
 
 #[cfg(test)]

@@ -9,7 +9,7 @@ use relay_outside::{
 use std::alloc::{AllocError, Global};
 use std::test::Fail;
 
-// The answer of a get with room for so many bytes, up to four, and the bytes.
+// Gives the answer of a get with room for `room` bytes, up to four, and the bytes.
 fn next<S: Source>(
     source: &mut S,
     alloc: Global,
@@ -85,7 +85,7 @@ fn hear<L: Link>(link: &mut L, out: &mut Vec<u8>) -> Result<(), AllocError> {
     }
 }
 
-// Writes how many of two bytes a send took, else a letter.
+// Writes the number of bytes, of two, that a send took, else a letter.
 fn say<L: Link>(link: &mut L, out: &mut Vec<u8>) -> Result<(), AllocError> {
     match link.send(b"xy") {
         Said::Took(2) => out.extend_from_slice(b"2"),
@@ -96,7 +96,7 @@ fn say<L: Link>(link: &mut L, out: &mut Vec<u8>) -> Result<(), AllocError> {
     }
 }
 
-// Makes the call of that letter, and writes what it answers.
+// Makes the call of that letter, and writes its answer.
 fn call(
     link: &mut MemLink,
     alloc: Global,
@@ -119,7 +119,7 @@ fn call(
     Ok(())
 }
 
-// What a new link answers to the calls of these letters.
+// Gives the answers of a new link to the calls of these letters.
 fn answers(alloc: Global, letters: &[u8]) -> Result<Vec<u8>, AllocError> {
     let mut link = MemLink::new(alloc);
     let mut out = Vec::new(alloc);
@@ -136,9 +136,9 @@ fn a_link_answers_as_its_input_its_room_and_its_faults_say(rt: HostRuntime) -> R
         (b"rghgrrrrrergrrr".as_slice(), b"NabcabcNEabcE".as_slice()),
         // one recv and one send fail, and take nothing
         (b"gRSrrssvrr", b"FabF2xycN"),
-        // no more than the room, until there is more
+        // at most the room, until there is more
         (b"s3sssSssvasv", b"221NFNxyxyx2xyxyxxy"),
-        // what was handed over is gone
+        // bytes that were handed over are gone
         (b"sstvst", b"22xyxy2xy"),
     ] {
         let given = answers(rt.alloc(), calls)?;
@@ -155,8 +155,8 @@ fn new_link(alloc: Global, input: &[u8]) -> Result<MemLink, AllocError>
     Ok(link)
 }
 
-// Asks a door for a link. Writes what the link gives, says two bytes to it and hands it back; writes a
-// letter where there is none.
+// Asks a door for a link. Writes the bytes of the link, sends two bytes to it and hands it back; writes a
+// letter if there is none.
 fn knock<D: Door>(door: &mut D, out: &mut Vec<u8>) -> Result<(), AllocError>
     requires { (D.told door.old).given < 2 ^ 40 }
     ensures { (D.told door.new).given ≤ (D.told door.old).given + 1 }
@@ -190,8 +190,8 @@ fn a_door_gives_its_links_in_order_and_closes(rt: HostRuntime) -> Result<(), Fai
     Ok(())
 }
 
-// Asks a house for the door of a worker, knocks, and shuts the door once it is closed. Writes a letter
-// where there is no door.
+// Asks a house for the door of a worker, knocks, and shuts the door once it is closed. Writes a letter if
+// there is no door.
 fn visit<H: House>(house: &mut H, worker: u32, out: &mut Vec<u8>) -> Result<(), AllocError> {
     match house.door(worker, b"", 1) {
         None => out.extend_from_slice(b"F"),

@@ -32,7 +32,7 @@ C\x00\x00\x00\x00\x00\x19\x14\x02\x00\x0ccreateStream\x00@\x00\x00\x00\x00\x00\x
 B\x00\x00\x01\x00\x00\x0a\x04\x00\x03\x00\x00\x00\x01\x00\x00\x0b\xb8\
 C\x00\x00\x00\x00\x00\x22\x14\x02\x00\x0cdeleteStream\x00@\x14\x00\x00\x00\x00\x00\x00\x05\x00?\xf0\x00\x00\x00\x00\x00\x00";
 
-// What one call answers to a piece, and how many bytes it used.
+// Gives the answer of one call to a piece, and the number of bytes it used.
 fn answer(reader: &mut Reader, alloc: Global, piece: &[u8]) -> Result<(String, usize), AllocError> {
     match reader.feed(alloc, piece) {
         Err(ReadFail { cause, at }) => {
@@ -66,7 +66,7 @@ fn answer(reader: &mut Reader, alloc: Global, piece: &[u8]) -> Result<(String, u
     }
 }
 
-// Feeds a piece to its end, and tells each message, or the refusal.
+// Feeds a piece to its end, and writes each message, or the refusal.
 fn feed_all(
     reader: &mut Reader,
     alloc: Global,
@@ -103,8 +103,8 @@ fn feed_pieces(
     Ok(())
 }
 
-// What a reader gives of these pieces: type, message stream, time and length of each message, or the refusal, and then the bytes
-// that it holds.
+// Gives the output of a reader for these pieces: type, message stream, time and length of each message, or
+// the refusal. After them come the bytes that it holds.
 fn given_by(mut reader: Reader, alloc: Global, pieces: &[&[u8]]) -> Result<String, AllocError> {
     let mut text = String::new(alloc);
     let fed = feed_pieces(&mut reader, alloc, pieces, &mut text);
@@ -115,12 +115,12 @@ fn given_by(mut reader: Reader, alloc: Global, pieces: &[&[u8]]) -> Result<Strin
     Ok(text)
 }
 
-// What one of messages up to 4,096 bytes gives.
+// Gives the output of a reader of messages up to 4,096 bytes.
 fn given(alloc: Global, pieces: &[&[u8]]) -> Result<String, AllocError> {
     given_by(Reader::new(alloc, 4_096), alloc, pieces)
 }
 
-// What it gives of a row.
+// Gives its output for a row.
 fn row(alloc: Global, letter: u8) -> Result<String, AllocError> {
     match letter {
         // A message at 16,777,216 ms in two chunks.
@@ -133,7 +133,7 @@ fn row(alloc: Global, letter: u8) -> Result<String, AllocError> {
                 &RUN[..72],
             ],
         ),
-        // A fresh id wants a header.
+        // A fresh id needs a full header.
         b'b' => given(alloc, &[b"\xc4", b"\x04"]),
         b'c' => given(alloc, &[b"\x81\xff\xff"]),
         // A message of 4,097 bytes, and a chunk size of 2^31 and more.
@@ -231,7 +231,7 @@ BadChunkSize { value: 2147483776 } at 15, held 0\n\
     Ok(())
 }
 
-// Messages that are begun on ids whose last byte is below that, each with some payload.
+// Makes messages that are begun on ids whose last byte is below that, each with some payload.
 fn begun(
     alloc: Global,
     front: &[u8],
@@ -292,7 +292,7 @@ fn what_ffmpeg_sends_to_publish_is_read(rt: HostRuntime) -> Result<(), Fail> {
     Ok(())
 }
 
-// The most memory of a message that ends in a piece.
+// Gives the memory in bytes of the message that ends in a piece, else 0.
 fn memory_of(reader: &mut Reader, alloc: Global, piece: &[u8]) -> usize {
     match reader.feed(alloc, piece) {
         Ok(
@@ -305,7 +305,7 @@ fn memory_of(reader: &mut Reader, alloc: Global, piece: &[u8]) -> usize {
     }
 }
 
-// The most of a message of 70,000 bytes in pieces of 1,000, which come behind these.
+// Gives the largest memory of a message of 70,000 bytes in pieces of 1,000, which come after these.
 fn memory_behind(reader: &mut Reader, alloc: Global, front: &[u8]) -> usize {
     let mut most = memory_of(reader, alloc, front);
     for _ in 0..70 {
@@ -314,7 +314,7 @@ fn memory_behind(reader: &mut Reader, alloc: Global, front: &[u8]) -> usize {
     most
 }
 
-// A message longer than 65,536 bytes keeps no more memory than it has bytes.
+// A message longer than 65,536 bytes takes at most as much memory as it has bytes.
 #[test]
 fn a_body_has_the_memory_of_its_length(rt: HostRuntime) -> Result<(), Fail> {
     let alloc = rt.alloc();

@@ -3,29 +3,31 @@ use av_unit::*;
 use std::alloc::Global;
 use std::test::Fail;
 
-// A row is a message with `|` behind it: a letter for its type, a digit for how many bytes the lengths of NAL units have, and its
-// body. The AVC bodies and the metadata are the first bytes of those that ffmpeg 5.1.9 publishes; `12 10` is the
-// AudioSpecificConfig of AAC LC at 44,100 Hz in stereo, and `2f ff fb` begins MP3.
+// A row is a message with `|` after it. It has a letter for its type, a digit for the number of bytes of a
+// NAL unit's length, and its body. The AVC bodies and the metadata are the first bytes of those that ffmpeg
+// 5.1.9 publishes. `12 10` is the AudioSpecificConfig of AAC LC at 44,100 Hz in stereo, and `2f ff fb` begins
+// MP3.
 
 /// Nothing, AAC and MP3.
 const SOUND: &[u8] =
     b"a4|a4\xaf\x00\x12\x10|a4\xa0\x00|a4\xaf\x01\x21\x1b\x8f|a4\xaf|a4\x2f\xff\xfb\x90|a4\x2f\x00|";
 
-/// Nothing, frame types that aren't a picture's, AVC, and other codecs.
+/// Nothing, frame types that aren't a video frame's, AVC, and other codecs.
 const VIDEO: &[u8] = b"v4|v4\x07\x01|v4\x57\x01|v4\x52\x00|v4\xf2\x00|\
 v4\x17|v4\x17\x00\x00\x00\x00\x01\x4d\x40\x0d\xff\xe1|v4\x27\x00|v4\x17\x01\x00\x00\x50\x00\x00\x02\xba\x06|v4\x47\x01|\
 v4\x27\x01\x00\x00\xc8\x00\x00\x05\x09\x41|v4\x37\x01|v4\x17\x02\x00\x00\x00|v4\x27\x03|\
 v4\x12|v4\x14\x00|v4\x42\x02|v4\x22\x00|v4\x32\x02|";
 
-/// Nothing, data behind `@setDataFrame`, data without it, and messages of other types.
+/// Nothing, data after `@setDataFrame`, data without it, and messages of other types.
 const DATA: &[u8] = b"d4|\
 d4\x02\x00\x0d@setDataFrame\x02\x00\x0aonMetaData\x08\x00\x00|d4\x02\x00\x0d@setDataFrame\x02\x00\x0bonTextData\x08\x00\x00|\
 d4\x02\x00\x0d@setDataFrame|d4\x02\x00\x0d@setDataFrame\x02\x00\x0d@setDataFrame|d4\x02\x00\x0d@setDataFram|\
 d4\x02\x00\x0aonMetaData|d4\x02\x00\x0aonMetaDat|d4\x02\x00\x0aonCuePoint\x03|d4\x02|\
 s4\xaf\x00\x12\x10|k4\x02\x00\x0aonMetaData|c4\x02\x00\x0d@setDataFrame\x02\x00\x0aonMetaData|x4\x17\x01\x00\x00\x50|";
 
-/// A slice that no other picture refers to, with lengths of 4, 2 and 1 byte, and with sizes of which there are no lengths; two of
-/// them; one behind a delimiter and SEI, then one that others refer to; an empty unit behind one.
+/// A slice that no other frame refers to, with lengths of 4, 2 and 1 byte, and with sizes of which there are
+/// no lengths. Then two such slices; one after a delimiter and SEI, then one that others refer to; an empty
+/// unit after one.
 const SLICES: &[u8] =
     b"v4\x27\x01\x00\x00\x00\x00\x00\x00\x02\x01\xaa|v2\x27\x01\x00\x00\x00\x00\x02\x01\xaa|v1\x27\x01\x00\x00\x00\x02\x01\xaa|\
 v3\x27\x01\x00\x00\x00\x00\x00\x01\x01|v0\x27\x01\x00\x00\x00\x00\x00\x00\x02\x01\xaa|v8\x27\x01\x00\x00\x00\x00\x00\x00\x02\x01\xaa|\
@@ -33,15 +35,16 @@ v4\x27\x01\x00\x00\x00\x00\x00\x00\x01\x01\x00\x00\x00\x01\x05|\
 v4\x27\x01\x00\x00\x00\x00\x00\x00\x02\x09\x10\x00\x00\x00\x02\x06\x80\x00\x00\x00\x02\x01\xaa\x00\x00\x00\x01\x41|\
 v4\x27\x01\x00\x00\x00\x00\x00\x00\x01\x01\x00\x00\x00\x00|";
 
-/// NAL units of types 2, 3, 4 and 5 and with the forbidden bit; those that are referred to, by bit 5, bit 6 and both; no slices,
-/// of types 0, 6, 7, 9 and 20. What a publisher calls disposable, which isn't believed; a keyframe; another codec's picture.
+/// NAL units of types 2, 3, 4 and 5 and with the forbidden bit. Then those that are referred to, by bit 5,
+/// bit 6 and both. Then units that aren't slices, of types 0, 6, 7, 9 and 20. Then a frame that a publisher
+/// marks as disposable, which isn't believed; a keyframe; a frame of another codec.
 const OTHERS: &[u8] = b"v1\x27\x01\x00\x00\x00\x01\x02\x01\x03\x01\x04\x01\x05\x01\x81|\
 v1\x27\x01\x00\x00\x00\x01\x21\x01\x01|v1\x27\x01\x00\x00\x00\x01\x41\x01\x01|v1\x27\x01\x00\x00\x00\x01\x65\x01\x01|\
 v1\x27\x01\x00\x00\x00\x01\x00\x01\x06\x01\x67\x01\x09\x01\x14|\
 v4\x37\x01\x00\x00\x00\x00\x00\x00\x01\x41|v4\x37\x01\x00\x00\x00\x00\x00\x00\x01\x01|\
 v4\x17\x01\x00\x00\x00\x00\x00\x00\x01\x01|v4\x22\x01\x00\x00\x00\x00\x00\x00\x01\x01|";
 
-/// Sequence headers, of which `l` asks how many bytes lengths have.
+/// Sequence headers; for type `l` the test asks for the number of bytes of a NAL unit's length.
 const HEADERS: &[u8] =
     b"l4\x17\x00\x00\x00\x00\x01\x64\x00\x1f\xff\xe1|l4\x17\x00\x00\x00\x00\x01\x64\x00\x1f\x03|\
 l4\x17\x00\x00\x00\x00\x01\x64\x00\x1f\xfe|l4\x17\x00\x00\x00\x00\x01\x64\x00\x1f\xfd|l4\x17\x00\x00\x00\x00\x01\x64\x00\x1f\xfc|\
@@ -59,7 +62,7 @@ fn message_of(letter: u8) -> u8 {
     }
 }
 
-// A class as a letter, a small one where the unit begins behind `@setDataFrame`.
+// Gives a class as a letter, a small one if the unit begins after `@setDataFrame`.
 fn letter(class: Option<Class>) -> u8 {
     let Some(Class { kind, from }) = class else {
         return b'-';
@@ -81,7 +84,7 @@ fn letter(class: Option<Class>) -> u8 {
     }
 }
 
-// What is told of a row, in one byte.
+// Gives the result for a row, in one byte.
 fn told(row: &[u8]) -> u8 {
     match row {
         [b'l', _, body @ ..] => b'0'.wrapping_add(length_size(body)),
@@ -90,7 +93,7 @@ fn told(row: &[u8]) -> u8 {
     }
 }
 
-// What is told of each row.
+// Gives the result for each row.
 fn told_rows(alloc: Global, rows: &[u8]) -> Result<Bytes, OutOfMemory> {
     let mut text = Bytes::new(alloc);
     let mut left = rows;
@@ -104,7 +107,7 @@ fn told_rows(alloc: Global, rows: &[u8]) -> Result<Bytes, OutOfMemory> {
     Ok(text)
 }
 
-// The same of each beginning of a row's body, the empty one first, in a line for each row.
+// Gives the result for each beginning of a row's body, the empty one first, in a line for each row.
 fn told_beginnings(alloc: Global, rows: &[u8]) -> Result<Bytes, OutOfMemory> {
     let mut text = Bytes::new(alloc);
     let mut left = rows;
@@ -159,7 +162,7 @@ fn a_configuration_tells_the_size_of_lengths(rt: HostRuntime) -> Result<(), Fail
     Ok(())
 }
 
-// What is told of each row with so many bytes of body, of which those that the row hasn't are zero.
+// Gives the result for each row with `len` bytes of body; the bytes that the row doesn't have are zero.
 fn told_filled(alloc: Global, rows: &[u8], len: usize) -> Result<Bytes, OutOfMemory> {
     let mut text = Bytes::new(alloc);
     let mut left = rows;
@@ -200,7 +203,7 @@ fn a_configuration_has_at_most_65_536_bytes(rt: HostRuntime) -> Result<(), Fail>
     Ok(())
 }
 
-// The type, the time and the body of the unit that a message is.
+// Gives the type, the time and the body of the unit that a message is.
 fn unit_text(alloc: Global, message: u8, body: &[u8]) -> Result<Bytes, OutOfMemory> {
     let mut out = Bytes::new(alloc);
     let mut given = Bytes::new(alloc);

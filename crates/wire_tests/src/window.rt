@@ -5,7 +5,7 @@ use chunk_wire::Message;
 use std::alloc::Global;
 use std::test::Fail;
 
-/// A message on stream 0 at time 0.
+/// Makes a message on stream 0 at time 0.
 fn message(alloc: Global, kind: u8, bytes: &[u8]) -> Result<Message, OutOfMemory> {
     let mut body = Bytes::new(alloc);
     body.append(bytes)?;
@@ -17,13 +17,13 @@ fn message(alloc: Global, kind: u8, bytes: &[u8]) -> Result<Message, OutOfMemory
     })
 }
 
-/// The digit of a message's type, and its body.
+/// Adds the digit of a message's type, and its body.
 fn add_message(message: &Message, out: &mut Bytes) -> Result<(), OutOfMemory> {
     out.append(&[b'0'.wrapping_add(message.kind)])?;
     out.append(message.body.as_slice())
 }
 
-/// Adds what is written of the control that is read, and what answers it.
+/// Adds the bytes written of the control that is read, and its answer.
 fn add_again(alloc: Global, kind: u8, body: &[u8], out: &mut Bytes) -> Result<(), OutOfMemory> {
     match control_of(&message(alloc, kind, body)?) {
         Ok(Some(control)) => {
@@ -38,7 +38,7 @@ fn add_again(alloc: Global, kind: u8, body: &[u8], out: &mut Bytes) -> Result<()
     }
 }
 
-/// The same of each row: the digit of a type, and a body.
+/// Gives the result for each row: the digit of a type, and a body.
 fn again(alloc: Global, rows: &[u8]) -> Result<Bytes, OutOfMemory> {
     let mut out = Bytes::new(alloc);
     let mut left = rows;
@@ -84,19 +84,19 @@ fn a_window_counts_from_the_byte_after_it_was_set(rt: HostRuntime) {
     assert_eq!(rt; inbound.took(1_000), Some(4_000));
 }
 
-/// Whether one is held back that took an acknowledgement.
+/// Tells whether a sender is held back that took an acknowledgement.
 fn holds_acked(outbound: &mut Outbound, value: u32) -> bool {
     outbound.acked(value);
     outbound.held_back()
 }
 
-/// Whether one is held back that has sent so many bytes.
+/// Tells whether a sender is held back after it sent that number of bytes.
 fn holds_sent(outbound: &mut Outbound, count: u64) -> bool {
     outbound.sent(count);
     outbound.held_back()
 }
 
-/// Whether one is held back whose window was set.
+/// Tells whether a sender is held back whose window was set.
 fn holds_set(outbound: &mut Outbound, size: u32, limit: u8) -> bool {
     outbound.set(size, limit);
     outbound.held_back()

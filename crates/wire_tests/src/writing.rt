@@ -8,7 +8,7 @@ use chunk_writer::Writer;
 use std::alloc::Global;
 use std::test::Fail;
 
-/// The type that a letter stands for.
+/// Gives the type that a letter stands for.
 fn kind_of(letter: u8) -> u8
     ensures { is_written result ≡ true }
 {
@@ -37,7 +37,7 @@ fn put(writer: &mut Writer, row: &[u8], out: &mut Bytes) -> Result<(), OutOfMemo
     }
 }
 
-/// What is written of the messages in chunks of that size.
+/// Gives the bytes written of the messages in chunks of that size.
 fn written(alloc: Global, size: u32, rows: &[u8]) -> Result<Bytes, OutOfMemory>
     requires some { 1 ≤ size }
     requires most { size < 2 ^ 31 }

@@ -1,7 +1,7 @@
 use Rattle.std.proofs.Common.{rules, ◌≡◌, Some, OnOk}
 use Rattle.command_dialog.specs.declared.types.Ask.{Ask}
 use Rattle.command_dialog.specs.declared.types.Grant.{Grant}
-use Rattle.relay_session.specs.Grants.{granted_from}
+use Rattle.config_desk.specs.Grants.{granted_from}
 use Rattle.relay_replay.specs.Plays.{Told, session_in}
 use Rattle.relay_replay.proofs.Opening.{by_line, line_opens, line_plays}
 use Rattle.relay_replay.proofs.scene.play.Goals as goal

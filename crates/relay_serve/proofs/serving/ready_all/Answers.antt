@@ -3,7 +3,7 @@ use Rattle.std.proofs.lemmas.List.Elements.{All-set}
 use Rattle.relay_worker.proofs.Numbered.{each_set, first_set}
 use Rattle.relay_worker.specs.declared.bench.Terms.{Terms}
 use Rattle.stream_registry.specs.SharedState.{shared_rules}
-use Rattle.relay_session.specs.Grants.{granted_from}
+use Rattle.config_desk.specs.Grants.{granted_from}
 use Rattle.relay_serve.specs.Settling.{IsServing}
 use Rattle.relay_serve.specs.Starts.{AreReady, HasRules}
 use Rattle.relay_serve.proofs.serving.ready_all.Goals as goal

@@ -10,7 +10,7 @@ use denote.Param.Send.{arg_send, param_send}
 use Rattle.stream_registry.specs.Names.{PortRules, places}
 use Rattle.stream_registry.specs.SharedState.{shared_rules}
 use Rattle.relay_serve.specs.Starts.{HasRules}
-use Rattle.relay_session.specs.Grants.{granted_from}
+use Rattle.config_desk.specs.Grants.{granted_from}
 use Rattle.relay_session.specs.Places.{IsGrantThere}
 use Rattle.stream_registry.proofs.Crossing.{pass_send, port_send}
 use Rattle.relay_serve.proofs.Offering.{offered_from}

@@ -1,5 +1,5 @@
 use Rattle.std.proofs.Common.{refl}
-use Rattle.relay_session.specs.Grants.{granted_from}
+use Rattle.config_desk.specs.Grants.{granted_from}
 use Rattle.relay_serve.proofs.Serves.{serves}
 use Rattle.relay_serve.proofs.starting.open_worker.Goals as goal
 

@@ -1,5 +1,5 @@
 use Rattle.std.proofs.Common.{◌≡◌, length}
-use Rattle.relay_session.specs.Grants.{granted_from}
+use Rattle.config_desk.specs.Grants.{granted_from}
 use Rattle.relay_replay.specs.Cast.{Round, Times}
 use Rattle.relay_replay.specs.Scenes.{Sits}
 use Rattle.relay_replay.proofs.cast.Cast.rounds.Given as goal

@@ -1,5 +1,5 @@
 use Rattle.std.proofs.Common.{rules, ◌≡◌, true, ap, ◌∙◌, length, subst}
-use Rattle.relay_session.specs.Grants.{granted_from}
+use Rattle.config_desk.specs.Grants.{granted_from}
 use Rattle.relay_replay.specs.Cast.{is_moved}
 use Rattle.relay_replay.specs.Scenes.{Sits}
 use Rattle.relay_replay.proofs.Keep.{moved_more}

@@ -1,5 +1,5 @@
 use Rattle.std.proofs.Common.{◌≡◌, length}
-use Rattle.relay_session.specs.Grants.{granted_from}
+use Rattle.config_desk.specs.Grants.{granted_from}
 use Rattle.relay_replay.specs.Cast.{AnsweredTurn, Times}
 use Rattle.relay_replay.specs.Scenes.{Sits}
 use Rattle.relay_replay.specs.declared.guest.Answered.TheVariants as answered

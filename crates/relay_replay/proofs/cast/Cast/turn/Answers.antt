@@ -1,5 +1,5 @@
 use Rattle.std.proofs.Common.{◌≡◌, ◌<◌, length, get_or, sym, subst, rules}
-use Rattle.relay_session.specs.Grants.{granted_from}
+use Rattle.config_desk.specs.Grants.{granted_from}
 use Rattle.relay_replay.specs.Cast.{CastState}
 use Rattle.relay_replay.specs.Scenes.{Sits}
 use Rattle.relay_replay.proofs.Keep.{session_sits, offered, turn_of}

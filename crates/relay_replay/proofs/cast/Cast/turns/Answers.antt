@@ -1,5 +1,5 @@
 use Rattle.std.proofs.Common.{ap, ◌∙◌, length, subst}
-use Rattle.relay_session.specs.Grants.{granted_from}
+use Rattle.config_desk.specs.Grants.{granted_from}
 use Rattle.relay_replay.specs.Cast.{TurnOf}
 use Rattle.relay_replay.specs.Scenes.{Sits}
 use Rattle.relay_replay.proofs.Keep.{times_more}

@@ -1,5 +1,5 @@
 use Rattle.std.proofs.Common.{rules}
-use Rattle.relay_session.specs.Grants.{granted_from}
+use Rattle.config_desk.specs.Grants.{granted_from}
 use Rattle.relay_replay.specs.Guests.{ConnState}
 use Rattle.relay_replay.proofs.Keep.{turned}
 use Rattle.relay_replay.proofs.connection.Connection.turn.Goals as goal

@@ -1,7 +1,7 @@
 use Rattle.std.proofs.Common.{◌≡◌, rules}
 use Rattle.command_dialog.specs.declared.types.Ask.{Ask}
 use Rattle.command_dialog.specs.declared.types.Grant.{Grant}
-use Rattle.relay_session.specs.Grants.{granted_from}
+use Rattle.config_desk.specs.Grants.{granted_from}
 use Rattle.relay_replay.specs.declared.guest.Guest.TheVariants.{Edge, Player, Session}
 use Rattle.relay_replay.proofs.Keep.{edge_turn, player_turn, session_turned}
 use Rattle.relay_replay.proofs.guest.Guest.turn.Goals as goal

@@ -3,7 +3,7 @@ use Rattle.command_dialog.specs.declared.types.Ask.{Ask}
 use Rattle.command_dialog.specs.declared.types.Grant.{Grant}
 use Rattle.relay_config.specs.declared.config.OpenRule.{OpenRule}
 use Rattle.relay_config.specs.declared.config.PlaceRule.{PlaceRule}
-use Rattle.relay_session.specs.Grants.{granted_from}
+use Rattle.config_desk.specs.Grants.{granted_from}
 use Rattle.relay_replay.specs.Plays.{Plays}
 use Rattle.relay_replay.specs.Scenes.{Does, SceneState, desk_of}
 use Rattle.relay_replay.proofs.Acting.{acted_does, is_there}

@@ -1,0 +1,6 @@
+pub mod Worked
+pub mod Lists
+pub mod Cutting
+pub mod Moves
+pub mod Runs
+pub mod Grown
