@@ -1,5 +1,6 @@
 """Checks of a crate with wrong bodies in place, by the prover `rattle`, and what they say of a function's goals."""
 import ctypes
+import json
 import os
 import re
 import shutil
@@ -75,6 +76,11 @@ class Libraries:
         """The names of a library's functions, as its code has them; of a program none."""
         code = self.path(name) / "toolchain/mir.json"
         return set(re.findall(rf'"({name}::[^"]*)"', code.read_text())) if code.is_file() else set()
+
+    def functions(self, name):
+        """The names of a library's functions, with those that its text doesn't show; of a program none."""
+        code = self.path(name) / "toolchain/mir.json"
+        return [it[0] for it in json.loads(code.read_text())] if code.is_file() else []
 
     def words(self, name):
         """The words of a check over the libraries, as `rt` gives them."""

@@ -158,6 +158,19 @@ def end_of_function(lines, number, indent):
     return len(lines) - 1
 
 
+def body_of(lines, span):
+    """Where the lines of a function's body begin, counted from 0, and the line of its last brace, if it has such a body."""
+    number = next((at for at in range(span.first - 1, span.last) if FUNCTION.match(lines[at])), None)
+    if number is None:
+        return None
+    margin, last = FUNCTION.match(lines[number])[1], span.last - 1
+    is_open = lambda line: line == margin + "{" or (line.startswith(margin + ")") and line.endswith("{"))
+    for at in range(number, last):
+        if is_open(lines[at]) or (at == number and lines[at].endswith("{")):
+            return (at + 1, last) if lines[last] == margin + "}" and at + 1 < last else None
+    return None
+
+
 def module_of(file):
     """A file's module, as the names of its functions have it: src/a/b.rt is a::b."""
     words = Path(file).with_suffix("").parts[1:]
