@@ -3,11 +3,14 @@ use Rattle.std.specs.Prelude.{◌≡◌, ◌||◌, ℕ, Bool, List, Option, Some
 use Rattle.av_unit.specs.declared.item.Item.{Item}
 use Rattle.flv_tags.specs.Text.{flv_text}
 use Rattle.stream_registry.specs.Names.{PortRules}
+use Rattle.stream_registry.specs.Splits.{Kin}
 use Rattle.stream_registry.specs.Told.{Step, Histories}
+use Rattle.turn_gate.specs.declared.view.Branch.{Branch}
 use Rattle.relay_outside.specs.declared.sink.Put.{Put}
 use Rattle.media_recorder.specs.declared.turn.RecTurn.{RecTurn}
 use Rattle.media_recorder.specs.declared.turn.Leaving.{Leaving}
 use Rattle.media_recorder.specs.declared.turn.Leaving.TheVariants as leaving
+use Rattle.media_recorder.specs.Alone.{OneAtMost}
 use Rattle.media_recorder.specs.Joined.{joined_from}
 use Rattle.media_recorder.specs.Leaves.{Goes}
 use Rattle.media_recorder.specs.Ports.{Serves}
@@ -69,11 +72,13 @@ pub record Leaves {P K Q : Type 0} (rules : P → PortRules) (root : P → Histo
   pub goes : Goes rules root busies seen mine count (state_of r).player port port' (state_of r) (left_by answer)
   pub file : KeepsFile r answer
 
--- ONE TURN OF A RECORDER with its file
+-- ONE TURN OF A RECORDER with its file. It makes one call at most, and nobody else makes any
 pub record TakesTurn {P K Q : Type 0} (fits : P → ℕ → Q → Type 0) (rules : P → PortRules) (root : P → Histories) (busies : P → ℕ)
-    (seen : Q → List Step) (mine : Q → List ℕ) (count : Q → ℕ) (takes : K → List ℕ → Put → K → Type 0) (holds : K → Option (List ℕ))
+    (seen : Q → List Step) (mine : Q → List ℕ) (count : Q → ℕ) (adds : List Step → List Step → List Step → Type 0) (kin : P → Kin)
+    (branches : Q → List Branch) (takes : K → List ℕ → Put → K → Type 0) (holds : K → Option (List ℕ))
     (port : P) (r : Recorder P K Q) (answer : RecTurn) (port' : P) (r' : Recorder P K Q) : Type 0 where
   pub serves : Serves rules root busies fits (state_of r).seat.place port port'
+  pub alone : OneAtMost rules adds root seen kin branches port port' (state_of r).seat (state_of r').seat
   pub turn : Turns rules root busies seen mine count takes (state_of r).end port port' (sink_of r) (sink_of r')
       (state_of r) answer (state_of r')
   pub took : holds (sink_of r) ≡ Some (state_of r).tape.sent → holds (sink_of r') ≡ Some (state_of r').tape.sent

@@ -2,5 +2,6 @@ pub mod Filed
 pub mod Benches
 pub mod Sessions
 pub mod Rounds
+pub mod Coming
 pub mod Running
 pub mod Books

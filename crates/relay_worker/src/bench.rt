@@ -431,7 +431,7 @@ impl<P: StreamPort, D: Door> Bench<P, D> {
         ensures ahead { GoesAhead P.fits P.rules P.root self.old.port self.new.port }
         ensures filed { IsFiled (P.fits self.new.port) (length (P.rules self.new.port).names) recorder.new }
         ensures tallies { Tallies P.count K.holds K.faults recorder.old → Tallies P.count K.holds K.faults recorder.new }
-        ensures records { Recorded (FileTurn P.fits P.rules P.root P.busies P.seen P.mine P.count K.takes K.holds) recorder.old self.old recorder.new self.new }
+        ensures records { Recorded (FileTurn P.fits P.rules P.root P.busies P.seen P.mine P.count P.adds P.kin P.branches K.takes K.holds) recorder.old self.old recorder.new self.new }
     {
         let _ = terms;
         let answer = recorder.turn(&mut self.port);
@@ -454,7 +454,7 @@ impl<P: StreamPort, D: Door> Bench<P, D> {
         ensures filed { AreFiled P.fits P.rules self.new.port recorders.new }
         ensures labels { map label_of recorders.new ≡ map label_of recorders.old }
         ensures tallies { All (Tallies P.count K.holds K.faults) recorders.old → All (Tallies P.count K.holds K.faults) recorders.new }
-        ensures records { Walks (RecordsAt (FileTurn P.fits P.rules P.root P.busies P.seen P.mine P.count K.takes K.holds)) (length recorders.old)
+        ensures records { Walks (RecordsAt (FileTurn P.fits P.rules P.root P.busies P.seen P.mine P.count P.adds P.kin P.branches K.takes K.holds)) (length recorders.old)
             (self.old, recorders.old) (self.new, recorders.new) }
     {
         for recorder in recorders.iter_mut() {

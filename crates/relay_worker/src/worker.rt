@@ -12,6 +12,7 @@ ghost use Rattle.relay_session.specs.Onward.{GoesOn};
 ghost use Rattle.relay_session.specs.Places.{AskedAlone, IsOffered};
 ghost use Rattle.relay_worker.specs.Benches.{AreFiled, IsFiled, IsSound};
 ghost use Rattle.relay_worker.specs.Books.{HasBooks, Settled};
+ghost use Rattle.relay_worker.specs.Coming.{ByRounds};
 ghost use Rattle.relay_worker.specs.Filed.{TakesTurn as FileTurn, Tallies, is_ready};
 ghost use Rattle.relay_worker.specs.Rounds.{Rounds};
 ghost use Rattle.relay_worker.specs.Running.{HasRun, IsReadied, KeepsOn};
@@ -168,7 +169,7 @@ impl<P: StreamPort, D: Door, R: Rest, K: Sink> Worker<P, D, R, K> {
             (TakesTurn (AskedAlone P.fits P.rules P.root P.seen P.count P.wants P.busies P.adds P.kin P.branches) (GoesOn P.fits P.rules P.root P.seen P.busies)
             (G.grants desk.now) D.Link.hears D.Link.says) P.busies D.Link.ready
             (Closes P.fits P.rules P.root P.seen P.count P.wants P.busies P.adds P.kin P.branches)
-            (FileTurn P.fits P.rules P.root P.busies P.seen P.mine P.count K.takes K.holds) self.old result self.new }
+            (FileTurn P.fits P.rules P.root P.busies P.seen P.mine P.count P.adds P.kin P.branches K.takes K.holds) self.old result self.new }
         ensures keeps { KeepsOn P.fits P.rules P.root self.old self.new }
         ensures tallies { All (Tallies P.count K.holds K.faults) self.old.recorders → All (Tallies P.count K.holds K.faults) self.new.recorders }
         ensures books { HasBooks P.rules P.root P.seen D.Link.told D.Link.counts D.told (G.grants desk.now) self.old
@@ -187,9 +188,13 @@ impl<P: StreamPort, D: Door, R: Rest, K: Sink> Worker<P, D, R, K> {
         self.bench.round(&self.terms)
     }
 
-    /// Rounds until the door has closed and no session lives, with a pause after each round in which nothing moved.
+    /// Runs rounds until the door has closed and no session lives, with a pause after each round in which
+    /// nothing moved. The worker comes there by rounds, and does nothing between them. So it makes no call at
+    /// a stream but in a turn or a close of a session, or in a turn of a recorder.
     pub fn run<W: Wait, G: Desk>(&mut self, rt: &W, desk: &G)
         requires offered { IsOffered (G.grants desk.now) (places (P.rules self.old.bench.port)) }
+        ensures rounds { ByRounds P.fits P.rules P.root P.seen P.mine P.count P.wants P.busies P.adds P.kin P.branches
+            D.Link.told D.Link.counts D.Link.hears D.Link.says D.Link.ready D.told K.takes K.holds (G.grants desk.now) self.old self.new }
         ensures keeps { KeepsOn P.fits P.rules P.root self.old self.new }
         ensures run { HasRun D.told self.new }
         ensures tallies { All (Tallies P.count K.holds K.faults) self.old.recorders → All (Tallies P.count K.holds K.faults) self.new.recorders }

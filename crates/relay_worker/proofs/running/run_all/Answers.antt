@@ -23,6 +23,9 @@ returns-clause-tallies g c = λ i d l. let t = (c.for_each_mut.ensures i d l).1 
 pub returns-clause-books : goal.returns-clause-books
 returns-clause-books g c = λ i d l. let t = (c.for_each_mut.ensures i d l).1 in rw (← t.argument_is, ← t.left) t.call.3
 
+pub returns-clause-rounds : goal.returns-clause-rounds
+returns-clause-rounds g c = λ i d l. let t = (c.for_each_mut.ensures i d l).1 in rw (← t.argument_is, ← t.left) t.call.4
+
 pub for_each_mut-requires-clause-accepts : goal.for_each_mut-requires-clause-accepts
 for_each_mut-requires-clause-accepts g c κs within = λ i p l e.
     let b = c.type_bounds in (

@@ -26,7 +26,7 @@ loop-recorder-preserved g c =
     let x = c.loop-recorder.self.port in
     let y = c.record.new.self.port in
     let within : at < length rs = omega (arith, c.loop-recorder.auto.recorders, c.loop-recorder-test.true) in
-    let files = TakesTurn g.P.StreamPort.fits g.P.StreamPort.rules g.P.StreamPort.root g.P.StreamPort.busies g.P.StreamPort.seen g.P.StreamPort.mine g.P.StreamPort.count g.K.Sink.takes g.K.Sink.holds in
+    let files = TakesTurn g.P.StreamPort.fits g.P.StreamPort.rules g.P.StreamPort.root g.P.StreamPort.busies g.P.StreamPort.seen g.P.StreamPort.mine g.P.StreamPort.count g.P.StreamPort.adds g.P.StreamPort.kin g.P.StreamPort.branches g.K.Sink.takes g.K.Sink.holds in
     let t = e.records.turn in
     record {
       sound = e.sound;
@@ -44,6 +44,6 @@ loop-recorder-preserved g c =
 
 pub returns-clause-records : goal.returns-clause-records
 returns-clause-records g c =
-    let files = TakesTurn g.P.StreamPort.fits g.P.StreamPort.rules g.P.StreamPort.root g.P.StreamPort.busies g.P.StreamPort.seen g.P.StreamPort.mine g.P.StreamPort.count g.K.Sink.takes g.K.Sink.holds in
+    let files = TakesTurn g.P.StreamPort.fits g.P.StreamPort.rules g.P.StreamPort.root g.P.StreamPort.busies g.P.StreamPort.seen g.P.StreamPort.mine g.P.StreamPort.count g.P.StreamPort.adds g.P.StreamPort.kin g.P.StreamPort.branches g.K.Sink.takes g.K.Sink.holds in
     let e : c.loop-recorder.recorder-index ≡ length c.args.recorders.now = omega (arith, c.loop-recorder.auto.recorder-index-end, c.loop-recorder-test.false) in
     subst (λ n. Walks (RecordsAt files) n (c.args.self.now, c.args.recorders.now) (c.loop-recorder.self, c.loop-recorder.recorders)) e c.loop-recorder.invariant.walk

@@ -13,5 +13,5 @@ invariant-loop-recorder g l = record {
   filed : AreFiled g.P.StreamPort.fits g.P.StreamPort.rules l.self.port l.recorders;
   labels : map label_of l.recorders ≡ map label_of l.fn.recorders;
   tallies : All (Tallies g.P.StreamPort.count g.K.Sink.holds g.K.Sink.faults) l.fn.recorders → All (Tallies g.P.StreamPort.count g.K.Sink.holds g.K.Sink.faults) l.recorders;
-  walk : Walks (RecordsAt (TakesTurn g.P.StreamPort.fits g.P.StreamPort.rules g.P.StreamPort.root g.P.StreamPort.busies g.P.StreamPort.seen g.P.StreamPort.mine g.P.StreamPort.count g.K.Sink.takes g.K.Sink.holds)) l.recorder-index (l.fn.self, l.fn.recorders) (l.self, l.recorders);
+  walk : Walks (RecordsAt (TakesTurn g.P.StreamPort.fits g.P.StreamPort.rules g.P.StreamPort.root g.P.StreamPort.busies g.P.StreamPort.seen g.P.StreamPort.mine g.P.StreamPort.count g.P.StreamPort.adds g.P.StreamPort.kin g.P.StreamPort.branches g.K.Sink.takes g.K.Sink.holds)) l.recorder-index (l.fn.self, l.fn.recorders) (l.self, l.recorders);
 }

@@ -81,7 +81,7 @@ returns-clause-books g c works =
     let root = g.P.StreamPort.root in
     let desk = g.G.Desk.grants c.args.desk.now in
     let w = c.args.self.now in
-    let files = TakesTurn fits rules root g.P.StreamPort.busies g.P.StreamPort.seen g.P.StreamPort.mine g.P.StreamPort.count g.K.Sink.takes g.K.Sink.holds in
+    let files = TakesTurn fits rules root g.P.StreamPort.busies g.P.StreamPort.seen g.P.StreamPort.mine g.P.StreamPort.count g.P.StreamPort.adds g.P.StreamPort.kin g.P.StreamPort.branches g.K.Sink.takes g.K.Sink.holds in
     let r = returns-clause-rounds g c in
     let sound = subst (λ v. IsSound fits rules g.D.Door.told v.terms v.bench) c.self.view_is c.self.invariant.0 in
     subst (λ t. Works rules root g.P.StreamPort.seen g.D.Link.Link.told g.D.Link.Link.counts g.D.Door.told desk t c.record_all.new.self) (sym r.terms)

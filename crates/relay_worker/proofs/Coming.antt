@@ -1,0 +1,34 @@
+-- Rounds, one after another
+use Rattle.std.proofs.Common.{◌≡◌, ℕ, suc, List, Option, Bool, refl, subst, sym}
+use Rattle.turn_gate.specs.declared.view.Branch.{Branch}
+use Rattle.command_dialog.specs.declared.types.Ask.{Ask}
+use Rattle.command_dialog.specs.declared.types.Grant.{Grant}
+use Rattle.relay_outside.specs.Doors.{DoorTold}
+use Rattle.relay_outside.specs.Heard.{Came}
+use Rattle.relay_outside.specs.Told.{LinkTold, LinkCounts}
+use Rattle.relay_outside.specs.declared.link.Said.{Said}
+use Rattle.relay_outside.specs.declared.sink.Put.{Put}
+use Rattle.stream_model.specs.declared.calls.Entry.{Entry}
+use Rattle.stream_registry.specs.Names.{PortRules}
+use Rattle.stream_registry.specs.Splits.{Kin}
+use Rattle.stream_registry.specs.Told.{Step, Histories}
+use Rattle.relay_worker.specs.Benches.{WorkerState}
+use Rattle.relay_worker.specs.Coming.{ByRounds, RoundOn}
+
+module _ {P D K Q L : Type 0} {fits : P → ℕ → Q → Type 0} {rules : P → PortRules} {root : P → Histories} {seen : Q → List Step}
+    {mine : Q → List ℕ} {count : Q → ℕ} {wants : Entry → Type 0} {busies : P → ℕ} {adds : List Step → List Step → List Step → Type 0}
+    {kin : P → Kin} {branches : Q → List Branch}
+    {told : L → Option LinkTold} {counts : L → LinkCounts} {hears : L → ℕ → Came → L → Type 0} {says : L → List ℕ → Said → L → Type 0}
+    {ready : L → Bool → Type 0} {doors : D → DoorTold} {takes : K → List ℕ → Put → K → Type 0} {holds : K → Option (List ℕ)}
+    {desk : Ask → Grant} where
+  abbrev By : WorkerState P D K Q L → WorkerState P D K Q L → Type 0
+  By = ByRounds fits rules root seen mine count wants busies adds kin branches told counts hears says ready doors takes holds desk
+
+  -- no round yet
+  pub by_none : (w : WorkerState P D K Q L) → By w w
+  by_none w = record { times = 0; rounds = refl }
+
+  -- a round more, and then nothing
+  pub by_more : (u v m w : WorkerState P D K Q L) → By u v → RoundOn fits rules root seen mine count wants busies adds kin branches told counts hears says ready doors takes holds desk v m
+      → w ≡ m → By u w
+  by_more u v m w b r e = record { times = suc b.times; rounds = (v, (b.rounds, subst (λ (x : WorkerState P D K Q L). RoundOn fits rules root seen mine count wants busies adds kin branches told counts hears says ready doors takes holds desk v x) (sym e) r)) }
