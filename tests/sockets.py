@@ -181,11 +181,11 @@ class Server:
     """A server of streams by these names, the lines of its configuration, and the variables of its environment. A connection may be
     silent for ever, where these don't say otherwise. With the words of an origin (its address, an app and a name) it is an edge."""
 
-    def __init__(self, relay, folder, names, lines="", limit=None, origin=None, **variables):
+    def __init__(self, relay, folder, names, lines="", limit=None, origin=None, host="127.0.0.1", **variables):
         self.folder = folder
         config = os.path.join(folder, "relay.toml")
         with open(config, "w") as out:
-            out.write(f'[relay]\nlisten = "127.0.0.1:0"\n{lines}\n')
+            out.write(f'[relay]\nlisten = "{host}:0"\n{lines}\n')
             for name, more in names.items():
                 out.write(f'[[stream]]\napp = "live"\nname = "{name}"\n{more}\n')
         before = (lambda: resource.setrlimit(resource.RLIMIT_FSIZE, (limit, limit))) if limit else None
