@@ -89,6 +89,35 @@ def gives_way(relay, folder):
     server.kill()
 
 
+def without_limit(relay, folder):
+    """Where a connection may be silent for ever, half a request has 5 seconds all the same, and who gives nothing for two gives way."""
+    server, lines, port = over_http(relay, folder, "workers = 2", RELAY_SILENCE="0", RELAY_LOG="warn")
+    half = socket.create_connection(("127.0.0.2", port), timeout=20)
+    half.sendall(b"GET /live/cam")
+    asked = time.monotonic()
+    idle = connect(server.port)
+    dead = Client(server.port).open("publish", "cam")
+    begun = time.monotonic()
+    dead.push(VIDEO, 0, CONFIGURATION)
+    while not publishes(server.port) and time.monotonic() - begun < 20:
+        time.sleep(0.3)
+    took = time.monotonic() - begun
+    expect(1.5 < took < 10, f"without_limit: the name is free after {took:.1f} s")
+    want = f"{address(dead)} ended: silent for 2 s; "
+    expect(wait_for(lambda: says(lines, want)), f"without_limit: the log lacks {want!r}")
+    gone = closes(half) is not None
+    took = time.monotonic() - asked
+    expect(gone and 4 < took < 12, f"without_limit: half a request is there for {took:.1f} s")
+    want = f"{address(half)} ended: silent for 5 s; "
+    expect(wait_for(lambda: says(lines, want)), f"without_limit: the log lacks {want!r}")
+    # A player waits, and who neither publishes nor plays stays.
+    viewer = get(port)
+    expect(viewer.recv(65, socket.MSG_WAITALL) == ANSWER, "without_limit: a viewer is answered otherwise")
+    time.sleep(6)
+    expect(not [line for line in lines if line.startswith((address(idle), address(viewer)))], f"without_limit: the log has {lines}")
+    server.kill()
+
+
 def eight_seconds(relay, folder):
     """Without a word a publisher may be silent for 8 seconds, and another for 20."""
     server = Server(relay, folder, {"cam": ""}, "workers = 1", RELAY_SILENCE="", RELAY_LOG="warn")
@@ -371,7 +400,7 @@ def names(relay, folder):
     server.kill()
 
 
-TESTS = [gives_way, eight_seconds, slow, kept_alive, strangers, one_address, waiting, farewells, guesses, over, no_place, names]
+TESTS = [gives_way, without_limit, eight_seconds, slow, kept_alive, strangers, one_address, waiting, farewells, guesses, over, no_place, names]
 
 
 def run(test, relay):

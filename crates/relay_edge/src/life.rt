@@ -1,5 +1,7 @@
 //! The state of a link: its activity, and how long it has been silent.
 
+ghost use Rattle.std.specs.Prelude.{◌≡◌, ◌<◌, min};
+
 use crate::audience::Audience;
 use crate::cause::Cause;
 use crate::link_line::LinkLine;
@@ -46,6 +48,14 @@ const REFUSALS: u32 = 3;
 
 /// How long a player over HTTP stays after the last byte of a broadcast that is over, in milliseconds.
 const AFTER: u64 = 2_000;
+
+// Returns the shorter of two times, where a `most` of 0 is without limit.
+fn at_most(limit: u64, most: u64) -> u64
+    ensures without { most ≡ 0 → result ≡ limit }
+    ensures within { 0 < most → result ≡ min limit most }
+{
+    if most == 0 { limit } else { limit.min(most) }
+}
 
 /// The life of a link, by the clock of its worker in milliseconds.
 #[derive(Drop)]
@@ -146,8 +156,8 @@ impl Life {
     // Returns how many milliseconds a publisher may give nothing; 0 sets no limit.
     fn publisher_silence(&self, post: &Post) -> u64 {
         let most = post.watch.publisher_silence();
-        if most > 0 && self.is_asked(post) {
-            most.min(GIVES_WAY)
+        if self.is_asked(post) {
+            at_most(GIVES_WAY, most)
         } else {
             most
         }
@@ -156,7 +166,11 @@ impl Life {
     // Returns how many milliseconds it may take until it publishes or plays; 0 sets no limit.
     fn idle_silence(&self, post: &Post) -> u64 {
         let most = post.watch.silence;
-        if post.is_http() { most.min(HEAD) } else { most }
+        if post.is_http() {
+            at_most(HEAD, most)
+        } else {
+            most
+        }
     }
 
     /// Returns whether it has been silent in its present activity for longer than it may, or must give its
