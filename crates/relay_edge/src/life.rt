@@ -4,6 +4,8 @@ ghost use Rattle.std.specs.Prelude.{◌≡◌, ◌<◌, min};
 
 use crate::audience::Audience;
 use crate::cause::Cause;
+use crate::client::Client;
+use crate::forwarded::Head;
 use crate::link_line::LinkLine;
 use crate::missed::Missed;
 use crate::post::Post;
@@ -60,7 +62,9 @@ fn at_most(limit: u64, most: u64) -> u64
 /// The life of a link, by the clock of its worker in milliseconds.
 #[derive(Drop)]
 pub struct Life {
-    address: SocketAddr,
+    client: Client,
+    // The head of its request, if its peer is a proxy and the head isn't over.
+    head: Option<Head>,
     token: usize,
     doing: Cell<Doing>,
     // When that began.
@@ -89,10 +93,12 @@ pub struct Life {
 }
 
 impl Life {
-    /// Creates the state of a new link.
-    pub fn new(address: SocketAddr, token: usize, now: u64) -> Life {
+    /// Creates the state of a new link, whose peer has that address.
+    pub fn new(post: &Post, address: SocketAddr, token: usize) -> Life {
+        let now = post.now();
         Life {
-            address,
+            client: Client::Peer(address),
+            head: post.head_of(address),
             token,
             doing: Cell::new(Doing::Nothing),
             changed: Cell::new(now),
@@ -114,6 +120,24 @@ impl Life {
     /// Records that it gave bytes.
     pub fn give(&mut self, now: u64) {
         self.gave = now;
+    }
+
+    /// Reads on in the head of its request, if its peer is a proxy. Once the head is over, it is known who asks.
+    pub fn read(&mut self, post: &Post, bytes: &[u8]) {
+        let Some(head) = &mut self.head else {
+            return;
+        };
+        if !head.read(bytes) {
+            return;
+        }
+        if let Some(address) = post.client_of(head) {
+            let proxy = self.client.peer();
+            self.client = Client::Forwarded { address, proxy };
+            if let Some(seat) = post.seat(self.token) {
+                seat.name(self.client);
+            }
+        }
+        self.head = None;
     }
 
     /// Records that it took bytes.
@@ -411,7 +435,7 @@ impl Life {
             News::Ended { .. } => {}
         }
         let line = LinkLine {
-            address: self.address,
+            client: self.client,
             news,
             app,
             name,
