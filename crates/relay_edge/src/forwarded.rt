@@ -56,17 +56,17 @@ fn word_of(text: &[u8], proxies: &Proxies) -> Word
 fn who_asks(words: &[Word]) -> Option<IpAddr>
     ensures { result ≡ who_asks words.now }
 {
+    let mut proxy = None;
     let mut left = words;
     while let [word, rest @ ..] = left {
         match *word {
-            Word::Proxy(address) if rest.is_empty() => return Some(address),
-            Word::Proxy(_) => {}
+            Word::Proxy(address) => proxy = Some(address),
             Word::Other(address) => return Some(address),
             Word::NoAddress => return None,
         }
         left = rest;
     }
-    None
+    proxy
 }
 
 impl Head {

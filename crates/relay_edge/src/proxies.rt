@@ -1,4 +1,6 @@
 //! The HTTP proxies in front of a server.
+ghost use Rattle.std.specs.Prelude.{IfErr};
+ghost use Rattle.relay_edge.specs.Forwarding.{IsRefused};
 
 use std::alloc::Global;
 use std::net::IpAddr;
@@ -20,16 +22,20 @@ pub struct Proxies {
 
 impl Proxies {
     /// Returns the IP addresses in a text, with commas or white space between them.
-    pub fn read(alloc: Global, text: &[u8]) -> Result<Proxies, Unlisted<'_>> {
+    pub fn read(alloc: Global, text: &[u8]) -> Result<Proxies, Unlisted<'_>>
+        ensures { IfErr result IsRefused }
+    {
         let mut list = Vec::new(alloc);
         for word in text.split(|byte| *byte == b',' || byte.is_ascii_whitespace()) {
-            if !word.is_empty() {
-                let Ok(address) = IpAddr::parse_ascii(word) else {
-                    return Err(Unlisted::NoAddress(word));
-                };
-                if list.push(address.to_canonical()).is_err() {
-                    return Err(Unlisted::OutOfMemory);
-                }
+            if word.is_empty() {
+                continue;
+            }
+            let address = match IpAddr::parse_ascii(word) {
+                Ok(address) => address.to_canonical(),
+                Err(_) => return Err(Unlisted::NoAddress(word)),
+            };
+            if list.push(address).is_err() {
+                return Err(Unlisted::OutOfMemory);
             }
         }
         Ok(Proxies { list })
