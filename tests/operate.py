@@ -173,6 +173,7 @@ def quiet(relay, folder):
         ("RELAY_SILENCE", "-1", "a number of seconds"),
         ("RELAY_LOG_TIME", "yes", "0 or 1"),
         ("RELAY_GATHER", "501", "a number of milliseconds, 0 to 500"),
+        ("RELAY_PROXIES", "10.0.0.1, ::1 10.0.0.0/8", "10.0.0.0/8: an IP address"),
     ):
         ran = subprocess.run([relay, "serve", config], env={**os.environ, variable: value}, capture_output=True, text=True, timeout=60)
         said = f"relay: {variable}: {wanted} is wanted\n"

@@ -89,6 +89,32 @@ def gives_way(relay, folder):
     server.kill()
 
 
+def without_limit(relay, folder):
+    """Where a connection may be silent for ever, half a request has 5 seconds all the same, and who gives nothing for two gives way."""
+    server, lines, port = over_http(relay, folder, "workers = 2", RELAY_SILENCE="0", RELAY_LOG="warn")
+    half = socket.create_connection(("127.0.0.2", port), timeout=20)
+    half.sendall(b"GET /live/cam")
+    asked = time.monotonic()
+    idle = connect(server.port)
+    dead = Client(server.port).open("publish", "cam")
+    begun = time.monotonic()
+    dead.push(VIDEO, 0, CONFIGURATION)
+    while not publishes(server.port) and time.monotonic() - begun < 20:
+        time.sleep(0.3)
+    took = time.monotonic() - begun
+    expect(1.5 < took < 10, f"without_limit: the name is free after {took:.1f} s")
+    want = f"{address(dead)} ended: silent for 2 s; "
+    expect(wait_for(lambda: says(lines, want)), f"without_limit: the log lacks {want!r}")
+    gone = closes(half) is not None
+    took = time.monotonic() - asked
+    expect(gone and 4 < took < 12, f"without_limit: half a request is there for {took:.1f} s")
+    want = f"{address(half)} ended: silent for 5 s; "
+    expect(wait_for(lambda: says(lines, want)), f"without_limit: the log lacks {want!r}")
+    # Who neither publishes nor plays stays.
+    expect(not [line for line in lines if line.startswith(address(idle))], f"without_limit: the log has {lines}")
+    server.kill()
+
+
 def eight_seconds(relay, folder):
     """Without a word a publisher may be silent for 8 seconds, and another for 20."""
     server = Server(relay, folder, {"cam": ""}, "workers = 1", RELAY_SILENCE="", RELAY_LOG="warn")
@@ -351,6 +377,72 @@ def no_place(relay, folder):
     server.kill()
 
 
+# The fields of a request that comes by a proxy, and the address that is shown; None is that of the proxy's own end.
+FORWARDED = [
+    (["X-Forwarded-For: 203.0.113.1"], "203.0.113.1"),
+    (["x-forwarded-for:198.51.100.1,\t203.0.113.2 , "], "203.0.113.2"),
+    (["X-Forwarded-For: 198.51.100.1", "Accept: */*", "X-FORWARDED-FOR: 203.0.113.3"], "203.0.113.3"),
+    (["X-Forwarded-For: 203.0.113.4, 10.0.0.1, 127.0.0.7"], "203.0.113.4"),
+    (["X-Forwarded-For: 203.0.113.5", "X-Forwarded-For: 10.0.0.1"], "203.0.113.5"),
+    (["X-Forwarded-For: 10.0.0.1, 127.0.0.7"], "10.0.0.1"),
+    (["X-Forwarded-For: unknown, 203.0.113.6"], "203.0.113.6"),
+    (["X-Forwarded-For: 2001:DB8:0::6, ::1"], "2001:db8::6"),
+    (["X-Forwarded-For: 203.0.113.7, unknown"], None),
+    (["X-Forwarded-For: 203.0.113.8, unknown, 10.0.0.1"], None),
+    (["X-Forwarded-For: 203.0.113.9:80"], None),
+    (["X-Forwarded-For: \"203.0.113.9\" \u2028"], None),
+    (["X-Forwarded-For: "], None),
+    (["X-Forwarded-Fox: 203.0.113.10", "X-Forwarded-For-: 203.0.113.11", "Forwarded: for=203.0.113.12"], None),
+    (["Accept: */*", "", "X-Forwarded-For: 203.0.113.13"], None),
+    ([], None),
+]
+
+
+def forwarded(relay, folder):
+    """By a proxy in front the log and the statistics tell who asks, and by nobody else."""
+    path = os.path.join(folder, "control")
+    proxies = "127.0.0.7, 10.0.0.1 ::1"
+    server, lines, port = over_http(relay, folder, "workers = 1", RELAY_LOG="info", RELAY_CONTROL=path, RELAY_PROXIES=proxies)
+
+    def asks(source, fields, name="cam", piece=4096):
+        client = socket.socket()
+        client.settimeout(20)
+        client.bind((source, 0))
+        client.connect(("127.0.0.2", port))
+        client.setsockopt(socket.IPPROTO_TCP, socket.TCP_NODELAY, 1)
+        head = "".join(f"{line}\r\n" for line in ["", f"GET /live/{name}.flv HTTP/1.1", "Host: relay", *fields, ""]).encode()
+        for place in range(0, len(head), piece):
+            client.sendall(head[place:place + piece])
+            time.sleep(0.01 if piece < len(head) else 0)
+        return client
+
+    def is_told(client, who):
+        want = f'{who} plays "live/cam"\n'
+        expect(wait_for(lambda: want in lines), f"forwarded: the log lacks {want!r}, it has {lines[-3:]}")
+        links = lambda: [link["address"] for link in told_of(relay, path)["links"]]
+        expect(wait_for(lambda: links() == [who]), f"forwarded: the links are {links()}, and not {who}")
+        client.close()
+        want = f"{who} ended: "
+        expect(wait_for(lambda: says(lines, want)), f"forwarded: the log lacks {want!r}, it has {lines[-3:]}")
+        lines.clear()
+
+    for fields, who in FORWARDED:
+        for piece in (4096, 7):
+            client = asks("127.0.0.7", fields, piece=piece)
+            expect(client.recv(65, socket.MSG_WAITALL) == ANSWER, f"forwarded: {fields} are answered otherwise")
+            is_told(client, who or address(client))
+    client = asks("127.0.0.8", FORWARDED[0][0])
+    is_told(client, address(client))
+    client = asks("127.0.0.7", FORWARDED[0][0], "none")
+    expect(wait_for(lambda: says(lines, "203.0.113.1 ended: answered 404; ")), f"forwarded: a refusal is told as {lines}")
+    client.close()
+    # More than a request may have: the proxy's own address stays.
+    client = asks("127.0.0.7", [FORWARDED[0][0][0], "X: " + "x" * 5000])
+    expect(wait_for(lambda: says(lines, f"{address(client)} ended: answered 400; ")), f"forwarded: too long a head is told as {lines}")
+    client.close()
+    server.kill()
+
+
 def names(relay, folder):
     """After 1,024 names of an open application another is told, in place of the oldest that nobody has."""
     path = os.path.join(folder, "control")
@@ -371,7 +463,7 @@ def names(relay, folder):
     server.kill()
 
 
-TESTS = [gives_way, eight_seconds, slow, kept_alive, strangers, one_address, waiting, farewells, guesses, over, no_place, names]
+TESTS = [gives_way, without_limit, eight_seconds, slow, kept_alive, strangers, one_address, waiting, farewells, guesses, over, no_place, forwarded, names]
 
 
 def run(test, relay):

@@ -212,7 +212,9 @@ def enough(relay, folder):
     port = int(line.rsplit(":", 1)[1])
     http = int(server.stderr.readline().rsplit(":", 1)[1])
     clients = [socket.create_connection(("127.0.0.1", port), timeout=20) for _ in range(2 * links)]
-    clients += [socket.create_connection(("127.0.0.2", http), timeout=20) for _ in range(links)]
+    viewers = [socket.create_connection(("127.0.0.2", http), timeout=20) for _ in range(links)]
+    for viewer in viewers:
+        viewer.sendall(b"GET /live/cam.flv HTTP/1.1\r\n\r\n")
     askers = []
     for _ in range(16):
         askers.append(socket.socket(socket.AF_UNIX))

@@ -248,12 +248,12 @@ impl<'a, R: Eprint> RealHouse<'a, R> {
     pub fn watched(
         rt: &'a R,
         alloc: Global,
-        watching: Watching,
+        mut watching: Watching,
     ) -> Result<RealHouse<'a, R>, AllocError>
         ensures { IfOk result (λ h. h ≡ record { faults = 0; spoiled = 0; kept = None; shut = None }) }
     {
         let board = Board::new(alloc)?;
-        let watch = Watch::new(alloc, &watching)?;
+        let watch = Watch::new(alloc, &mut watching)?;
         let names = Names::new(alloc, Arc::try_clone(&watch)?);
         Ok(RealHouse {
             rt,

@@ -1,7 +1,11 @@
 //! The state of a link: its activity, and how long it has been silent.
 
+ghost use Rattle.std.specs.Prelude.{◌≡◌, ◌<◌, min};
+
 use crate::audience::Audience;
 use crate::cause::Cause;
+use crate::client::Client;
+use crate::forwarded::Head;
 use crate::link_line::LinkLine;
 use crate::missed::Missed;
 use crate::post::Post;
@@ -47,10 +51,20 @@ const REFUSALS: u32 = 3;
 /// How long a player over HTTP stays after the last byte of a broadcast that is over, in milliseconds.
 const AFTER: u64 = 2_000;
 
+// Returns the shorter of two times, where a `most` of 0 is without limit.
+fn at_most(limit: u64, most: u64) -> u64
+    ensures without { most ≡ 0 → result ≡ limit }
+    ensures within { 0 < most → result ≡ min limit most }
+{
+    if most == 0 { limit } else { limit.min(most) }
+}
+
 /// The life of a link, by the clock of its worker in milliseconds.
 #[derive(Drop)]
 pub struct Life {
-    address: SocketAddr,
+    client: Client,
+    // The head of its request, if its peer is a proxy and the head isn't over.
+    head: Option<Head>,
     token: usize,
     doing: Cell<Doing>,
     // When that began.
@@ -79,10 +93,12 @@ pub struct Life {
 }
 
 impl Life {
-    /// Creates the state of a new link.
-    pub fn new(address: SocketAddr, token: usize, now: u64) -> Life {
+    /// Creates the state of a new link, whose peer has that address.
+    pub fn new(post: &Post, address: SocketAddr, token: usize) -> Life {
+        let now = post.now();
         Life {
-            address,
+            client: Client::Peer(address),
+            head: post.head_of(address),
             token,
             doing: Cell::new(Doing::Nothing),
             changed: Cell::new(now),
@@ -104,6 +120,24 @@ impl Life {
     /// Records that it gave bytes.
     pub fn give(&mut self, now: u64) {
         self.gave = now;
+    }
+
+    /// Reads on in the head of its request, if its peer is a proxy. Once the head is over, it is known who asks.
+    pub fn read(&mut self, post: &Post, bytes: &[u8]) {
+        let Some(head) = &mut self.head else {
+            return;
+        };
+        if !head.read(bytes) {
+            return;
+        }
+        if let Some(address) = post.client_of(head) {
+            let proxy = self.client.peer();
+            self.client = Client::Forwarded { address, proxy };
+            if let Some(seat) = post.seat(self.token) {
+                seat.name(self.client);
+            }
+        }
+        self.head = None;
     }
 
     /// Records that it took bytes.
@@ -146,8 +180,8 @@ impl Life {
     // Returns how many milliseconds a publisher may give nothing; 0 sets no limit.
     fn publisher_silence(&self, post: &Post) -> u64 {
         let most = post.watch.publisher_silence();
-        if most > 0 && self.is_asked(post) {
-            most.min(GIVES_WAY)
+        if self.is_asked(post) {
+            at_most(GIVES_WAY, most)
         } else {
             most
         }
@@ -156,7 +190,11 @@ impl Life {
     // Returns how many milliseconds it may take until it publishes or plays; 0 sets no limit.
     fn idle_silence(&self, post: &Post) -> u64 {
         let most = post.watch.silence;
-        if post.is_http() { most.min(HEAD) } else { most }
+        if post.is_http() {
+            at_most(HEAD, most)
+        } else {
+            most
+        }
     }
 
     /// Returns whether it has been silent in its present activity for longer than it may, or must give its
@@ -397,7 +435,7 @@ impl Life {
             News::Ended { .. } => {}
         }
         let line = LinkLine {
-            address: self.address,
+            client: self.client,
             news,
             app,
             name,

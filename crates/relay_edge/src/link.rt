@@ -75,7 +75,7 @@ impl RealLink {
         if let Some(seat) = post.seat(token) {
             seat.take(post.alloc, address, post.now());
         }
-        let life = Life::new(address, token, post.now());
+        let life = Life::new(&post, address, token);
         RealLink {
             life,
             wire: Wire::new(stream, post, token),
@@ -192,6 +192,8 @@ impl Link for RealLink {
             }
             Ok(count) => {
                 self.life.give(self.wire.cell.post.now());
+                self.life
+                    .read(&self.wire.cell.post, into.get(..count).unwrap_or(&[]));
                 self.wire.received(count);
                 Heard::Bytes(count)
             }

@@ -3,6 +3,7 @@
 use crate::board::Board;
 use crate::cells::{Cells, DOOR, LEFT, READABLE};
 use crate::clock::milliseconds;
+use crate::forwarded::Head;
 use crate::giving_way::Way;
 use crate::seats::{Seat, Seats};
 use crate::throttle::Kind;
@@ -11,7 +12,7 @@ use libc::net::{POLLIN, poll};
 use libc::types::pollfd;
 use log::log;
 use std::alloc::{AllocError, Global};
-use std::net::SocketAddr;
+use std::net::{IpAddr, SocketAddr};
 use std::sync::Arc;
 use std::sync::atomic::{AtomicBool, AtomicI64, AtomicU64, Ordering};
 
@@ -108,6 +109,20 @@ impl Post {
     /// Returns whether its links are those of HTTP players.
     pub fn is_http(&self) -> bool {
         self.http.load(Ordering::SeqCst)
+    }
+
+    /// Returns a head for the request of a peer that has that address, if it is an HTTP proxy in front of the server.
+    pub fn head_of(&self, address: SocketAddr) -> Option<Head> {
+        let forwards = self.is_http() && self.watch.is_proxy(address.ip());
+        forwards.then_some(Head::new(self.alloc))
+    }
+
+    /// Returns who asks by a proxy, if the head of its request is over and says it.
+    pub fn client_of(&self, head: &Head) -> Option<IpAddr> {
+        match &self.watch.proxies {
+            Some(proxies) => head.client(self.alloc, proxies),
+            None => None,
+        }
     }
 
     /// Returns whether a connection waits at the door.

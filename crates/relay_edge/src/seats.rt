@@ -1,6 +1,7 @@
 //! The state and the activity of a worker's links, as `relay stats` shows them.
 
 use crate::cells::LAST_TOKEN;
+use crate::client::Client;
 use std::alloc::{AllocError, Global};
 use std::fmt;
 use std::fmt::{Display, Formatter};
@@ -36,10 +37,10 @@ pub enum Doing {
     Pulled,
 }
 
-/// The last news of a link, with the address of its peer.
+/// The last news of a link, and who is at its other end.
 #[derive(Drop)]
 pub struct Told {
-    pub address: Option<SocketAddr>,
+    pub client: Option<Client>,
     pub doing: Doing,
     /// It plays, and had not connected to an application: so it speaks HTTP.
     pub http: bool,
@@ -48,9 +49,9 @@ pub struct Told {
 }
 
 impl Told {
-    fn nothing(alloc: Global, address: Option<SocketAddr>) -> Told {
+    fn nothing(alloc: Global, client: Option<Client>) -> Told {
         Told {
-            address,
+            client,
             doing: Doing::Nothing,
             http: false,
             app: Vec::new(alloc),
@@ -91,7 +92,7 @@ pub struct Seat {
 /// later time if it has been now.
 #[derive(Drop)]
 pub struct Sight {
-    pub address: SocketAddr,
+    pub client: Client,
     pub doing: Doing,
     pub http: bool,
     pub app: Vec<u8>,
@@ -145,7 +146,7 @@ impl Seat {
     /// Gives the seat to a new link.
     pub fn take(&self, alloc: Global, address: SocketAddr, now: u64) {
         if let Some(mut told) = held(&self.told) {
-            *told = Told::nothing(alloc, Some(address));
+            *told = Told::nothing(alloc, Some(Client::Peer(address)));
         }
         self.change(Doing::Nothing, now);
         self.begun.store(now, Ordering::SeqCst);
@@ -158,6 +159,14 @@ impl Seat {
     /// Frees the seat.
     pub fn leave(&self) {
         self.taken.store(false, Ordering::SeqCst);
+    }
+
+    /// Sets who is at the other end of its link.
+    pub fn name(&self, client: Client) {
+        if let Some(mut told) = held(&self.told) {
+            let told = &mut *told;
+            told.client = Some(client);
+        }
     }
 
     fn change(&self, doing: Doing, now: u64) {
@@ -235,7 +244,9 @@ impl Seat {
             return false;
         }
         match held(&self.told) {
-            Some(told) => told.address.is_some_and(|peer| peer.ip() == address),
+            Some(told) => told
+                .client
+                .is_some_and(|client| client.peer().ip() == address),
             None => false,
         }
     }
@@ -292,11 +303,11 @@ impl Seat {
         let Some(told) = held(&self.told) else {
             return Ok(None);
         };
-        let Some(address) = told.address else {
+        let Some(client) = told.client else {
             return Ok(None);
         };
         Ok(Some(Sight {
-            address,
+            client,
             doing: told.doing,
             http: told.http,
             app: told.app.as_slice().to_vec(alloc)?,

@@ -1,5 +1,6 @@
 //! The state of a server, as a table for people and as JSON for programs.
 
+use crate::client::Client;
 use crate::json::{Quoted, QuotedText};
 use crate::missed::Missed;
 use crate::recordings::Recorded;
@@ -8,7 +9,6 @@ use crate::shown::{Shown, Written};
 use crate::watch::{Broadcasts, Watch};
 use std::alloc::{AllocError, Global};
 use std::fmt::{Display, Formatter};
-use std::net::SocketAddr;
 use std::{fmt, str};
 
 /// The state of a server at some moment.
@@ -73,15 +73,15 @@ fn file_of(recorded: &Recorded) -> &str {
     str::from_utf8(recorded.name.as_slice()).unwrap_or("?")
 }
 
-// Returns the number of players of a name, and the address of its publisher.
-fn roles(sights: &[Sight], stream: &Broadcasts) -> (u64, Option<SocketAddr>) {
+// Returns the number of players of a name, and its publisher.
+fn roles(sights: &[Sight], stream: &Broadcasts) -> (u64, Option<Client>) {
     let mut players = 0u64;
     let mut publisher = None;
     for sight in sights {
         if stream.are_of(sight.app.as_slice(), sight.name.as_slice()) {
             match sight.doing {
                 Doing::Plays => players = players.saturating_add(1),
-                Doing::Publishes | Doing::Pulled => publisher = Some(sight.address),
+                Doing::Publishes | Doing::Pulled => publisher = Some(sight.client),
                 _ => {}
             }
         }
@@ -135,7 +135,7 @@ impl Stats {
     }
 
     fn add_link(&self, alloc: Global, text: &mut String, sight: &Sight) -> Result<(), AllocError> {
-        let address = format!(in alloc; "{}", sight.address)?;
+        let address = format!(in alloc; "{}", sight.client)?;
         let (does, over) = (word_of(sight.doing), protocol_of(sight));
         let behind = match self.behind(sight) {
             Some(seconds) => format!(in alloc; "{seconds}")?,
@@ -161,7 +161,7 @@ impl Stats {
     ) -> Result<(), AllocError> {
         let (players, publisher) = roles(self.sights.as_slice(), stream);
         let publisher = match publisher {
-            Some(address) => format!(in alloc; "{address}")?,
+            Some(client) => format!(in alloc; "{client}")?,
             None => format!(in alloc; "-")?,
         };
         let count = stream.count;
@@ -270,10 +270,10 @@ impl Stats {
         let name = Quoted {
             bytes: sight.name.as_slice(),
         };
-        let (address, received, sent) = (sight.address, sight.received, sight.sent);
+        let (client, received, sent) = (sight.client, sight.received, sight.sent);
         let seconds = self.since(sight.begun);
         let line = format!(in alloc;
-            "{{\"address\": \"{address}\", \"over\": \"{over}\", \"does\": \"{does}\", \"app\": {app}, \"name\": {name}, "
+            "{{\"address\": \"{client}\", \"over\": \"{over}\", \"does\": \"{does}\", \"app\": {app}, \"name\": {name}, "
         )?;
         text.push_str(&line)?;
         let line = format!(in alloc;
@@ -290,7 +290,7 @@ impl Stats {
     ) -> Result<(), AllocError> {
         let (players, publisher) = roles(self.sights.as_slice(), stream);
         let publisher = match publisher {
-            Some(address) => format!(in alloc; "\"{address}\"")?,
+            Some(client) => format!(in alloc; "\"{client}\"")?,
             None => format!(in alloc; "null")?,
         };
         let app = Quoted {

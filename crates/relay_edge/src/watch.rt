@@ -5,6 +5,7 @@ use crate::clock::milliseconds;
 use crate::journal::Journal;
 use crate::listeners::Listeners;
 use crate::missed::Missed;
+use crate::proxies::Proxies;
 use crate::recordings::Recordings;
 use crate::seats::{Seats, Sight, held};
 use crate::shown::Named;
@@ -14,6 +15,7 @@ use mio::net::UnixStream;
 use std::alloc::{AllocError, Global};
 use std::fmt::Display;
 use std::io;
+use std::net::IpAddr;
 use std::os::unix::net::UnixListener;
 use std::sync::atomic::{AtomicBool, AtomicU64, Ordering};
 use std::sync::{Arc, Mutex, OnceLock};
@@ -54,18 +56,21 @@ pub struct Watching {
     pub times: bool,
     /// The other limits of its links.
     pub bounds: Bounds,
+    /// The HTTP proxies in front of it, if there are any.
+    pub proxies: Option<Proxies>,
     /// The path of its control socket, if it has one.
     pub control: Option<String>,
 }
 
 impl Watching {
-    /// Returns settings without a log or a control socket, by which a link may be silent for ever.
+    /// Returns settings without a log, a proxy or a control socket, by which a link may be silent for ever.
     pub fn nothing() -> Watching {
         Watching {
             level: LevelFilter::Off,
             silence: 0,
             times: false,
             bounds: Bounds::none(),
+            proxies: None,
             control: None,
         }
     }
@@ -123,6 +128,8 @@ pub struct Watch {
     /// The milliseconds that a link may be silent; 0 sets no limit.
     pub silence: u64,
     pub bounds: Bounds,
+    /// The HTTP proxies in front of the server, if there are any.
+    pub proxies: Option<Proxies>,
     /// When the server began, by the clock.
     pub begun: u64,
     pub seats: Vec<OnceLock<Arc<Seats, Global>>>,
@@ -164,7 +171,8 @@ fn add<T: Drop>(list: &mut Vec<T>, item: T) -> Result<(), AllocError> {
 }
 
 impl Watch {
-    pub fn new(alloc: Global, watching: &Watching) -> Result<Arc<Watch, Global>, AllocError> {
+    /// Creates the state of a server that begins. Its proxies are taken out of the settings.
+    pub fn new(alloc: Global, watching: &mut Watching) -> Result<Arc<Watch, Global>, AllocError> {
         let mut seats = Vec::new(alloc);
         for _ in 0..MOST_WORKERS {
             add(&mut seats, OnceLock::new())?;
@@ -173,6 +181,7 @@ impl Watch {
             log: Logged::new((), watching.level, Journal::new(watching.times)),
             silence: watching.silence.saturating_mul(1000),
             bounds: watching.bounds,
+            proxies: watching.proxies.take(),
             begun: milliseconds(),
             seats,
             broadcasts: Mutex::new(Vec::new(alloc)),
@@ -192,6 +201,14 @@ impl Watch {
             counted: AtomicBool::new(false),
         };
         Ok(Arc::new(alloc, watch)?)
+    }
+
+    /// Returns whether the address is that of an HTTP proxy in front of the server.
+    pub fn is_proxy(&self, address: IpAddr) -> bool {
+        match &self.proxies {
+            Some(proxies) => proxies.has(address),
+            None => false,
+        }
     }
 
     /// Returns how many milliseconds a publisher may give nothing; 0 sets no limit.

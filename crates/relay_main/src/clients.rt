@@ -77,10 +77,11 @@ pub fn addresses<R: Net>(host: &HostRuntime, rt: &R, server: &[u8]) -> Result<Ve
     }
 }
 
-/// Writes which variable is unfit, and returns the exit code.
+/// Writes which variable is unfit, unless that was done, and returns the exit code.
 pub fn unfit(host: &HostRuntime, unfit: Unfit) -> u8 {
     match unfit {
         Unfit::OutOfMemory => NO_MEMORY,
+        Unfit::Told => BAD_WORDS,
         Unfit::Variable { name, wanted } => {
             tell_unfit(host, name, wanted);
             BAD_WORDS

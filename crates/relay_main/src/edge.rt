@@ -6,7 +6,7 @@ use crate::clients::{addresses, unfit};
 use crate::request::{read_named, spelled};
 use crate::serve::{file_name, tell_end};
 use crate::starting::prepare;
-use crate::watching::{Unfit, tell_unfit, watching};
+use crate::watching::watching;
 use crate::{BAD_WORDS, HOUSE_FAULT, LINK_FAULT, NO_MEMORY, status, tell_fault};
 use edge_serve::{Edged, edge};
 use key_guard::Guards;
@@ -51,11 +51,7 @@ pub fn command<
     let name = file_name(words.get(..2).unwrap_or(words));
     let watching = match watching(host) {
         Ok(watching) => watching,
-        Err(Unfit::OutOfMemory) => return status(NO_MEMORY),
-        Err(Unfit::Variable { name, wanted }) => {
-            tell_unfit(host, name, wanted);
-            return status(BAD_WORDS);
-        }
+        Err(error) => return status(unfit(host, error)),
     };
     let mut config = Reading::new(ConfigFile::open(rt, name));
     let mut report = Writing::new(io::writer(host));

@@ -3,9 +3,10 @@
 
 use crate::adapters::{ConfigFile, Reading, Writing};
 use crate::check_config::explain;
+use crate::clients::unfit;
 use crate::starting::prepare;
-use crate::watching::{Unfit, tell_unfit, watching};
-use crate::{BAD_INPUT, BAD_WORDS, NO_MEMORY, READ_FAULT, WRITE_FAULT, status, tell_fault};
+use crate::watching::watching;
+use crate::{BAD_INPUT, NO_MEMORY, READ_FAULT, WRITE_FAULT, status, tell_fault};
 use key_guard::Guards;
 use relay_base::Status;
 use relay_edge::{RealHouse, is_heard};
@@ -62,11 +63,7 @@ pub fn command<
     let name = file_name(words);
     let watching = match watching(host) {
         Ok(watching) => watching,
-        Err(Unfit::OutOfMemory) => return status(NO_MEMORY),
-        Err(Unfit::Variable { name, wanted }) => {
-            tell_unfit(host, name, wanted);
-            return status(BAD_WORDS);
-        }
+        Err(error) => return status(unfit(host, error)),
     };
     let mut config = Reading::new(ConfigFile::open(rt, name));
     let mut report = Writing::new(io::writer(host));

@@ -80,6 +80,9 @@ Environment:
   RELAY_GATHER=N       lets the data for a player wait up to N milliseconds for
                        more, so that fewer and larger packets are sent; default
                        0, at most 500
+  RELAY_PROXIES=LIST   the IP addresses of HTTP proxies in front, with commas or
+                       spaces between them: the log and stats tell the address
+                       in their X-Forwarded-For; default none
   RELAY_CONTROL=PATH   the Unix socket for stats and stop, which only its owner
                        may use; default none
 ";

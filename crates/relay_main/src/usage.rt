@@ -28,6 +28,27 @@ fn wanted_by(command: &str) -> &'static str {
     }
 }
 
+// Returns whether the command has that option.
+fn has_option(command: &str, word: &[u8]) -> bool {
+    match command {
+        "push" => is(word, "--pace"),
+        "pull" => is(word, "--for") || is(word, "--from-zero"),
+        "stats" => is(word, "--json"),
+        _ => false,
+    }
+}
+
+// Returns the first of the words behind the command that looks like an option and that the command doesn't have.
+fn no_option<'a>(command: &str, more: &'a [Vec<u8>]) -> Option<&'a [u8]> {
+    for word in more {
+        let word = word.as_slice();
+        if word.starts_with(b"--") && !is(word, "--help") && !has_option(command, word) {
+            return Some(word);
+        }
+    }
+    None
+}
+
 // Returns whether these are the words behind `push` or `pull`.
 fn asks(wish: Wish, words: &[Vec<u8>]) -> bool {
     match read_options(wish, words) {
@@ -67,23 +88,38 @@ fn no_command<'a>(words: &'a [Vec<u8>]) -> &'a [u8] {
     }
 }
 
+// Writes the fault in the words behind a command's name: an option that it doesn't have, or what it wants.
+fn tell_words(rt: &HostRuntime, name: &str, more: &[Vec<u8>]) {
+    let _ = match no_option(name, more) {
+        Some(option) => eprintln!(rt;
+            "relay {name}: there is no option {} (see relay {name} --help)",
+            Shown {
+                text: str::from_utf8(option).unwrap_or("")
+            }
+        ),
+        None => eprintln!(rt;
+            "relay {name} wants {} (see relay {name} --help)",
+            wanted_by(name)
+        ),
+    };
+}
+
 /// Writes the fault in the words of a command line on standard error, unless their command has reported it.
 pub fn tell_misuse(rt: &HostRuntime, words: &[Vec<u8>]) {
     let Some((first, more)) = words.split_first() else {
         let _ = eprint!(rt; "{USAGE}");
         return;
     };
-    let _ = match command_named(first) {
-        Some(name) if is_said(name, more) => Ok(()),
-        Some(name) => eprintln!(rt;
-            "relay {name} wants {} (see relay {name} --help)",
-            wanted_by(name)
-        ),
-        None => eprintln!(rt;
-            "relay: there is no command {} (relay --help lists them)",
-            Shown {
-                text: str::from_utf8(no_command(words)).unwrap_or("")
-            }
-        ),
-    };
+    match command_named(first) {
+        Some(name) if is_said(name, more) => {}
+        Some(name) => tell_words(rt, name, more),
+        None => {
+            let _ = eprintln!(rt;
+                "relay: there is no command {} (relay --help lists them)",
+                Shown {
+                    text: str::from_utf8(no_command(words)).unwrap_or("")
+                }
+            );
+        }
+    }
 }

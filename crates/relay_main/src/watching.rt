@@ -1,8 +1,8 @@
 //! How a server is watched, by the variables of its environment.
 
-use relay_edge::{Bounds, Shown, Watching, is_heard};
-use std::env;
+use relay_edge::{Bounds, Proxies, Shown, Unlisted, Watching, is_heard};
 use std::env::VarError;
+use std::{env, str};
 
 /// The log's level.
 const LOG: &str = "RELAY_LOG";
@@ -40,6 +40,9 @@ const GATHER: &str = "RELAY_GATHER";
 /// The most milliseconds of [`GATHER`].
 const MOST_GATHER: u64 = 500;
 
+/// The addresses of the HTTP proxies in front.
+const PROXIES: &str = "RELAY_PROXIES";
+
 /// The levels of the log.
 const LEVELS: &str = "off, error, warn, info or debug";
 
@@ -50,6 +53,8 @@ pub enum Unfit {
         name: &'static str,
         wanted: &'static str,
     },
+    /// It was written on standard error what is wrong with it.
+    Told,
     OutOfMemory,
 }
 
@@ -117,6 +122,27 @@ fn has_times(host: &HostRuntime) -> Result<bool, Unfit> {
     }
 }
 
+// Returns the HTTP proxies in front, if the variable has some. Writes which word of it is no address.
+fn proxies(host: &HostRuntime) -> Result<Option<Proxies>, Unfit> {
+    let Some(value) = variable(host, PROXIES)? else {
+        return Ok(None);
+    };
+    match Proxies::read(host.alloc(), value.as_bytes()) {
+        Ok(proxies) => Ok(Some(proxies)),
+        Err(Unlisted::OutOfMemory) => Err(Unfit::OutOfMemory),
+        Err(Unlisted::NoAddress(word)) => {
+            if is_heard() {
+                let text = str::from_utf8(word).unwrap_or("");
+                let _ = eprintln!(host;
+                    "relay: {PROXIES}: {}: an IP address is wanted",
+                    Shown { text }
+                );
+            }
+            Err(Unfit::Told)
+        }
+    }
+}
+
 /// Returns the settings of the variables, or the variable with a value that it may not have.
 pub fn watching(host: &HostRuntime) -> Result<Watching, Unfit> {
     let level = match variable(host, LOG)? {
@@ -135,6 +161,7 @@ pub fn watching(host: &HostRuntime) -> Result<Watching, Unfit> {
         silence: silence.unwrap_or(SECONDS),
         times: has_times(host)?,
         bounds: bounds(host, silence)?,
+        proxies: proxies(host)?,
         control: variable(host, CONTROL)?,
     })
 }
