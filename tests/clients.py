@@ -70,11 +70,11 @@ class Origin:
         return found
 
     def until(self, word):
-        """Goes on to the command of that name."""
+        """Goes on to the command of that name, and returns its body."""
         while True:
             kind, body = self.hear()
             if kind == 20 and body.startswith(text(word)):
-                return
+                return body
 
     def begin(self, command, code, **more):
         """Answers a client up to its `publish` or `play`, and returns its `connect`."""
