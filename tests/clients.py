@@ -20,9 +20,9 @@ from sockets import AUDIO, CONFIGURATION, VIDEO, Client, Reader, Server, expect,
 HOST = "127.0.0.1"
 
 
-def status(level, code):
+def status(level, code, **more):
     """The body of a status."""
-    return text("onStatus") + number(0) + b"\x05" + table(level=level, code=code)
+    return text("onStatus") + number(0) + b"\x05" + table(level=level, code=code, **more)
 
 
 class Origin:
@@ -70,21 +70,22 @@ class Origin:
         return found
 
     def until(self, word):
-        """Goes on to the command of that name."""
+        """Goes on to the command of that name, and returns its body."""
         while True:
             kind, body = self.hear()
             if kind == 20 and body.startswith(text(word)):
-                return
+                return body
 
-    def begin(self, command, code):
-        """Answers a client up to its `publish` or `play`."""
+    def begin(self, command, code, **more):
+        """Answers a client up to its `publish` or `play`, and returns its `connect`."""
         self.greet()
-        self.until("connect")
+        asked = self.until("connect")
         self.say(20, 0, text("_result") + number(1) + table() + table(code="NetConnection.Connect.Success"))
         self.until("createStream")
         self.say(20, 0, text("_result") + number(2) + b"\x05" + number(1))
         self.until(command)
-        self.say(20, 1, status("error" if code.endswith("BadName") else "status", code))
+        self.say(20, 1, status("error" if code.endswith("BadName") else "status", code, **more))
+        return asked
 
     def close(self, reset=False):
         if reset:
@@ -226,7 +227,7 @@ def parting(relay, folder):
         origin.close(reset=True)
 
     def error(origin):
-        origin.say(20, 1, status("error", "NetStream.Record.Failed"))
+        origin.say(20, 1, status("error", "NetStream.Record.Failed", description="The disk\nis full."))
         time.sleep(0.2)
         origin.socket.close()
 
@@ -234,19 +235,20 @@ def parting(relay, folder):
     ends("a server that leaves it open", lambda origin: None, 0, "", 6, 20)
     ends("pings", ping, 0, "", 6, 20)
     ends("a reset", reset, 11, "Connection reset by peer", 0, 6)
-    ends("an error", error, 13, "relay: the server refused: NetStream.Record.Failed\n", 0, 6)
+    ends("an error", error, 13, "relay: the server refused: NetStream.Record.Failed: The disk?is full.\n", 0, 6)
 
 
 def refused(relay, folder):
-    """A push that is refused ends at once, though the server leaves the connection open."""
+    """A push that is refused says why, and ends at once though the server leaves the connection open."""
     origin = Origin()
     client = push(relay, origin.port)
     client.give(SMALL)
-    origin.begin("publish", "NetStream.Publish.BadName")
+    asked = origin.begin("publish", "NetStream.Publish.BadName", description="Somebody publishes live/cam.")
+    expect(text(f"rtmp://{HOST}:{origin.port}/live") in asked, f"refused: it connects with {asked}")
     since = time.monotonic()
     code, _, said, _ = client.end()
     took = time.monotonic() - since
-    expect(code == 13 and "NetStream.Publish.BadName" in said and took < 6, f"refused: it ends with {code}, {said!r} after {took:.1f} s")
+    expect(code == 13 and "NetStream.Publish.BadName: Somebody publishes live/cam.\n" in said and took < 6, f"refused: it ends with {code}, {said!r} after {took:.1f} s")
     origin.close()
 
 

@@ -522,9 +522,10 @@ def pushed(relay, folder):
     # The first tags come once the push has begun, however late the pull joins.
     came = pull.process.stdout.read(len(first))
     other = Command(relay, "push", server.port, "cam?secret").end(whole)
-    expect(other == (13, b"", "relay: the server refused: NetStream.Publish.BadName\nrelay: status 13 at 0\n"), f"pushed: a second push ends with {other}")
+    denied = lambda why: (13, b"", f"relay: the server refused: NetStream.Publish.BadName: {why}\nrelay: status 13 at 0\n")
+    expect(other == denied("In use."), f"pushed: a second push ends with {other}")
     wrong = Command(relay, "push", server.port, "cam?public").end(whole)
-    expect(wrong == other, f"pushed: a push with a wrong key ends with {wrong}")
+    expect(wrong == denied("Refused."), f"pushed: a push with a wrong key ends with {wrong}")
     ends = push.end(whole[len(first):])
     expect(ends == (0, b"", ""), f"pushed: the push ends with {ends}")
     status, out, said = pull.end()

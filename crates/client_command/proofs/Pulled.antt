@@ -15,7 +15,7 @@ use Rattle.rtmp_client.specs.declared.end.ClientEnd.TheVariants as end
 use Rattle.rtmp_client.specs.declared.end.ClientTurn.TheVariants.{Ended as TurnEnded}
 use Rattle.put_text.specs.Written.{WritesPart}
 use Rattle.client_command.specs.Closing.{IsRefusal, Tells, client_how, how_by, how_of}
-use Rattle.client_command.specs.Ends.{How, Whole, ByClient, BySink, ByMemory}
+use Rattle.client_command.specs.Ends.{How, Whole, ByClient, BySink, ByMemory, no_refusal}
 use Rattle.client_command.specs.Gifts.{IsOn, pull_text}
 use Rattle.client_command.specs.Pulls.{HasPulled, PullBy, PullOutcome, PullSeen, pull_seen}
 use Rattle.client_command.specs.Runs.{Causes, HasRun}
@@ -196,9 +196,9 @@ unpulled k seen = record {
 
 -- ---- the status
 
--- where there is no memory for the refusal's code
-lost : (k : Asked) (code : List ℕ) (old new : PullSeen) → HasPulled k (ByClient (end.Refused code)) old new → HasPulled k ByMemory old new
-lost k code old new h = record {
+-- where there is no memory for the refusal's words
+lost : (k : Asked) (code description : List ℕ) (old new : PullSeen) → HasPulled k (ByClient (end.Refused code description)) old new → HasPulled k ByMemory old new
+lost k code description old new h = record {
   y = h.y;
   rest = h.rest;
   ms = h.ms;
@@ -217,7 +217,7 @@ client_outcome o c k old new e i p t = by_how (subst (λ (q : Option ClientEnd).
   where
     by_how : HasPulled k (how_by o) old new → (Tells (how_by o) e ⊎ (IsRefusal (how_by o) × Tells ByMemory e)) → PullOutcome k old new e
     by_how h (inl t) = told_so (how_by o) k old new e h t
-    by_how h (inr r) = told_so ByMemory k old new e (lost k r.0.0 old new (subst (λ (q : How). HasPulled k q old new) r.0.1 h)) r.1
+    by_how h (inr r) = told_so ByMemory k old new e (lost k r.0.0 r.0.1 old new (subst (λ (q : How). HasPulled k q old new) r.0.2 h)) r.1
 
 other_outcome : (how : How) (k : Asked) (old new : PullSeen) (e : Ended) → HasPulled k how old new → (IsRefusal how → ⊥) → (Tells how e ⊎ (IsRefusal how × Tells ByMemory e)) → PullOutcome k old new e
 other_outcome how k old new e p n (inl t) = told_so how k old new e p t
@@ -225,15 +225,15 @@ other_outcome how k old new e p n (inr r) = absurd (n r.0)
 
 pub pull_outcome : (run : Result (Unit {0}) Stop) (o : Option ClientEnd) (c : ClientState) (k : Asked) (old new : PullSeen) (e : Ended) → o ≡ c.ended → PullEnds run k c old new
     → (Tells (how_of run o) e ⊎ (IsRefusal (how_of run o) × Tells ByMemory e)) → PullOutcome k old new e
-pull_outcome (Ok x) o c k old new e i p t = other_outcome Whole k old new e p (λ r. absurd (let f : Whole ≡ ByClient (end.Refused r.0) = r.1 in cc)) t
+pull_outcome (Ok x) o c k old new e i p t = other_outcome Whole k old new e p (λ r. absurd (let f : Whole ≡ ByClient (end.Refused r.0 r.1) = r.2 in cc)) t
 pull_outcome (Err Client) o c k old new e i p t = client_outcome o c k old new e i p t
 pull_outcome (Err (Refused at)) o c k old new e i p t = absurd p
 pull_outcome (Err Source) o c k old new e i p t = absurd p
-pull_outcome (Err Sink) o c k old new e i p t = other_outcome BySink k old new e p (λ r. absurd (let f : BySink ≡ ByClient (end.Refused r.0) = r.1 in cc)) t
-pull_outcome (Err Memory) o c k old new e i p t = other_outcome ByMemory k old new e p (λ r. absurd (let f : ByMemory ≡ ByClient (end.Refused r.0) = r.1 in cc)) t
+pull_outcome (Err Sink) o c k old new e i p t = other_outcome BySink k old new e p (λ r. absurd (let f : BySink ≡ ByClient (end.Refused r.0 r.1) = r.2 in cc)) t
+pull_outcome (Err Memory) o c k old new e i p t = other_outcome ByMemory k old new e p (λ r. absurd (let f : ByMemory ≡ ByClient (end.Refused r.0 r.1) = r.2 in cc)) t
 
 -- without a client
-pub no_client : (k : Asked) (seen : PullSeen) (e : Ended) → e ≡ record { status = record { code = 6; place = 0 }; refusal = [] } → PullOutcome k seen seen e
+pub no_client : (k : Asked) (seen : PullSeen) (e : Ended) → e ≡ record { status = record { code = 6; place = 0 }; refusal = no_refusal } → PullOutcome k seen seen e
 no_client k seen e i = told_so ByMemory k seen seen e (unpulled k seen) (record { status = ap (λ (x : Ended). x.status) i; refusal = ap (λ (x : Ended). x.refusal) i })
 
 -- a new client

@@ -27,7 +27,7 @@ use Rattle.rtmp_client.specs.declared.end.ClientEnd.{ClientEnd}
 use Rattle.rtmp_client.specs.declared.end.ClientEnd.TheVariants as end
 use Rattle.rtmp_client.specs.declared.end.ClientTurn.TheVariants.{Ended as TurnEnded}
 use Rattle.client_command.specs.Closing.{IsRefusal, Tells, client_how, how_by, how_of}
-use Rattle.client_command.specs.Ends.{How, Whole, ByClient, ByFilm, BySource, ByMemory}
+use Rattle.client_command.specs.Ends.{How, Whole, ByClient, ByFilm, BySource, ByMemory, no_refusal}
 use Rattle.client_command.specs.Film.{AreFirst, IsWhole, sends_in, tags_given}
 use Rattle.client_command.specs.Giving.{Gives, HasGiven, IsOpen, IsReading, NextStops, PushStops, ReadsNext, came_of}
 use Rattle.client_command.specs.Pushes.{HasPushed, PushBy, PushOutcome, PushSeen, push_seen}
@@ -304,8 +304,8 @@ out_stops k c d old told told' counts counts' left faults v t = (t.0, t.1, by_wh
 told_so : (how : How) (k : Asked) (old new : PushSeen) (e : Ended) → HasPushed k how old new → Tells how e → PushOutcome k old new e
 told_so how k old new e p t = record { how = how; status = t.status; refusal = t.refusal; pushed = p }
 
-lost : (k : Asked) (code : List ℕ) (old new : PushSeen) → HasPushed k (ByClient (end.Refused code)) old new → HasPushed k ByMemory old new
-lost k code old new h = record {
+lost : (k : Asked) (code description : List ℕ) (old new : PushSeen) → HasPushed k (ByClient (end.Refused code description)) old new → HasPushed k ByMemory old new
+lost k code description old new h = record {
   read = h.read;
   was_read = h.was_read;
   y = h.y;
@@ -319,7 +319,7 @@ lost k code old new h = record {
 
 by_tells : (how : How) (k : Asked) (old new : PushSeen) (e : Ended) → HasPushed k how old new → (Tells how e ⊎ (IsRefusal how × Tells ByMemory e)) → PushOutcome k old new e
 by_tells how k old new e p (inl t) = told_so how k old new e p t
-by_tells how k old new e p (inr r) = told_so ByMemory k old new e (lost k r.0.0 old new (subst (λ (q : How). HasPushed k q old new) r.0.1 p)) r.1
+by_tells how k old new e p (inr r) = told_so ByMemory k old new e (lost k r.0.0 r.0.1 old new (subst (λ (q : How). HasPushed k q old new) r.0.2 p)) r.1
 
 pub push_outcome : (stop : Stop) (o : Option ClientEnd) (c : ClientState) (k : Asked) (old new : PushSeen) (e : Ended) → o ≡ c.ended → PushStops stop k c old new
     → (Tells (how_of (Err stop) o) e ⊎ (IsRefusal (how_of (Err stop) o) × Tells ByMemory e)) → PushOutcome k old new e
@@ -330,7 +330,7 @@ push_outcome Sink o c k old new e i p t = absurd p
 push_outcome Memory o c k old new e i p t = by_tells ByMemory k old new e p t
 
 -- without a client
-pub no_client : (k : Asked) (seen : PushSeen) (e : Ended) → e ≡ record { status = record { code = 6; place = 0 }; refusal = [] } → PushOutcome k seen seen e
+pub no_client : (k : Asked) (seen : PushSeen) (e : Ended) → e ≡ record { status = record { code = 6; place = 0 }; refusal = no_refusal } → PushOutcome k seen seen e
 no_client k seen e i =
     told_so ByMemory k seen seen e
     (record {

@@ -42,7 +42,7 @@ use Rattle.client_command.proofs.Passing.{calm_here, calm_then, passed_as, passe
 -- ---- a message that ends no client does so at each place
 
 ended_anywhere : (at : ℕ) (r : Result News CommandFail) → ended_by at r ≡ None → ended_by 0 r ≡ None
-ended_anywhere at (Ok (news.Refused code)) e = absurd (cc)
+ended_anywhere at (Ok (news.Refused code description)) e = absurd (cc)
 ended_anywhere at (Ok (news.Done transaction number)) e = refl
 ended_anywhere at (Ok (news.Status code)) e = refl
 ended_anywhere at (Ok news.Other) e = refl
@@ -75,7 +75,7 @@ causes_calm (end.BadVersion at) ms all n m o c h = (h.0, calm_then n m o c h.1)
 causes_calm (end.BadChunk cause at) ms all n m o c h = (h.0, calm_then n m o c h.1)
 causes_calm (end.BadControl at) ms all n m o c h = (h.0, calm_then n m o c h.1)
 causes_calm (end.BadCommand at) ms all n m o c h = (h.0, calm_then n m o c h.1)
-causes_calm (end.Refused code) ms all n m o c h = (h.0, calm_then n m o c h.1)
+causes_calm (end.Refused code description) ms all n m o c h = (h.0, calm_then n m o c h.1)
 causes_calm end.Done ms all n m o c h = h
 causes_calm end.OutOfMemory ms all n m o c h = calm_then n m o c h
 
@@ -86,7 +86,7 @@ decided_why (end.BadVersion at) ms all n x y d c = ((n, d), c)
 decided_why (end.BadChunk cause at) ms all n x y d c = ((n, d), c)
 decided_why (end.BadControl at) ms all n x y d c = ((n, d), c)
 decided_why (end.BadCommand at) ms all n x y d c = ((n, d), c)
-decided_why (end.Refused code) ms all n x y d c = ((n, d), c)
+decided_why (end.Refused code description) ms all n x y d c = ((n, d), c)
 decided_why end.Done ms all n x y d c = absurd d
 decided_why end.OutOfMemory ms all n x y d c = c
 
@@ -422,5 +422,5 @@ by_client_end P (end.BadVersion at) n h = h
 by_client_end P (end.BadChunk cause at) n h = h
 by_client_end P (end.BadControl at) n h = h
 by_client_end P (end.BadCommand at) n h = h
-by_client_end P (end.Refused code) n h = h
+by_client_end P (end.Refused code description) n h = h
 by_client_end P end.OutOfMemory n h = h

@@ -18,7 +18,7 @@ client_how (end.BadVersion at) = ByClient (end.BadVersion at)
 client_how (end.BadChunk cause at) = ByClient (end.BadChunk cause at)
 client_how (end.BadControl at) = ByClient (end.BadControl at)
 client_how (end.BadCommand at) = ByClient (end.BadCommand at)
-client_how (end.Refused code) = ByClient (end.Refused code)
+client_how (end.Refused code description) = ByClient (end.Refused code description)
 client_how end.OutOfMemory = ByClient end.OutOfMemory
 
 abbrev pub how_by : Option ClientEnd → How
@@ -33,18 +33,18 @@ how_of (Err Source) o = BySource
 how_of (Err Sink) o = BySink
 how_of (Err Memory) o = ByMemory
 
--- its status and the refusal's code are told
+-- its status and the words of the refusal are told
 pub record Tells (how : How) (e : Ended) : Type 0 where
   pub status : e.status ≡ status_of how
   pub refusal : e.refusal ≡ refusal_of how
 
 -- the client was refused
 abbrev pub IsRefusal : How → Type 0
-IsRefusal how = (code : List ℕ) × (how ≡ ByClient (end.Refused code))
+IsRefusal how = (code : List ℕ) × (description : List ℕ) × (how ≡ ByClient (end.Refused code description))
 
--- there is no memory for the code
+-- there is no memory for the words
 abbrev pub IsLost : ClientEnd → Type 0
-IsLost e = (code : List ℕ) × (e ≡ end.Refused code)
+IsLost e = (code : List ℕ) × (description : List ℕ) × (e ≡ end.Refused code description)
 
 abbrev pub MayTell : Result Ended OutOfMemory → How → Type 0
 MayTell (Ok e) how = Tells how e

@@ -1,5 +1,6 @@
 -- How a command ends, and its code
-use Rattle.std.specs.Prelude.{ℕ, List, []}
+use Rattle.std.specs.Prelude.{ℕ, []}
+use Rattle.client_command.specs.declared.ending.Refusal.{Refusal}
 use Rattle.relay_base.specs.declared.limits.Status.{Status}
 use Rattle.rtmp_client.specs.declared.end.ClientEnd.{ClientEnd}
 use Rattle.rtmp_client.specs.declared.end.ClientEnd.TheVariants as end
@@ -25,7 +26,7 @@ client_status (end.BadVersion at) = status_at 12 at
 client_status (end.BadChunk cause at) = status_at 12 at
 client_status (end.BadControl at) = status_at 12 at
 client_status (end.BadCommand at) = status_at 12 at
-client_status (end.Refused code) = status_at 13 0
+client_status (end.Refused code description) = status_at 13 0
 client_status end.Done = status_at 0 0
 client_status end.OutOfMemory = status_at 6 0
 
@@ -38,22 +39,25 @@ status_of BySource = status_at 3 0
 status_of BySink = status_at 5 0
 status_of ByMemory = status_at 6 0
 
-abbrev pub code_in : ClientEnd → List ℕ
-code_in (end.Refused code) = code
-code_in end.PeerClosed = []
-code_in end.LinkFault = []
-code_in (end.BadVersion at) = []
-code_in (end.BadChunk cause at) = []
-code_in (end.BadControl at) = []
-code_in (end.BadCommand at) = []
-code_in end.Done = []
-code_in end.OutOfMemory = []
+abbrev pub no_refusal : Refusal
+no_refusal = record { code = []; description = [] }
+
+abbrev pub refusal_in : ClientEnd → Refusal
+refusal_in (end.Refused code description) = record { code = code; description = description }
+refusal_in end.PeerClosed = no_refusal
+refusal_in end.LinkFault = no_refusal
+refusal_in (end.BadVersion at) = no_refusal
+refusal_in (end.BadChunk cause at) = no_refusal
+refusal_in (end.BadControl at) = no_refusal
+refusal_in (end.BadCommand at) = no_refusal
+refusal_in end.Done = no_refusal
+refusal_in end.OutOfMemory = no_refusal
 
 -- what the server said that refused the client
-abbrev pub refusal_of : How → List ℕ
-refusal_of (ByClient e) = code_in e
-refusal_of Whole = []
-refusal_of (ByFilm at) = []
-refusal_of BySource = []
-refusal_of BySink = []
-refusal_of ByMemory = []
+abbrev pub refusal_of : How → Refusal
+refusal_of (ByClient e) = refusal_in e
+refusal_of Whole = no_refusal
+refusal_of (ByFilm at) = no_refusal
+refusal_of BySource = no_refusal
+refusal_of BySink = no_refusal
+refusal_of ByMemory = no_refusal

@@ -50,6 +50,6 @@ Causes (end.BadVersion at) ms all n n' = Decided ms all (end.BadVersion at) × I
 Causes (end.BadChunk cause at) ms all n n' = Decided ms all (end.BadChunk cause at) × IsCalm n n'
 Causes (end.BadControl at) ms all n n' = Decided ms all (end.BadControl at) × IsCalm n n'
 Causes (end.BadCommand at) ms all n n' = Decided ms all (end.BadCommand at) × IsCalm n n'
-Causes (end.Refused code) ms all n n' = Decided ms all (end.Refused code) × IsCalm n n'
+Causes (end.Refused code description) ms all n n' = Decided ms all (end.Refused code description) × IsCalm n n'
 Causes end.Done ms all n n' = ⊥
 Causes end.OutOfMemory ms all n n' = IsCalm n n'

@@ -18,13 +18,14 @@ pub record IsShort (word : List ℕ) : Type 0 where
   pub some : 0 < length word
   pub most : length word ≤ 255
 
-abbrev pub AreShort : List ℕ → List ℕ → Type 0
-AreShort app name = IsShort app × IsShort name
+abbrev pub AreShort : List ℕ → List ℕ → List ℕ → Type 0
+AreShort address app name = IsShort address × IsShort app × IsShort name
 
--- `push ADDRESS APP NAME` or `pull ADDRESS APP NAME`, where APP and NAME have 1 to 255 bytes
-abbrev pub asked_by : Wish → List ℕ → List ℕ → List ℕ → Option Asked
-asked_by w word app name =
-    if is_text word (word_of w) && (is_short app && is_short name) then Some (record { wish = w; app = app; name = name }) else None
+-- `push ADDRESS APP NAME` or `pull ADDRESS APP NAME`, where each of the three has 1 to 255 bytes
+abbrev pub asked_by : Wish → List ℕ → List ℕ → List ℕ → List ℕ → Option Asked
+asked_by w word address app name =
+    if is_text word (word_of w) && (is_short address && (is_short app && is_short name))
+    then Some (record { wish = w; address = address; app = app; name = name }) else None
 
 -- WHAT THE WORDS ASK FOR
 abbrev pub asked_of : Wish → List (List ℕ) → Option Asked
@@ -32,5 +33,5 @@ asked_of w [] = None
 asked_of w (word ∷ []) = None
 asked_of w (word ∷ address ∷ []) = None
 asked_of w (word ∷ address ∷ app ∷ []) = None
-asked_of w (word ∷ address ∷ app ∷ name ∷ []) = asked_by w word app name
+asked_of w (word ∷ address ∷ app ∷ name ∷ []) = asked_by w word address app name
 asked_of w (word ∷ address ∷ app ∷ name ∷ other ∷ words) = None

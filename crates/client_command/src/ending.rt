@@ -1,6 +1,6 @@
-ghost use Rattle.std.specs.Prelude.{◌≡◌, ◌⊎◌, [], IfErr, IfOk};
+ghost use Rattle.std.specs.Prelude.{◌≡◌, ◌⊎◌, IfErr, IfOk};
 ghost use Rattle.client_command.specs.Closing.{IsLost, IsRefusal, MayTell, Tells, how_by, how_of};
-ghost use Rattle.client_command.specs.Ends.{ByMemory, client_status, code_in};
+ghost use Rattle.client_command.specs.Ends.{ByMemory, client_status, no_refusal, refusal_in};
 
 use crate::stop::Stop;
 use av_unit::{Bytes, OutOfMemory};
@@ -8,34 +8,44 @@ use relay_base::Status;
 use rtmp_client::ClientEnd;
 use std::alloc::Global;
 
-/// The ending of a command: its status, and the code by which the server refused the client. There are no
-/// bytes if it didn't refuse, or told no code.
+/// The words by which a server refused a client: the code and the description of its answer. There are no bytes
+/// if it didn't refuse, or didn't tell them.
+#[derive(Drop)]
+pub struct Refusal {
+    pub code: Bytes,
+    pub description: Bytes,
+}
+
+/// The ending of a command: its status, and the words by which the server refused the client.
 #[derive(Drop)]
 pub struct Ended {
     pub status: Status,
-    pub refusal: Bytes,
+    pub refusal: Refusal,
 }
 
 /// It ended with this code, and no place.
 pub(crate) fn with_code(alloc: Global, code: u8) -> Ended
-    ensures { result ≡ record { status = record { code = code; place = 0 }; refusal = [] } }
+    ensures { result ≡ record { status = record { code = code; place = 0 }; refusal = no_refusal } }
 {
     with_place(alloc, code, 0)
 }
 
 // It ended with this code at a place.
 fn with_place(alloc: Global, code: u8, place: u64) -> Ended
-    ensures { result ≡ record { status = record { code = code; place = place }; refusal = [] } }
+    ensures { result ≡ record { status = record { code = code; place = place }; refusal = no_refusal } }
 {
     Ended {
         status: Status { code, place },
-        refusal: Bytes::new(alloc),
+        refusal: Refusal {
+            code: Bytes::new(alloc),
+            description: Bytes::new(alloc),
+        },
     }
 }
 
 // By the end of the client.
 fn by_client(alloc: Global, end: &ClientEnd) -> Result<Ended, OutOfMemory>
-    ensures ok { IfOk result (λ e. e ≡ record { status = client_status end.now; refusal = code_in end.now }) }
+    ensures ok { IfOk result (λ e. e ≡ record { status = client_status end.now; refusal = refusal_in end.now }) }
     ensures err { IfErr result (λ _. IsLost end.now) }
 {
     match end {
@@ -45,14 +55,13 @@ fn by_client(alloc: Global, end: &ClientEnd) -> Result<Ended, OutOfMemory>
         ClientEnd::BadChunk { cause: _, at } => Ok(with_place(alloc, 12, *at)),
         ClientEnd::BadControl { at } => Ok(with_place(alloc, 12, *at)),
         ClientEnd::BadCommand { at } => Ok(with_place(alloc, 12, *at)),
-        ClientEnd::Refused { code } => {
-            let mut refusal = Bytes::new(alloc);
-            refusal.append(code.as_slice())?;
-            Ok(Ended {
-                status: Status { code: 13, place: 0 },
-                refusal,
-            })
-        }
+        ClientEnd::Refused { code, description } => Ok(Ended {
+            status: Status { code: 13, place: 0 },
+            refusal: Refusal {
+                code: code.again()?,
+                description: description.again()?,
+            },
+        }),
         ClientEnd::Done => Ok(with_code(alloc, 0)),
         ClientEnd::OutOfMemory => Ok(with_code(alloc, 6)),
     }

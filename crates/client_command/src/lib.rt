@@ -35,7 +35,7 @@ mod turning;
 mod words;
 
 pub use ahead::Ahead;
-pub use ending::Ended;
+pub use ending::{Ended, Refusal};
 pub use film::{Film, bytes_read, new_film, next};
 pub use gifts::{is_last, write_gift};
 pub use pulling::pull;

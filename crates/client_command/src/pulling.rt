@@ -15,7 +15,7 @@ use crate::gifts::{is_last, write_gift};
 use crate::starting::start;
 use crate::stop::{Step, Stop};
 use crate::turning::{taken, turn_once};
-use crate::words::target_of;
+use crate::words::{Target, target_of};
 use client_owed::Wish;
 use relay_outside::{Link, News, Rest, Sink};
 use rtmp_client::{Client, ClientTurn};
@@ -122,18 +122,17 @@ fn pull_all<W: Wait, L: Link, R: Rest, K: Sink>(
 fn pull_stream<W: Wait, L: Link, R: Rest, K: Sink>(
     rt: &W,
     alloc: Global,
-    app: &[u8],
-    name: &[u8],
+    target: Target<'_>,
     link: &mut L,
     rest: &mut R,
     out: &mut K,
 ) -> Ended
-    requires short { AreShort app.now name.now }
-    ensures { PullOutcome (record { wish = Pull; app = app.now; name = name.now })
+    requires short { AreShort target.address.now target.app.now target.name.now }
+    ensures { PullOutcome (record { wish = Pull; address = target.entry.address.now; app = target.entry.app.now; name = target.entry.name.now })
         (pull_seen (L.told link.old) (L.counts link.old) (K.holds out.old) (K.faults out.old))
         (pull_seen (L.told link.new) (L.counts link.new) (K.holds out.new) (K.faults out.new)) result }
 {
-    match start(alloc, Wish::Pull, app, name) {
+    match start(alloc, Wish::Pull, target.address, target.app, target.name) {
         Err(_) => with_code(alloc, 6),
         Ok(mut client) => {
             let run = pull_all(rt, alloc, &mut client, link, rest, out);
@@ -145,8 +144,9 @@ fn pull_stream<W: Wait, L: Link, R: Rest, K: Sink>(
 /// Plays a stream of an RTMP server, and writes it as FLV (annex E of Adobe's FLV 10.1) up to its end, each
 /// tag as it comes.
 ///
-/// The words are `pull ADDRESS APP NAME`. APP and NAME have 1 to 255 bytes, and a key may stand in NAME
-/// behind `?`. The server that the address names is the caller's affair. It may wait, and rests after each
+/// The words are `pull ADDRESS APP NAME`. Each of the three has 1 to 255 bytes, and a key may stand
+/// in NAME behind `?`. The address is told to the server; to connect to it is the caller's affair. It may
+/// wait, and rests after each
 /// turn in which nothing moved. The answer's code tells how it ended:
 ///
 /// | Code | Comes | Written |
@@ -158,7 +158,7 @@ fn pull_stream<W: Wait, L: Link, R: Rest, K: Sink>(
 /// | 10 | only if the link's ends rose | the header and the tags that came; nothing if none of a stream was told |
 /// | 11 | only if the link's faults rose | the same |
 /// | 12 | the bytes that came are no RTMP at the byte `place` | the same |
-/// | 13 | the server refused, with the code that the answer tells | the same |
+/// | 13 | the server refused, in the words that the answer tells | the same |
 ///
 /// `place` is 0 but for code 12.
 pub fn pull<W: Wait, L: Link, R: Rest, K: Sink>(
@@ -178,5 +178,5 @@ pub fn pull<W: Wait, L: Link, R: Rest, K: Sink>(
     let Some(target) = target_of(Wish::Pull, words) else {
         return with_code(alloc, 2);
     };
-    pull_stream(rt, alloc, target.app, target.name, link, rest, out)
+    pull_stream(rt, alloc, target, link, rest, out)
 }

@@ -22,7 +22,7 @@ use crate::film::{Film, new_film, next};
 use crate::starting::start;
 use crate::stop::{Step, Stop};
 use crate::turning::turn_once;
-use crate::words::target_of;
+use crate::words::{Target, target_of};
 use av_unit::OutOfMemory;
 use client_owed::{Wish, give_step};
 use flv_tags::Tag;
@@ -184,18 +184,17 @@ fn push_all<W: Wait, S: Source, L: Link, R: Rest>(
 fn push_stream<W: Wait, S: Source, L: Link, R: Rest>(
     rt: &W,
     alloc: Global,
-    app: &[u8],
-    name: &[u8],
+    target: Target<'_>,
     input: &mut S,
     link: &mut L,
     rest: &mut R,
 ) -> Ended
-    requires short { AreShort app.now name.now }
-    ensures { PushOutcome (record { wish = Push; app = app.now; name = name.now })
+    requires short { AreShort target.address.now target.app.now target.name.now }
+    ensures { PushOutcome (record { wish = Push; address = target.entry.address.now; app = target.entry.app.now; name = target.entry.name.now })
         (push_seen (S.left input.old) (S.faults input.old) (L.told link.old) (L.counts link.old))
         (push_seen (S.left input.new) (S.faults input.new) (L.told link.new) (L.counts link.new)) result }
 {
-    match start(alloc, Wish::Push, app, name) {
+    match start(alloc, Wish::Push, target.address, target.app, target.name) {
         Err(_) => with_code(alloc, 6),
         Ok(mut client) => {
             let mut film = new_film(alloc);
@@ -208,8 +207,9 @@ fn push_stream<W: Wait, S: Source, L: Link, R: Rest>(
 /// Publishes a film of FLV (annex E of Adobe's FLV 10.1) at an RTMP server. Each tag is sent as it is read,
 /// so the film's source gives the pace.
 ///
-/// The words are `push ADDRESS APP NAME`. APP and NAME have 1 to 255 bytes, and a key may stand in NAME
-/// behind `?`. The server that the address names is the caller's affair. It may wait, and rests after each
+/// The words are `push ADDRESS APP NAME`. Each of the three has 1 to 255 bytes, and a key may stand
+/// in NAME behind `?`. The address is told to the server; to connect to it is the caller's affair. It may
+/// wait, and rests after each
 /// turn in which nothing moved. The film is asked for more only if nothing is to be sent and the server has
 /// nothing more to say. The answer's code tells how it ended:
 ///
@@ -223,7 +223,7 @@ fn push_stream<W: Wait, S: Source, L: Link, R: Rest>(
 /// | 10 | only if the link's ends rose | the same |
 /// | 11 | only if the link's faults rose | the same |
 /// | 12 | the bytes that came are no RTMP at the byte `place` | the same |
-/// | 13 | the server refused, with the code that the answer tells | the same |
+/// | 13 | the server refused, in the words that the answer tells | the same |
 ///
 /// `place` is 0 but for codes 4 and 12.
 pub fn push<W: Wait, S: Source, L: Link, R: Rest>(
@@ -243,5 +243,5 @@ pub fn push<W: Wait, S: Source, L: Link, R: Rest>(
     let Some(target) = target_of(Wish::Push, words) else {
         return with_code(alloc, 2);
     };
-    push_stream(rt, alloc, target.app, target.name, input, link, rest)
+    push_stream(rt, alloc, target, input, link, rest)
 }

@@ -19,14 +19,21 @@ fn bytes_of(alloc: Global, text: &[u8]) -> Result<Bytes, OutOfMemory>
     Ok(bytes)
 }
 
-/// A client that asks for the stream.
-pub fn start(alloc: Global, wish: Wish, app: &[u8], name: &[u8]) -> Result<Client, OutOfMemory>
-    requires { AreShort app.now name.now }
-    ensures asked { IfOk result (λ c. c.parts.asked ≡ record { wish = wish; app = app.now; name = name.now }) }
+/// A client that asks for the stream at the server of that address.
+pub fn start(
+    alloc: Global,
+    wish: Wish,
+    address: &[u8],
+    app: &[u8],
+    name: &[u8],
+) -> Result<Client, OutOfMemory>
+    requires { AreShort address.now app.now name.now }
+    ensures asked { IfOk result (λ c. c.parts.asked ≡ record { wish = wish; address = address.now; app = app.now; name = name.now }) }
     ensures fresh { IfOk result IsNew }
     ensures live { IfOk result IsLive }
 {
+    let address = bytes_of(alloc, address)?;
     let app = bytes_of(alloc, app)?;
     let name = bytes_of(alloc, name)?;
-    Client::new(alloc, wish, app, name, MOST_MESSAGE)
+    Client::new(alloc, wish, address, app, name, MOST_MESSAGE)
 }

@@ -38,21 +38,21 @@ fn asked_by<'a>(
     app: &'a [u8],
     name: &'a [u8],
 ) -> Option<Target<'a>>
-    ensures asked { option_map (λ t. record { wish = wish; app = t.app.now; name = t.name.now }) result ≡ asked_by wish word.now app.now name.now }
-    ensures short { IfSome result (λ t. AreShort t.app.now t.name.now) }
+    ensures asked { option_map (λ t. record { wish = wish; address = t.address.now; app = t.app.now; name = t.name.now }) result ≡ asked_by wish word.now address.now app.now name.now }
+    ensures short { IfSome result (λ t. AreShort t.address.now t.app.now t.name.now) }
 {
-    if word == word_of(wish) && is_short(app) && is_short(name) {
+    if word == word_of(wish) && is_short(address) && is_short(app) && is_short(name) {
         Some(Target { address, app, name })
     } else {
         None
     }
 }
 
-/// Returns the request in the words, if they are `push ADDRESS APP NAME`, or `pull` and the same. APP and
-/// NAME have 1 to 255 bytes.
+/// Returns the request in the words, if they are `push ADDRESS APP NAME`, or `pull` and the same. Each of the
+/// three has 1 to 255 bytes.
 pub fn target_of(wish: Wish, words: &[Vec<u8>]) -> Option<Target<'_>>
-    ensures asked { option_map (λ t. record { wish = wish; app = t.app.now; name = t.name.now }) result ≡ asked_of wish (map (λ w. w.items) words.now) }
-    ensures short { IfSome result (λ t. AreShort t.app.now t.name.now) }
+    ensures asked { option_map (λ t. record { wish = wish; address = t.address.now; app = t.app.now; name = t.name.now }) result ≡ asked_of wish (map (λ w. w.items) words.now) }
+    ensures short { IfSome result (λ t. AreShort t.address.now t.app.now t.name.now) }
 {
     match words {
         [word, address, app, name] => asked_by(

@@ -37,7 +37,7 @@ refused w = answers 1 (answer.PlayRefused w)
 refused_stays : (k : Asked) (w : Why) → NoStart k (refused w)
 unfolding body_of
 refused_stays k w =
-    command_stays k 1 (body_of (answer.PlayRefused w)) (Refused (codes "NetStream.Play.StreamNotFound")) (status_read (codes "error") (codes "NetStream.Play.StreamNotFound") (description_of w) (omega arith) (omega arith) (why_short w)) tt
+    command_stays k 1 (body_of (answer.PlayRefused w)) (Refused (codes "NetStream.Play.StreamNotFound") (description_of w)) (status_read (codes "error") (codes "NetStream.Play.StreamNotFound") (description_of w) (omega arith) (omega arith) (why_short w)) tt
 
 learned : (k : Asked) (p : Phase) (stream : ℕ) (body : List ℕ) (n : News) → news_in body ≡ Ok n → (does k p (record { kind = 20; stream = stream; time = 0; body = body })).phase ≡ (learns k p n).phase
 unfolding does control_in

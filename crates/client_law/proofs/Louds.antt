@@ -112,15 +112,15 @@ goes_started k id false = refl
 
 goes_learns : (k : Asked) (p : Phase) (n : News) → Goes k p (learns k p n)
 goes_learns k Connecting (Done n v) = goes_connected k (n == Rattle.amf0_value.specs.Pattern.pattern 1)
-goes_learns k Connecting (Refused code) = goes_stays k Connecting
+goes_learns k Connecting (Refused code description) = goes_stays k Connecting
 goes_learns k Connecting (Status code) = goes_stays k Connecting
 goes_learns k Connecting Other = goes_stays k Connecting
 goes_learns k Creating (Done n v) = goes_then k (n == Rattle.amf0_value.specs.Pattern.pattern 2) v
-goes_learns k Creating (Refused code) = goes_stays k Creating
+goes_learns k Creating (Refused code description) = goes_stays k Creating
 goes_learns k Creating (Status code) = goes_stays k Creating
 goes_learns k Creating Other = goes_stays k Creating
 goes_learns k (Asking id) (Done n v) = goes_stays k (Asking id)
-goes_learns k (Asking id) (Refused code) = goes_stays k (Asking id)
+goes_learns k (Asking id) (Refused code description) = goes_stays k (Asking id)
 goes_learns k (Asking id) (Status code) = goes_started k id (is_text code (start_code k.wish))
 goes_learns k (Asking id) Other = goes_stays k (Asking id)
 goes_learns k (Started id) n = goes_stays k (Started id)

@@ -31,6 +31,7 @@ use Rattle.client_law.proofs.Louds.{acks_quiet, loud_joined, loud_owed, loud_say
 use Rattle.client_law.proofs.Push.{after_small, pattern_low}
 use Rattle.client_law.proofs.SoFar.{PlaysFrom, SoFar, plays_at}
 use Rattle.client_law.proofs.Stages.{not_some, sends_all, walk_found}
+use Rattle.client_law.proofs.Steps.{url_short}
 use Rattle.client_law.proofs.Telling.{phase_in, told_bare, told_from, told_joined, told_loud, told_started}
 use Rattle.client_law.proofs.Uptos.{says_above, upto_says, upto_split}
 
@@ -140,7 +141,7 @@ module _ (k : Asked) (who window max : ℕ) (desk : Ask → Grant) (pull : k.wis
       let small = after_small k Connecting ns (omega arith) in
       let low : pattern id < 2 ^ 64 = pattern_low id (omega (arith, small)) in
       let b = sends n o ns ms T C h in
-      let f = walk_found desk who window k C id (omega (arith, h.named.app)) (omega (arith, h.named.name)) low pull o ms h.rose b.0 b.1 in
+      let f = walk_found desk who window k C id (url_short k h.named) (omega (arith, h.named.name)) low pull o ms h.rose b.0 b.1 in
       let later = told_from k (phase_in k Connecting (bare ns)) h.later in (
         later,
         ap (λ x. x ++ later) (told_bare k Connecting ns) ∙ sym (told_joined k Connecting (bare ns) h.later) ∙ ap (told_from k Connecting) h.told ∙ sym (told_loud k Connecting (owing.owed d o ms C))

@@ -48,6 +48,7 @@ use Rattle.client_law.specs.Loud.{Every, EverySaid, asked_by, bare, loud, loud_p
 use Rattle.client_law.proofs.Alike.{Alike, alike_walk, bare_loud, every_join}
 use Rattle.client_law.proofs.Louds.{loud_owed, start_phase}
 use Rattle.client_law.proofs.Starts.{IsBefore, NoStart, before_after, connected_stays, created_stays, notify_stays, other_stays, pong_stays, refused_stays, unpublish_stays}
+use Rattle.client_law.proofs.Steps.{url_short}
 use Rattle.client_law.proofs.Walks.{Outcome, push_walk}
 
 -- ---- what holds of all that a session says holds of all that it owes
@@ -179,15 +180,15 @@ started_small id false h = h
 
 news_small : (k : Asked) (p : Phase) (n : News) → IsSmall p → IsSmall (learns k p n).phase
 news_small k Connecting (Done n v) h = connected_small (n == pattern 1)
-news_small k Connecting (Refused code) h = h
+news_small k Connecting (Refused code description) h = h
 news_small k Connecting (Status code) h = h
 news_small k Connecting Other h = h
 news_small k Creating (Done n v) h = then_small k (n == pattern 2) v
-news_small k Creating (Refused code) h = h
+news_small k Creating (Refused code description) h = h
 news_small k Creating (Status code) h = h
 news_small k Creating Other h = h
 news_small k (Asking id) (Done n v) h = h
-news_small k (Asking id) (Refused code) h = h
+news_small k (Asking id) (Refused code description) h = h
 news_small k (Asking id) (Status code) h = started_small id (is_text code (start_code k.wish)) h
 news_small k (Asking id) Other h = h
 news_small k (Started id) n h = h
@@ -242,5 +243,5 @@ module _ (k : Asked) (who window max : ℕ) (desk : Ask → Grant) (push : k.wis
       let id_low : s.0 < 2 ^ 32 = subst IsSmall s.1 small in
       let p : pattern s.0 < 2 ^ 64 = pattern_low s.0 (omega (arith, id_low)) in
       started_so n o s.0 ns ms (g ∷ T) C h s.1
-      (push_walk Q desk who window (connected_stays k window) (created_stays k) (λ w. refused_stays k 1 w) k max (Rattle.session_owed.specs.Talk.hand_bytes + h.given.0) (Rattle.session_owed.specs.Talk.hand_bytes + n) s.0 C (g ∷ T) (loud_placed ms) (omega (arith, h.named.app)) (omega (arith, h.named.name)) p push h.given.2
+      (push_walk Q desk who window (connected_stays k window) (created_stays k) (λ w. refused_stays k 1 w) k max (Rattle.session_owed.specs.Talk.hand_bytes + h.given.0) (Rattle.session_owed.specs.Talk.hand_bytes + n) s.0 C (g ∷ T) (loud_placed ms) (url_short k h.named) (omega (arith, h.named.name)) p push h.given.2
       (loud_are n o s.0 ns ms (g ∷ T) C h s.1))

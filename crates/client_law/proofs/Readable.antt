@@ -1,10 +1,10 @@
 -- What a client owes can be written and read
-use Rattle.std.proofs.Common.{◌≡◌, ℕ, ◌+◌, ◌<◌, ◌≤◌, ◌^◌, Bool, true, false, ◌==◌, ◌&&◌, ◌||◌, nat_le, nat_lt, nat_eq, if◌then◌else◌, List, [], ◌∷◌, ◌++◌, length, map, Option, Some, None, Result, Ok, Err, refl, ap, arith, length-append}
+use Rattle.std.proofs.Common.{◌≡◌, ℕ, ◌+◌, ◌*◌, ◌<◌, ◌≤◌, ◌^◌, Bool, true, false, ◌==◌, ◌&&◌, ◌||◌, nat_le, nat_lt, nat_eq, if◌then◌else◌, List, [], ◌∷◌, ◌++◌, length, map, Option, Some, None, Result, Ok, Err, refl, ap, arith, length-append}
 use Rattle.std.specs.Prelude.{codes}
 use Rattle.std.specs.Int.{w16}
 use Rattle.std.proofs.lemmas.Bool.Decides.{nat_tests}
 use Rattle.relay_base.specs.Numbers.{be32_of}
-use Rattle.amf0_value.specs.Tree.{Tree, number, text, object, null, Items, item, no_items, member, no_members}
+use Rattle.amf0_value.specs.Tree.{Tree, number, text, object, null, Items, item, no_items, Members, member, no_members}
 use Rattle.amf0_value.specs.Pattern.{pattern}
 use Rattle.amf0_value.specs.Spelling.{be}
 use Rattle.amf0_value.specs.Encoding.{items_spelling, members_spelling, spelling}
@@ -32,7 +32,7 @@ use Rattle.client_owed.specs.declared.types.Given.TheVariants.{Finish, Send}
 use Rattle.client_owed.specs.declared.types.News.TheVariants.{Done, Refused, Status, Other}
 use Rattle.client_owed.specs.declared.types.Phase.TheVariants.{Connecting, Creating, Asking, Started}
 use Rattle.client_owed.specs.News.{is_text, news_in}
-use Rattle.client_owed.specs.Client.{Did, ask, asks, chunk_size, connect, connects, create_stream, created, creates, delete_stream, deletes, does, does_by, is_id, learns, learns_by, pongs, start_code, stays, whole}
+use Rattle.client_owed.specs.Client.{Did, ask, asks, chunk_size, connect, connects, create_stream, created, creates, delete_stream, deletes, described, does, does_by, flash_ver, is_id, learns, learns_by, pongs, start_code, stays, tc_url, whole}
 use Rattle.client_owed.specs.Owed.{AreGiven, Follow, MayGive, at_count, first_window, gave_on, id_of, owed, phase_of, said_after, sent_on}
 use Rattle.client_law.specs.Laws.{IsNamed}
 use Rattle.client_law.specs.Loud.{Every, EverySaid}
@@ -52,18 +52,28 @@ number_length n = refl
 item_length : (v : Tree) (vs : Items) → length (items_spelling (item v vs)) ≡ length (spelling v) + length (items_spelling vs)
 item_length v vs = length-append (spelling v) (items_spelling vs)
 
-app_length : (app : List ℕ) → length (spelling (object (member (codes "app") (text app) no_members))) ≡ 12 + length app
+member_length : (key t : List ℕ) (ms : Members) → length (members_spelling (member key (text t) ms)) ≡ 5 + length key + length t + length (members_spelling ms)
 unfolding be
-app_length app = omega (arith, text_length app, length-append (spelling (text app)) [], length-append (members_spelling (member (codes "app") (text app) no_members)) (0 ∷ 0 ∷ 9 ∷ []))
+member_length key t ms = omega (arith, text_length t, length-append key (spelling (text t) ++ members_spelling ms), length-append (spelling (text t)) (members_spelling ms))
+
+object_length : (ms : Members) → length (spelling (object ms)) ≡ 4 + length (members_spelling ms)
+object_length ms = omega (arith, length-append (members_spelling ms) (0 ∷ 0 ∷ 9 ∷ []))
+
+url_length : (k : Asked) → length (tc_url k) ≡ 8 + length k.address + length k.app
+url_length k = omega (arith, length-append k.address (0x2F ∷ k.app))
+
+described_length : (k : Asked) → length (spelling (described k)) ≡ 71 + length k.address + 2 * length k.app
+described_length k =
+    let url = member (codes "tcUrl") (text (tc_url k)) no_members in
+    let ver = member (codes "flashVer") (text flash_ver) url in
+    omega (arith, object_length (member (codes "app") (text k.app) ver), member_length (codes "app") k.app ver, member_length (codes "flashVer") flash_ver url, member_length (codes "tcUrl") (tc_url k) no_members, url_length k)
 
 called_length : (name : List ℕ) (n : ℕ) (more : Items) → length (items_spelling (Rattle.client_owed.specs.Client.called name n more)) ≡ 12 + length name + length (items_spelling more)
 called_length name n more =
     omega (arith, item_length (text name) (item (number (pattern n)) more), item_length (number (pattern n)) more, text_length name, number_length (pattern n))
 
-connects_length : (app : List ℕ) → length (items_spelling (connects app)) ≡ 31 + length app
-connects_length app =
-    let o = item (object (member (codes "app") (text app) no_members)) no_items in
-    omega (arith, called_length (codes "connect") 1 o, item_length (object (member (codes "app") (text app) no_members)) no_items, app_length app)
+connects_length : (k : Asked) → length (items_spelling (connects k)) ≡ 90 + length k.address + 2 * length k.app
+connects_length k = omega (arith, called_length (codes "connect") 1 (item (described k) no_items), item_length (described k) no_items, described_length k)
 
 asks_short : (w : Wish) (name : List ℕ) → length (items_spelling (asks w name)) ≤ 40 + length name
 asks_short wish.Push name =
@@ -130,7 +140,7 @@ module _ (max : ℕ) (least : 4096 ≤ max) (most : max ≤ 4194304) where
     asks_fit id s = command_fits id (asks k.wish k.name) s (omega (arith, asks_short k.wish k.name, named.name))
 
     connect_fits : Q (connect k)
-    connect_fits = command_fits 0 (connects k.app) (omega arith) (omega (arith, connects_length k.app, named.app))
+    connect_fits = command_fits 0 (connects k) (omega arith) (omega (arith, connects_length k, named.address, named.app))
 
     create_fits : Q create_stream
     create_fits = command_fits 0 creates (omega arith) (omega (arith, creates_length))
@@ -169,15 +179,15 @@ module _ (max : ℕ) (least : 4096 ≤ max) (most : max ≤ 4194304) where
 
     news_says : (p : Phase) (n : News) → Every Q (learns k p n).says
     news_says Connecting (Done n v) = connected_says (n == pattern 1)
-    news_says Connecting (Refused code) = tt
+    news_says Connecting (Refused code description) = tt
     news_says Connecting (Status code) = tt
     news_says Connecting Other = tt
     news_says Creating (Done n v) = then_says (n == pattern 2) v
-    news_says Creating (Refused code) = tt
+    news_says Creating (Refused code description) = tt
     news_says Creating (Status code) = tt
     news_says Creating Other = tt
     news_says (Asking id) (Done n v) = tt
-    news_says (Asking id) (Refused code) = tt
+    news_says (Asking id) (Refused code description) = tt
     news_says (Asking id) (Status code) = started_says id (is_text code (start_code k.wish))
     news_says (Asking id) Other = tt
     news_says (Started id) n = tt

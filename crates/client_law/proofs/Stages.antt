@@ -23,7 +23,7 @@ use Rattle.relay_session.specs.Session.{does, pongs, session, told}
 use Rattle.client_owed.specs.declared.types.Asked.{Asked}
 use Rattle.client_owed.specs.declared.types.Wish.{Wish}
 use Rattle.client_owed.specs.declared.types.Wish.TheVariants as wish
-use Rattle.client_owed.specs.Client.{ask, asks, command, connect, create_stream, delete_stream}
+use Rattle.client_owed.specs.Client.{ask, asks, command, connect, create_stream, delete_stream, tc_url}
 use Rattle.client_law.specs.Loud.{Every, Rise, bare, flat, is_loud, keep, loud, louds}
 use Rattle.client_law.specs.Pull.{Plays}
 use Rattle.client_law.proofs.Alike.{Idles, idles}
@@ -161,13 +161,13 @@ module _ (desk : Ask → Grant) (who window : ℕ) (k : Asked) (C : List Own) (i
 
   -- ---- a command
 
-  module _ (short_app : length k.app < 2 ^ 16) (short_name : length k.name < 2 ^ 16) (low : pattern id < 2 ^ 64) (pull : k.wish ≡ wish.Pull) where
+  module _ (short_url : length (tc_url k) < 2 ^ 16) (short_name : length k.name < 2 ^ 16) (low : pattern id < 2 ^ 64) (pull : k.wish ≡ wish.Pull) where
     connects : (lo : ℕ) (x : Message) (L : List Message) (t : Talk State) (m : ℕ × Message) → lo ≤ m.0 → m.1 ≡ x → Fresh lo (x ∷ L) t → Connected m.0 L (one d C t m)
     unfolding loud
     connects lo x L t m l e a =
         let h = heads x (connect k) (L ++ a.more) (sends_create k id) a.left in
         let v : Step State = record { state = idle window app []; says = dialog.connected window (pattern 1); makes = None } in
-        let o : one d C t m ≡ started d m.0 t v = one_open Quiet desk who window C t m (connect k) (fresh window) v a.stuck a.state (e ∙ h.0) (connect_does desk window k short_app) in
+        let o : one d C t m ≡ started d m.0 t v = one_open Quiet desk who window C t m (connect k) (fresh window) v a.stuck a.state (e ∙ h.0) (connect_does desk window k short_url) in
         subst (λ (u : Talk State). Connected m.0 L u) (sym o) (record { state = refl; stuck = refl; more = a.more; left = h.1; now = so_said [] (answered.connected ∷ []) lo m.0 t.said t.states t.state v.state v.says l refl not_some a.now })
 
     creates : (lo : ℕ) (x : Message) (L : List Message) (t : Talk State) (m : ℕ × Message) → lo ≤ m.0 → m.1 ≡ x → Connected lo (x ∷ L) t → Created m.0 L (one d C t m)

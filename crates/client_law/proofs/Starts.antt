@@ -58,7 +58,7 @@ other_stays k m e = λ p h. subst IsBefore (sym (phase_by k p m (control_in m) e
 
 abbrev NotStart : Asked → News → Type 0
 NotStart k (Done n v) = Unit {0}
-NotStart k (Refused code) = Unit {0}
+NotStart k (Refused code description) = Unit {0}
 NotStart k (Status code) = is_text code (start_code k.wish) ≡ false
 NotStart k Other = Unit {0}
 
@@ -80,15 +80,15 @@ then_before k false v = tt
 
 pub news_before : (k : Asked) (p : Phase) (n : News) → IsBefore p → NotStart k n → IsBefore (learns k p n).phase
 news_before k Connecting (Done n v) h e = connected_before (n == pattern 1)
-news_before k Connecting (Refused code) h e = tt
+news_before k Connecting (Refused code description) h e = tt
 news_before k Connecting (Status code) h e = tt
 news_before k Connecting Other h e = tt
 news_before k Creating (Done n v) h e = then_before k (n == pattern 2) v
-news_before k Creating (Refused code) h e = tt
+news_before k Creating (Refused code description) h e = tt
 news_before k Creating (Status code) h e = tt
 news_before k Creating Other h e = tt
 news_before k (Asking id) (Done n v) h e = tt
-news_before k (Asking id) (Refused code) h e = tt
+news_before k (Asking id) (Refused code description) h e = tt
 news_before k (Asking id) (Status code) h e = subst (λ b. IsBefore (if b then stays (Started id) else stays (Asking id)).phase) (sym e) tt
 news_before k (Asking id) Other h e = tt
 news_before k (Started id) n h e = absurd h
@@ -103,10 +103,10 @@ low : (pattern 0 < 2 ^ 64) × (pattern 1 < 2 ^ 64) × (pattern 2 < 2 ^ 64) × (p
 unfolding pattern count_leading_zeros
 low = (omega arith, omega arith, omega arith, omega arith)
 
-abbrev status_news : List ℕ → List ℕ → News
-status_news level code = if is_text level (codes "error") then Refused code else Status code
+abbrev status_news : List ℕ → List ℕ → List ℕ → News
+status_news level code description = if is_text level (codes "error") then Refused code description else Status code
 
-pub status_read : (level code description : List ℕ) → length level < 2 ^ 16 → length code < 2 ^ 16 → length description < 2 ^ 16 → news_in (items_spelling (status_values level code description)) ≡ Ok (status_news level code)
+pub status_read : (level code description : List ℕ) → length level < 2 ^ 16 → length code < 2 ^ 16 → length description < 2 ^ 16 → news_in (items_spelling (status_values level code description)) ≡ Ok (status_news level code description)
 unfolding news_in status_values
 status_read level code description l c e =
     ap news_from (items_read (status_values level code description) (omega arith, (tt, (tt, (((omega arith, omega arith), l, ((omega arith, omega arith), c, ((omega arith, omega arith), e, tt))), tt))))
@@ -122,7 +122,7 @@ why_short why.Full = omega arith
 pub refused_stays : (k : Asked) (stream : ℕ) (w : Why) → NoStart k (dialog.answers stream (answer.PublishRefused w))
 unfolding body_of
 refused_stays k stream w =
-    command_stays k stream (body_of (answer.PublishRefused w)) (Refused (codes "NetStream.Publish.BadName")) (status_read (codes "error") (codes "NetStream.Publish.BadName") (description_of w) (omega arith) (omega arith) (why_short w)) tt
+    command_stays k stream (body_of (answer.PublishRefused w)) (Refused (codes "NetStream.Publish.BadName") (description_of w)) (status_read (codes "error") (codes "NetStream.Publish.BadName") (description_of w) (omega arith) (omega arith) (why_short w)) tt
 
 pub notify_stays : (k : Asked) (stream : ℕ) → k.wish ≡ wish.Push → NoStart k (dialog.answers stream answer.PublishNotify)
 unfolding body_of

@@ -1,5 +1,5 @@
 -- What the messages of a client do in a session
-use Rattle.std.proofs.Common.{◌≡◌, ◌≢◌, ℕ, ◌<◌, ◌≤◌, ◌^◌, ◌⊎◌, inl, inr, Bool, true, false, ◌==◌, if◌then◌else◌, List, [], ◌∷◌, ◌++◌, length, Option, Some, None, Result, Ok, option_map, refl, sym, ap, ◌∙◌, subst, arith, append-nil, append_assoc}
+use Rattle.std.proofs.Common.{◌≡◌, ◌≢◌, ℕ, ◌<◌, ◌≤◌, ◌^◌, ◌⊎◌, inl, inr, Bool, true, false, ◌==◌, if◌then◌else◌, List, [], ◌∷◌, ◌++◌, length, Option, Some, None, Result, Ok, option_map, refl, sym, ap, ◌∙◌, subst, arith, append-nil, append_assoc, length-append}
 use Rattle.std.specs.Prelude.{codes}
 use Rattle.std.specs.Int.Count.{count_leading_zeros}
 use Rattle.std.proofs.lemmas.Bool.{ne_eqb}
@@ -36,7 +36,8 @@ use Rattle.session_owed.specs.Dialogue.{Step}
 use Rattle.relay_session.specs.Session.{does}
 use Rattle.client_owed.specs.declared.types.Wish.TheVariants as wish
 use Rattle.client_owed.specs.declared.types.Asked.{Asked}
-use Rattle.client_owed.specs.Client.{asks, connect, connects, creates, deletes, create_stream, delete_stream}
+use Rattle.client_law.specs.Laws.{IsNamed}
+use Rattle.client_owed.specs.Client.{asks, connect, connects, tc_url, creates, deletes, create_stream, delete_stream}
 
 -- ---- values are read as they were spelled
 
@@ -55,9 +56,21 @@ pub patterns_low : (pattern 1 < 2 ^ 64) × (pattern 2 < 2 ^ 64) × (pattern 3 < 
 unfolding pattern count_leading_zeros
 patterns_low = (omega arith, omega arith, omega arith, omega arith)
 
-heard_connect : (k : Asked) → length k.app < 2 ^ 16 → heard_in (connect k).body ≡ hears (codes "connect") (pattern 1) (Some k.app) brief.Other
+-- the longest text of a connect is its address
+pub url_short : (k : Asked) → IsNamed k → length (tc_url k) < 2 ^ 16
+url_short k h = omega (arith, h.address, h.app, length-append k.address (0x2F ∷ k.app))
+
+app_short : (k : Asked) → length (tc_url k) < 2 ^ 16 → length k.app < 2 ^ 16
+app_short k l = omega (arith, l, length-append k.address (0x2F ∷ k.app))
+
+pub connect_read : (k : Asked) → length (tc_url k) < 2 ^ 16 → values_in (connect k).body ≡ Ok (connects k)
+connect_read k l =
+    items_read (connects k) (omega arith, (tt, (((omega arith, omega arith), app_short k l, ((omega arith, omega arith), omega arith, ((omega arith, omega arith), l, tt))), tt)))
+    (tt, (patterns_low.0, ((tt, (tt, (tt, tt))), tt))) (omega arith)
+
+heard_connect : (k : Asked) → length (tc_url k) < 2 ^ 16 → heard_in (connect k).body ≡ hears (codes "connect") (pattern 1) (Some k.app) brief.Other
 unfolding heard_in
-heard_connect k l = ap heard_from (items_read (connects k.app) (omega arith, (tt, (((omega arith, omega arith), l, tt), tt))) (tt, (patterns_low.0, ((tt, tt), tt))) (omega arith))
+heard_connect k l = ap heard_from (connect_read k l)
 
 heard_create : heard_in create_stream.body ≡ hears (codes "createStream") (pattern 2) None brief.Other
 unfolding heard_in
@@ -105,7 +118,7 @@ module _ (desk : Ask → Grant) where
   unfolding does control_in meaning by_heard dialog.does
   command_does s stream body = refl
 
-  pub connect_does : (window : ℕ) (k : Asked) → length k.app < 2 ^ 16 → does desk (fresh window) (connect k) ≡ stepped (idle window (app_in k.app) []) (dialog.connected window (pattern 1)) None
+  pub connect_does : (window : ℕ) (k : Asked) → length (tc_url k) < 2 ^ 16 → does desk (fresh window) (connect k) ≡ stepped (idle window (app_in k.app) []) (dialog.connected window (pattern 1)) None
   unfolding by_heard dialog.after dialog.says dialog.makes
   connect_does window k l = command_does (fresh window) 0 (connect k).body ∙ ap (by_heard (fresh window) (connect k)) (heard_connect k l)
 

@@ -32,7 +32,7 @@ use Rattle.client_owed.specs.declared.types.Asked.{Asked}
 use Rattle.client_owed.specs.declared.types.Gave.{Gave}
 use Rattle.client_owed.specs.declared.types.Given.{Given}
 use Rattle.client_owed.specs.declared.types.Given.TheVariants.{Finish, Send}
-use Rattle.client_owed.specs.Client.{ask, connect, create_stream, delete_stream}
+use Rattle.client_owed.specs.Client.{ask, connect, create_stream, delete_stream, tc_url}
 use Rattle.client_owed.specs.Owed.{EndsAt, Follow, MayGive, sent_on}
 use Rattle.client_law.specs.Loud.{Every, EverySaid, bare, listed, sents, size_after, tag_unit, units, units_from}
 use Rattle.client_law.proofs.Alike.{said_join}
@@ -300,7 +300,7 @@ module _ (Q : Message → Type 0) (desk : Ask → Grant) (who window : ℕ) wher
 
   -- THE WHOLE DIALOGUE over the messages of a client that has started
   pub push_walk : Every Q (dialog.connected window (pattern 1)) → Q (dialog.answers 0 (answer.Created (pattern 2) 1)) → ((w : Why) → Q (dialog.answers 1 (answer.PublishRefused w)))
-      → (k : Asked) (max from to id : ℕ) (C : List Own) (T : List Gave) (L : List (ℕ × Message)) → length k.app < 2 ^ 16 → length k.name < 2 ^ 16 → pattern id < 2 ^ 64 → k.wish ≡ Rattle.client_owed.specs.declared.types.Wish.TheVariants.Push
+      → (k : Asked) (max from to id : ℕ) (C : List Own) (T : List Gave) (L : List (ℕ × Message)) → length (tc_url k) < 2 ^ 16 → length k.name < 2 ^ 16 → pattern id < 2 ^ 64 → k.wish ≡ Rattle.client_owed.specs.declared.types.Wish.TheVariants.Push
       → Follow k.wish max from to T → bare L ≡ connect k ∷ create_stream ∷ ask k id ∷ sents id T → Outcome id T (walk d C (talking.fresh d) L)
   unfolding pushed
   push_walk yes1 yes2 refused k max from to id C T [] a n p w f b = absurd (none_bare (connect k) (create_stream ∷ ask k id ∷ sents id T) b)

@@ -14,8 +14,9 @@ use Rattle.client_owed.specs.declared.types.Gave.{Gave}
 use Rattle.client_owed.specs.Owed.{AreGiven, out, owed}
 use Rattle.client_law.specs.Loud.{Rise, bare}
 
--- the names have lengths that are sent
+-- the address and the names have lengths that are sent
 pub record IsNamed (k : Asked) : Type 0 where
+  pub address : length k.address ≤ 255
   pub app : length k.app ≤ 255
   pub name : length k.name ≤ 255
 

@@ -1,6 +1,6 @@
 -- The dialogue of a client: what it says to publish or play a stream, by what its server tells it (RTMP 1.0,
 -- section 7.2).
-use Rattle.std.specs.Prelude.{ℕ, ◌+◌, ◌-◌, ◌/◌, ◌%◌, ◌^◌, nat_lt, List, [], ◌∷◌, codes, Option, Some, None, ◌==◌, ◌&&◌, if◌then◌else◌, Bool, Result, Ok, Err}
+use Rattle.std.specs.Prelude.{ℕ, ◌+◌, ◌-◌, ◌/◌, ◌%◌, ◌^◌, nat_lt, List, [], ◌∷◌, ◌++◌, codes, Option, Some, None, ◌==◌, ◌&&◌, if◌then◌else◌, Bool, Result, Ok, Err}
 use Rattle.amf0_value.specs.Tree.{Tree, number, text, object, null, member, no_members, Items, no_items, item}
 use Rattle.amf0_value.specs.Pattern.{pattern}
 use Rattle.amf0_value.specs.Encoding.{items_spelling}
@@ -29,12 +29,24 @@ command stream vs = record { kind = 20; stream = stream; time = 0; body = items_
 abbrev pub called : List ℕ → ℕ → Items → Items
 called name transaction more = item (text name) (item (number (pattern transaction)) more)
 
+-- the program, in the form that servers know (own)
+abbrev pub flash_ver : List ℕ
+flash_ver = codes "FMLE/3.0 (compatible; relay)"
+
+-- the app at its server, whose address is as it was dialled
+abbrev pub tc_url : Asked → List ℕ
+tc_url k = codes "rtmp://" ++ (k.address ++ (codes "/" ++ k.app))
+
+-- what a client tells of itself: of the pairs that 7.2.1.1 has those that servers ask for
+abbrev pub described : Asked → Tree
+described k = object (member (codes "app") (text k.app) (member (codes "flashVer") (text flash_ver) (member (codes "tcUrl") (text (tc_url k)) no_members)))
+
 -- 7.2.1.1
-abbrev pub connects : List ℕ → Items
-connects app = called (codes "connect") 1 (item (object (member (codes "app") (text app) no_members)) no_items)
+abbrev pub connects : Asked → Items
+connects k = called (codes "connect") 1 (item (described k) no_items)
 
 abbrev pub connect : Asked → Message
-connect k = command 0 (connects k.app)
+connect k = command 0 (connects k)
 
 -- 7.2.1.3
 abbrev pub creates : Items

@@ -35,15 +35,19 @@ text_at key (Some v) = unwrap_or (text_of (pair_of key v)) []
 abbrev pub is_text : List ℕ → List ℕ → Bool
 is_text xs ys = pointwise ◌==◌ xs ys
 
+-- a refusal: its code, and its description in words
+abbrev pub refusal_of : Option Tree → News
+refusal_of v = Refused (text_at (codes "code") v) (text_at (codes "description") v)
+
 -- a status (7.2.2): of level error, or another
 abbrev pub status_of : Option Tree → News
-status_of v = if is_text (text_at (codes "level") v) (codes "error") then Refused (text_at (codes "code") v) else Status (text_at (codes "code") v)
+status_of v = if is_text (text_at (codes "level") v) (codes "error") then refusal_of v else Status (text_at (codes "code") v)
 
 -- by its name
 abbrev pub news_of : Parts → News
 news_of p =
     if is_text p.name (codes "_result") then Done p.transaction (number_at (fourth p.args))
-    else (if is_text p.name (codes "_error") then Refused (text_at (codes "code") (fourth p.args))
+    else (if is_text p.name (codes "_error") then refusal_of (fourth p.args)
     else (if is_text p.name (codes "onStatus") then status_of (fourth p.args)
     else Other))
 

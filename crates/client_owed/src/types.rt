@@ -8,10 +8,12 @@ pub enum Wish {
     Pull,
 }
 
-/// The stream that is to be published or played. A name may carry a key after `?`.
+/// The stream that is to be published or played, and the address of its server as it was dialled. A name may
+/// carry a key after `?`.
 #[derive(Drop)]
 pub struct Asked {
     pub wish: Wish,
+    pub address: Bytes,
     pub app: Bytes,
     pub name: Bytes,
 }
@@ -38,8 +40,12 @@ pub enum News {
         transaction: u64,
         number: Option<u64>,
     },
-    /// The client is refused, with a code.
-    Refused(Bytes),
+    /// The client is refused, with a code and a description in words. Each is as the server gave it, or no
+    /// bytes. Both come of one message, so that together they are shorter than it.
+    Refused {
+        code: Bytes,
+        description: Bytes,
+    },
     /// A status with its code, which is no error.
     Status(Bytes),
     /// Nothing that matters here.

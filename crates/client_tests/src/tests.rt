@@ -39,7 +39,8 @@ const REFUSES: &[u8] =
 // The messages of a client: `connect`, the chunk size and `createStream`; `play` and a ping response;
 // `publish`; a keyframe; and `deleteStream`.
 const SAID: &[u8] =
-    b"\x03\x00\x00\x00\x00\x00#\x14\x00\x00\x00\x00\x02\x00\x07connect\x00?\xf0\x00\x00\x00\x00\x00\x00\x03\x00\x03app\x02\x00\x04live\x00\x00\x09\
+    b"\x03\x00\x00\x00\x00\x00p\x14\x00\x00\x00\x00\x02\x00\x07connect\x00?\xf0\x00\x00\x00\x00\x00\x00\x03\x00\x03app\x02\x00\x04live\
+    \x00\x08flashVer\x02\x00\x1cFMLE/3.0 (compatible; relay)\x00\x05tcUrl\x02\x00\x1artmp://127.0.0.1:1935/live\x00\x00\x09\
     \x02\x00\x00\x00\x00\x00\x04\x01\x00\x00\x00\x00\x00\x00\x10\x00\
     C\x00\x00\x00\x00\x00\x19\x14\x02\x00\x0ccreateStream\x00@\x00\x00\x00\x00\x00\x00\x00\x05";
 
@@ -102,9 +103,10 @@ fn new_client(alloc: Global, wish: Wish) -> Result<Client, OutOfMemory>
     ensures max { IfOk result (λ c. c.parts.reader.max ≡ 65536) }
     ensures open { IfOk result (λ c. c.parts.finished ≡ false) }
 {
+    let address = bytes(alloc, b"127.0.0.1:1935")?;
     let app = bytes(alloc, b"live")?;
     let name = bytes(alloc, b"cam")?;
-    Client::new(alloc, wish, app, name, 65_536)
+    Client::new(alloc, wish, address, app, name, 65_536)
 }
 
 // Appends its end and the bytes that it sent to its gifts.

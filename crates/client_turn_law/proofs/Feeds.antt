@@ -159,7 +159,7 @@ module _ (a : Result Bool ClientEnd) (w : Life) (memory : a ≢ Err end.OutOfMem
       )
   stop_halts (end.BadControl at) moved t = refused_halts (end.BadControl at) moved t t.0.cause.1
   stop_halts (end.BadCommand at) moved t = refused_halts (end.BadCommand at) moved t t.0.cause.1
-  stop_halts (end.Refused code) moved t = refused_halts (end.Refused code) moved t t.0.cause
+  stop_halts (end.Refused code description) moved t = refused_halts (end.Refused code description) moved t t.0.cause
   stop_halts end.OutOfMemory moved t = absurd (memory t.1)
   stop_halts end.PeerClosed moved t = absurd t.0.cause
   stop_halts end.LinkFault moved t = absurd t.0.cause

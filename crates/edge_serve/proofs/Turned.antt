@@ -83,7 +83,7 @@ client_caused (fin.BadVersion at) who max calls fed all n n' own h = h
 client_caused (fin.BadChunk cause at) who max calls fed all n n' own h = h
 client_caused (fin.BadControl at) who max calls fed all n n' own h = h
 client_caused (fin.BadCommand at) who max calls fed all n n' own h = h
-client_caused (fin.Refused code) who max calls fed all n n' own h = h
+client_caused (fin.Refused code description) who max calls fed all n n' own h = h
 client_caused fin.Done who max calls fed all n n' own h = absurd (own refl)
 client_caused fin.OutOfMemory who max calls fed all n n' own h = tt
 
@@ -94,7 +94,7 @@ client_waits (fin.BadVersion at) kept w = w refl
 client_waits (fin.BadChunk cause at) kept w = w refl
 client_waits (fin.BadControl at) kept w = w refl
 client_waits (fin.BadCommand at) kept w = w refl
-client_waits (fin.Refused code) kept w = w refl
+client_waits (fin.Refused code description) kept w = w refl
 client_waits fin.Done kept w = w refl
 client_waits fin.OutOfMemory kept w = tt
 

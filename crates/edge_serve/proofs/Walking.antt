@@ -34,7 +34,7 @@ Why (end.BadVersion at) max fed all n n' = ClientCause (end.BadVersion at) max f
 Why (end.BadChunk cause at) max fed all n n' = ClientCause (end.BadChunk cause at) max fed all n n'
 Why (end.BadControl at) max fed all n n' = ClientCause (end.BadControl at) max fed all n n'
 Why (end.BadCommand at) max fed all n n' = ClientCause (end.BadCommand at) max fed all n n'
-Why (end.Refused code) max fed all n n' = ClientCause (end.Refused code) max fed all n n'
+Why (end.Refused code description) max fed all n n' = ClientCause (end.Refused code description) max fed all n n'
 Why end.Done max fed all n n' = Unit {0}
 Why end.OutOfMemory max fed all n n' = Unit {0}
 
@@ -45,7 +45,7 @@ why_calm (end.BadVersion at) max fed all n m o c h = (h.0, calm_then n m o c h.1
 why_calm (end.BadChunk cause at) max fed all n m o c h = (h.0, calm_then n m o c h.1)
 why_calm (end.BadControl at) max fed all n m o c h = (h.0, calm_then n m o c h.1)
 why_calm (end.BadCommand at) max fed all n m o c h = (h.0, calm_then n m o c h.1)
-why_calm (end.Refused code) max fed all n m o c h = (h.0, calm_then n m o c h.1)
+why_calm (end.Refused code description) max fed all n m o c h = (h.0, calm_then n m o c h.1)
 why_calm end.Done max fed all n m o c h = tt
 why_calm end.OutOfMemory max fed all n m o c h = tt
 
@@ -57,7 +57,7 @@ decided_why (end.BadVersion at) ms max fed all x y d c = ((ms, d), c)
 decided_why (end.BadChunk cause at) ms max fed all x y d c = ((ms, d), c)
 decided_why (end.BadControl at) ms max fed all x y d c = ((ms, d), c)
 decided_why (end.BadCommand at) ms max fed all x y d c = ((ms, d), c)
-decided_why (end.Refused code) ms max fed all x y d c = ((ms, d), c)
+decided_why (end.Refused code description) ms max fed all x y d c = ((ms, d), c)
 decided_why end.Done ms max fed all x y d c = tt
 decided_why end.OutOfMemory ms max fed all x y d c = tt
 

@@ -97,8 +97,8 @@ end_then edge.Closed false = edge.Closed
 -- ---- what a thread of an edge is handed, and what it leaves
 
 -- the names have their lengths, no message is longer than a unit may be, and its place is there
-pub record CanPull (app name : List ℕ) (max : ℕ) (rules : PortRules) : Type 0 where
-  pub short : AreShort app name
+pub record CanPull (address app name : List ℕ) (max : ℕ) (rules : PortRules) : Type 0 where
+  pub short : AreShort address app name
   pub most : max ≤ 4194304
   pub there : edge_place < places rules
 

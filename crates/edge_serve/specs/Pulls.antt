@@ -58,7 +58,7 @@ ClientCause (client.BadVersion at) max fed all n n' = Decided max fed all (clien
 ClientCause (client.BadChunk cause at) max fed all n n' = Decided max fed all (client.BadChunk cause at) × IsCalm n n'
 ClientCause (client.BadControl at) max fed all n n' = Decided max fed all (client.BadControl at) × IsCalm n n'
 ClientCause (client.BadCommand at) max fed all n n' = Decided max fed all (client.BadCommand at) × IsCalm n n'
-ClientCause (client.Refused code) max fed all n n' = Decided max fed all (client.Refused code) × IsCalm n n'
+ClientCause (client.Refused code description) max fed all n n' = Decided max fed all (client.Refused code description) × IsCalm n n'
 ClientCause client.Done max fed all n n' = ⊥
 ClientCause client.OutOfMemory max fed all n n' = ⊥
 

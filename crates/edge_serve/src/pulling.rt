@@ -28,10 +28,11 @@ const NAME: u64 = (1 << 61) + (1 << 60);
 /// Its place.
 pub(crate) const PLACE: u32 = 0;
 
-/// The target of a pull: the stream of an origin, and the number of bytes that its longest message may
-/// have.
+/// The target of a pull: the stream of an origin, the origin's address, and the number of bytes that the longest
+/// message may have.
 #[derive(Clone, Copy)]
 pub(crate) struct Stream<'a> {
+    pub address: &'a [u8],
     pub app: &'a [u8],
     pub name: &'a [u8],
     pub longest: u32,
@@ -56,16 +57,17 @@ fn bytes_of(alloc: Global, text: &[u8]) -> Result<Bytes, OutOfMemory>
 
 // A client that asks for the stream.
 fn new_client(alloc: Global, stream: Stream<'_>) -> Result<Client, OutOfMemory>
-    requires short { AreShort stream.app.now stream.name.now }
+    requires short { AreShort stream.address.now stream.app.now stream.name.now }
     requires most { stream.longest ≤ 4194304 }
-    ensures asked { IfOk result (λ c. c.parts.asked ≡ pull_of stream.entry.app.now stream.entry.name.now) }
+    ensures asked { IfOk result (λ c. c.parts.asked ≡ pull_of stream.entry.address.now stream.entry.app.now stream.entry.name.now) }
     ensures max { IfOk result (λ c. c.parts.reader.max ≡ stream.entry.longest) }
     ensures new { IfOk result IsNew }
     ensures empty { IfOk result (λ c. c.input ≡ []) }
 {
+    let address = bytes_of(alloc, stream.address)?;
     let app = bytes_of(alloc, stream.app)?;
     let name = bytes_of(alloc, stream.name)?;
-    Client::new(alloc, Wish::Pull, app, name, stream.longest)
+    Client::new(alloc, Wish::Pull, address, app, name, stream.longest)
 }
 
 // The edge of such a client.
@@ -110,8 +112,8 @@ pub(crate) fn pull<W: Wait, L: Link, R: Rest>(
     mut link: L,
     mut rest: R,
 ) -> Pulled<L>
-    requires { CanPull stream.app.now stream.name.now stream.longest (shared_rules port) }
-    ensures { IsPulled (pull_of stream.entry.app.now stream.entry.name.now) stream.entry.longest (shared_rules port) (shared_rules result.port)
+    requires { CanPull stream.address.now stream.app.now stream.name.now stream.longest (shared_rules port) }
+    ensures { IsPulled (pull_of stream.entry.address.now stream.entry.app.now stream.entry.name.now) stream.entry.longest (shared_rules port) (shared_rules result.port)
         (told_at result.port.roots) result.end result.line.items (origin (L.told link) (L.counts link)) (origin (L.told result.link) (L.counts result.link)) }
 {
     one_reading();

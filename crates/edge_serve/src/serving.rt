@@ -80,9 +80,9 @@ fn run_both<
 )
 where
     D::Link: Send,
-    requires pulls { CanPull stream.app.now stream.name.now stream.longest (shared_rules own) }
+    requires pulls { CanPull stream.address.now stream.app.now stream.name.now stream.longest (shared_rules own) }
     requires runs { CanRun config.now D.Link.told D.Link.counts D.told K.holds K.faults (shared_rules port.now) workers.items http }
-    ensures pulls { IsPulled (pull_of stream.entry.app.now stream.entry.name.now) stream.entry.longest (shared_rules own) (shared_rules result.0.port)
+    ensures pulls { IsPulled (pull_of stream.entry.address.now stream.entry.app.now stream.entry.name.now) stream.entry.longest (shared_rules own) (shared_rules result.0.port)
         (told_at result.0.port.roots) result.0.end result.0.line.items (origin (L.told link) (L.counts link))
         (origin (L.told result.0.link) (L.counts result.0.link)) }
     ensures runs { HaveRun config.now D.Link.told D.Link.counts D.told K.holds K.faults (shared_rules port.now) workers.items result.1.0.items http result.1.1 }
@@ -90,8 +90,8 @@ where
     join(
         rt,
         move || -> Pulled<L>
-            requires { CanPull stream.app.now stream.name.now stream.longest (shared_rules own) }
-            ensures { IsPulled (pull_of stream.entry.app.now stream.entry.name.now) stream.entry.longest (shared_rules own) (shared_rules result.port)
+            requires { CanPull stream.address.now stream.app.now stream.name.now stream.longest (shared_rules own) }
+            ensures { IsPulled (pull_of stream.entry.address.now stream.entry.app.now stream.entry.name.now) stream.entry.longest (shared_rules own) (shared_rules result.port)
                 (told_at result.port.roots) result.end result.line.items (origin (L.told link) (L.counts link))
                 (origin (L.told result.link) (L.counts result.link)) }
         { pull(rt, alloc, own, stream, link, rest) },
@@ -161,8 +161,8 @@ fn run<T: Threads + Wait + Sync, H: House, L: Link + Send, Q: Rest + Send, K: Si
     out: &mut K,
 ) -> (Ending, L)
     requires lawful { Lawful config.now }
-    requires short { AreShort target.app.now target.name.now }
-    ensures { (attempts : ℕ → List Attempt) × RunsBoth (pull_of target.entry.app.now target.entry.name.now) config.now attempts
+    requires short { AreShort target.address.now target.app.now target.name.now }
+    ensures { (attempts : ℕ → List Attempt) × RunsBoth (pull_of target.entry.address.now target.entry.app.now target.entry.name.now) config.now attempts
         (seen (K.holds out.old) (K.faults out.old) (H.told house.old) (H.asked house.old) (H.named house.old))
         (seen (K.holds out.new) (K.faults out.new) (H.told house.new) (H.asked house.new) (H.named house.new))
         (origin (L.told link) (L.counts link)) (origin (L.told result.1) (L.counts result.1)) result.0 }
@@ -179,6 +179,7 @@ fn run<T: Threads + Wait + Sync, H: House, L: Link + Send, Q: Rest + Send, K: Si
     let Some(own) = spare else { unreachable!() };
     let workers = ready_workers(rt, workers, &port, config);
     let stream = Stream {
+        address: target.address,
         app: target.app,
         name: target.name,
         longest: config.limits.max_message,
@@ -237,8 +238,9 @@ fn end<T: Threads + Wait + Sync, H: House, L: Link + Send, Q: Rest + Send, S: So
 /// another relay, its origin, over a link to that. It publishes the stream at the configuration's first
 /// place: its first stream, or its first open table if it has no stream. It may wait.
 ///
-/// The words are `edge FILE ADDRESS APP NAME`. APP and NAME have 1 to 255 bytes, and a key may stand in
-/// NAME behind `?`. The server that the address names, and the file, are the caller's affair. The edge is
+/// The words are `edge FILE ADDRESS APP NAME`. ADDRESS, APP and NAME have 1 to 255 bytes, and a key may stand
+/// in NAME behind `?`. The address is told to the origin; to connect to it, and the file, are the caller's
+/// affair. The edge is
 /// 2^61 + 2^60 by its name, takes messages as long as the configuration allows, and runs in a thread of its
 /// own. It is turned until it has ended, with a pause after each turn in which nothing moved, and is then
 /// closed. So the broadcast that is live ends here when its origin is lost. The server goes on then, and

@@ -72,7 +72,7 @@ fn client_news(client: &Option<ClientEnd>) -> News {
         Some(ClientEnd::BadChunk { cause: _, at }) => over(Ending::BadChunk, Some(*at)),
         Some(ClientEnd::BadControl { at }) => over(Ending::BadControl, Some(*at)),
         Some(ClientEnd::BadCommand { at }) => over(Ending::BadCommand, Some(*at)),
-        Some(ClientEnd::Refused { code: _ }) => News::Denied(Denied::NoName),
+        Some(ClientEnd::Refused { .. }) => News::Denied(Denied::NoName),
         Some(ClientEnd::Done) => over(Ending::Quit, None),
         Some(ClientEnd::OutOfMemory) => over(Ending::OutOfMemory, None),
     }

@@ -16,21 +16,21 @@ fn is_short(word: &[u8]) -> bool
 
 // The request in these words.
 fn asked_by<'a>(word: &[u8], address: &'a [u8], app: &'a [u8], name: &'a [u8]) -> Option<Target<'a>>
-    ensures asked { option_map (λ t. pull_of t.app.now t.name.now) result ≡ asked_by word.now app.now name.now }
-    ensures short { IfSome result (λ t. AreShort t.app.now t.name.now) }
+    ensures asked { option_map (λ t. pull_of t.address.now t.app.now t.name.now) result ≡ asked_by word.now address.now app.now name.now }
+    ensures short { IfSome result (λ t. AreShort t.address.now t.app.now t.name.now) }
 {
-    if word == b"edge".as_slice() && is_short(app) && is_short(name) {
+    if word == b"edge".as_slice() && is_short(address) && is_short(app) && is_short(name) {
         Some(Target { address, app, name })
     } else {
         None
     }
 }
 
-/// Returns the request in the words, if they are `edge FILE ADDRESS APP NAME`. APP and NAME have 1 to 255
-/// bytes.
+/// Returns the request in the words, if they are `edge FILE ADDRESS APP NAME`. ADDRESS, APP and NAME have 1 to
+/// 255 bytes.
 pub fn edge_target(words: &[Vec<u8>]) -> Option<Target<'_>>
-    ensures asked { option_map (λ t. pull_of t.app.now t.name.now) result ≡ asked_of (map (λ w. w.items) words.now) }
-    ensures short { IfSome result (λ t. AreShort t.app.now t.name.now) }
+    ensures asked { option_map (λ t. pull_of t.address.now t.app.now t.name.now) result ≡ asked_of (map (λ w. w.items) words.now) }
+    ensures short { IfSome result (λ t. AreShort t.address.now t.app.now t.name.now) }
 {
     match words {
         [word, _, address, app, name] => asked_by(

@@ -83,7 +83,7 @@ ByLink (Err (end.BadVersion at)) = ⊥
 ByLink (Err (end.BadChunk cause at)) = ⊥
 ByLink (Err (end.BadControl at)) = ⊥
 ByLink (Err (end.BadCommand at)) = ⊥
-ByLink (Err (end.Refused code)) = ⊥
+ByLink (Err (end.Refused code description)) = ⊥
 ByLink (Err end.Done) = ⊥
 ByLink (Err end.OutOfMemory) = ⊥
 
@@ -97,7 +97,7 @@ byte_not (end.BadVersion at) max n ms y d b = b
 byte_not (end.BadChunk cause at) max n ms y d b = b
 byte_not (end.BadControl at) max n ms y d b = b
 byte_not (end.BadCommand at) max n ms y d b = b
-byte_not (end.Refused code) max n ms y d b = b
+byte_not (end.Refused code description) max n ms y d b = b
 byte_not end.Done max n ms y d b = b
 byte_not end.OutOfMemory max n ms y d b = b
 
@@ -326,8 +326,8 @@ module _ (who : ℕ) (k : Asked) (named : IsNamed k) (p : SoleState) (l : Line) 
         ⊎ Causes x c.reader.given (c.y ++ rest) l.near.counts m.counts) → ⊥
     by_cause end.PeerClosed q f w = not_link (subst (λ (z : ClientEnd). ByLink (Err z)) q tt)
     by_cause end.LinkFault q f w = not_link (subst (λ (z : ClientEnd). ByLink (Err z)) q tt)
-    by_cause (end.Refused code) q f (inl w) = absurd (let g : end.Refused code ≡ end.Done = w.is_done in cc)
-    by_cause (end.Refused code) q f (inr w) = by_byte w.0.0 (end.Refused code) w.0.1
+    by_cause (end.Refused code description) q f (inl w) = absurd (let g : end.Refused code ≡ end.Done = w.is_done in cc)
+    by_cause (end.Refused code description) q f (inr w) = by_byte w.0.0 (end.Refused code description) w.0.1
     by_cause (end.BadVersion at) q f (inl w) = absurd (let g : end.BadVersion at ≡ end.Done = w.is_done in cc)
     by_cause (end.BadVersion at) q f (inr w) = by_byte w.0.0 (end.BadVersion at) w.0.1
     by_cause (end.BadChunk cause at) q f (inl w) = absurd (let g : end.BadChunk cause at ≡ end.Done = w.is_done in cc)
@@ -462,7 +462,7 @@ module _ (law : SessionLaw) (decided : DecidedLaw) (who : ℕ) (k : Asked) (name
 -- ---- of a run
 
 named : (w : Wish) → IsNamed (asked_by w)
-named w = record { app = omega arith; name = omega arith }
+named w = record { address = omega arith; app = omega arith; name = omega arith }
 
 room_of : (who : ℕ) (p : SoleState) (s : SessionState SeenState) (m : MemLinkState) → Serves who p s m → sole_rules p.rules ≡ rules
     → HaveRoom max_message (journal_at p.books 0) → HaveRoom max_message s.parts.calls

@@ -44,7 +44,7 @@ window = 2500000
 
 -- who asks for it
 abbrev pub asked_by : Wish → Asked
-asked_by w = record { wish = w; app = codes "live"; name = codes "cam" }
+asked_by w = record { wish = w; address = codes "loop"; app = codes "live"; name = codes "cam" }
 
 abbrev pub pusher : Asked
 pusher = asked_by wish.Push

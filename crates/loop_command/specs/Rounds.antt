@@ -116,7 +116,7 @@ is_failure (client_end.BadVersion at) = true
 is_failure (client_end.BadChunk cause at) = true
 is_failure (client_end.BadControl at) = true
 is_failure (client_end.BadCommand at) = true
-is_failure (client_end.Refused code) = true
+is_failure (client_end.Refused code description) = true
 is_failure client_end.Done = false
 is_failure client_end.OutOfMemory = false
 

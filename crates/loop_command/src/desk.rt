@@ -6,6 +6,9 @@ use command_dialog::{Ask, Grant};
 use relay_base::Limits;
 use relay_session::Desk;
 
+/// The address that the clients tell.
+pub(crate) const ADDRESS: &[u8] = b"loop";
+
 /// The application of the stream.
 pub(crate) const APP: &[u8] = b"live";
 

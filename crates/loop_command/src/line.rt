@@ -13,7 +13,7 @@ ghost use Rattle.loop_command.specs.Newly.{IsNewLine, IsNewSession, fresh_line};
 ghost use Rattle.loop_command.specs.Rounds.{LastsBy, LivesBy, TurnsClient, TurnsSession};
 ghost use Rattle.loop_command.specs.declared.stop.Stop.TheVariants.{Memory};
 
-use crate::desk::{APP, LIMITS, NAME, OneStream};
+use crate::desk::{ADDRESS, APP, LIMITS, NAME, OneStream};
 use crate::stop::Stop;
 use client_command::start;
 use client_owed::Wish;
@@ -82,7 +82,7 @@ pub(crate) fn new_line(alloc: Global, wish: Wish, who: u64) -> Result<Line, Stop
     ensures err { IfErr result (λ stop. stop ≡ Memory) }
 {
     let session = new_session(alloc, who)?;
-    match start(alloc, wish, APP, NAME) {
+    match start(alloc, wish, ADDRESS, APP, NAME) {
         Ok(client) => Ok(line_of(alloc, client, session)),
         Err(_) => {
             drop(session);
@@ -136,7 +136,7 @@ fn lives_after(answer: ClientTurn, client: &Client) -> Result<bool, Stop>
             Some(ClientEnd::BadChunk { cause: _, at: _ }) => Err(Stop::Unfinished),
             Some(ClientEnd::BadControl { at: _ }) => Err(Stop::Unfinished),
             Some(ClientEnd::BadCommand { at: _ }) => Err(Stop::Unfinished),
-            Some(ClientEnd::Refused { code: _ }) => Err(Stop::Unfinished),
+            Some(ClientEnd::Refused { .. }) => Err(Stop::Unfinished),
             None => Err(Stop::Unfinished),
         },
     }

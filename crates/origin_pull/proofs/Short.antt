@@ -54,7 +54,7 @@ code_short max false false = tt
 told_short : (max : ℕ) (r : Result News CommandFail) → AllShort max (told_in r)
 told_short max (Ok (Status code)) = code_short max (is_text code (codes "NetStream.Play.PublishNotify")) (is_text code (codes "NetStream.Play.UnpublishNotify"))
 told_short max (Ok (Done n v)) = tt
-told_short max (Ok (Refused code)) = tt
+told_short max (Ok (Refused code description)) = tt
 told_short max (Ok Other) = tt
 told_short max (Err e) = tt
 

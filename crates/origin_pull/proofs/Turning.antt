@@ -134,7 +134,7 @@ own_end (Some (end.BadVersion at)) c k e n s none all = record { none = none; al
 own_end (Some (end.BadChunk cause at)) c k e n s none all = record { none = none; all = all; own = subst IsOwnEnd (sym e) tt }
 own_end (Some (end.BadControl at)) c k e n s none all = record { none = none; all = all; own = subst IsOwnEnd (sym e) tt }
 own_end (Some (end.BadCommand at)) c k e n s none all = record { none = none; all = all; own = subst IsOwnEnd (sym e) tt }
-own_end (Some (end.Refused code)) c k e n s none all = record { none = none; all = all; own = subst IsOwnEnd (sym e) tt }
+own_end (Some (end.Refused code description)) c k e n s none all = record { none = none; all = all; own = subst IsOwnEnd (sym e) tt }
 own_end (Some end.Done) c k e n s none all = absurd (n refl)
 own_end (Some end.OutOfMemory) c k e n s none all = ([], append-nil (made c.calls) ∙ all)
 

@@ -93,7 +93,7 @@ IsOwnEnd (Some (end.BadVersion at)) = Unit {0}
 IsOwnEnd (Some (end.BadChunk cause at)) = Unit {0}
 IsOwnEnd (Some (end.BadControl at)) = Unit {0}
 IsOwnEnd (Some (end.BadCommand at)) = Unit {0}
-IsOwnEnd (Some (end.Refused code)) = Unit {0}
+IsOwnEnd (Some (end.Refused code description)) = Unit {0}
 IsOwnEnd (Some end.Done) = ⊥
 IsOwnEnd (Some end.OutOfMemory) = ⊥
 

@@ -107,7 +107,7 @@ end_as (Some (client_end.BadVersion at)) = end.Client
 end_as (Some (client_end.BadChunk cause at)) = end.Client
 end_as (Some (client_end.BadControl at)) = end.Client
 end_as (Some (client_end.BadCommand at)) = end.Client
-end_as (Some (client_end.Refused code)) = end.Client
+end_as (Some (client_end.Refused code description)) = end.Client
 end_as (Some client_end.Done) = end.Client
 end_as (Some client_end.OutOfMemory) = end.OutOfMemory
 

@@ -29,7 +29,7 @@ client_text (Some (client.BadVersion at)) = at_text (codes "badversion") at
 client_text (Some (client.BadChunk cause at)) = codes "badchunk " ++ at_text (cause_text cause) at
 client_text (Some (client.BadControl at)) = at_text (codes "badcontrol") at
 client_text (Some (client.BadCommand at)) = at_text (codes "badcommand") at
-client_text (Some (client.Refused code)) = codes "refused"
+client_text (Some (client.Refused code description)) = codes "refused"
 client_text (Some client.Done) = codes "done"
 client_text (Some client.OutOfMemory) = codes "outofmemory"
 

@@ -48,7 +48,7 @@ fn client_text(alloc: Global, end: &Option<ClientEnd>) -> Result<String, OutOfMe
         Some(ClientEnd::BadChunk { cause, at }) => bad_chunk_text(alloc, *cause, *at),
         Some(ClientEnd::BadControl { at }) => at_text(alloc, "badcontrol", *at),
         Some(ClientEnd::BadCommand { at }) => at_text(alloc, "badcommand", *at),
-        Some(ClientEnd::Refused { code: _ }) => Ok(format!(in alloc; "refused")?),
+        Some(ClientEnd::Refused { .. }) => Ok(format!(in alloc; "refused")?),
         Some(ClientEnd::Done) => Ok(format!(in alloc; "done")?),
         Some(ClientEnd::OutOfMemory) => Ok(format!(in alloc; "outofmemory")?),
     }

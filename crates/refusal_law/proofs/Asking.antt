@@ -76,15 +76,15 @@ module _ (Q : Message → Type 0) (k : Asked) (max : ℕ) (control : (c : Contro
 
   news_so : (p : Phase) (n : News) → Every Q (learns k p n).says
   news_so Connecting (Done n v) = connected_so (n == pattern 1)
-  news_so Connecting (Refused code) = tt
+  news_so Connecting (Refused code description) = tt
   news_so Connecting (Status code) = tt
   news_so Connecting Other = tt
   news_so Creating (Done n v) = then_so (n == pattern 2) v
-  news_so Creating (Refused code) = tt
+  news_so Creating (Refused code description) = tt
   news_so Creating (Status code) = tt
   news_so Creating Other = tt
   news_so (Asking id) (Done n v) = tt
-  news_so (Asking id) (Refused code) = tt
+  news_so (Asking id) (Refused code description) = tt
   news_so (Asking id) (Status code) = started_so id (is_text code (start_code k.wish))
   news_so (Asking id) Other = tt
   news_so (Started id) n = tt

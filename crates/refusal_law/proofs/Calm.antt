@@ -100,8 +100,8 @@ pongs_calm c = all_calm (pongs (ping_answer_of c)) (pongs_strict c)
 -- ---- commands
 
 news_calm : (n : News) (at : ℕ) (e : ClientEnd) → ended_by at (Ok n) ≡ Some e → IsRefusal e
-news_calm (news.Refused code) at e f =
-    let g : end.Refused code ≡ e = cc in
+news_calm (news.Refused code description) at e f =
+    let g : end.Refused code description ≡ e = cc in
     subst IsRefusal g tt
 news_calm (news.Done transaction number) at e f = absurd (not_none e f)
 news_calm (news.Status code) at e f = absurd (not_none e f)

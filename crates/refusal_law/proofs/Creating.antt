@@ -9,10 +9,10 @@ use Rattle.chunk_wire.specs.declared.message.Message.{Message}
 use Rattle.client_law.proofs.Alike.{idles}
 use Rattle.client_law.proofs.Louds.{loud_joined, loud_owed}
 use Rattle.client_law.proofs.Push.{after_small, pattern_low}
-use Rattle.client_law.proofs.Steps.{by_heard, command_does, heard_delete}
+use Rattle.client_law.proofs.Steps.{by_heard, command_does, heard_delete, url_short}
 use Rattle.client_law.specs.Laws.{IsNamed}
 use Rattle.client_law.specs.Loud.{Every, Rise, asked_by, bare, is_loud, keep, loud, sents}
-use Rattle.client_owed.specs.Client.{ask, asks, connect, connects, create_stream, delete_stream}
+use Rattle.client_owed.specs.Client.{ask, asks, connect, connects, create_stream, delete_stream, tc_url}
 use Rattle.client_owed.specs.News.{is_text}
 use Rattle.client_owed.specs.Owed.{AreGiven, Follow, MayGive, id_of, owed, phase_of, sent_on}
 use Rattle.client_owed.specs.declared.types.Asked.{Asked}
@@ -52,7 +52,7 @@ by_name m r h n = λ e.
     let f : is_create r ≡ true = ap is_create (sym h ∙ ap (λ (x : Message). heard_in x.body) e ∙ heard_create) in
     absurd (let g : false ≡ true = sym n ∙ f in cc)
 
-connect_other : (k : Asked) → length k.app < 2 ^ 16 → Other (connect k)
+connect_other : (k : Asked) → length (tc_url k) < 2 ^ 16 → Other (connect k)
 connect_other k l = by_name (connect k) _ (heard_connect k l) refl
 
 asks_other : (w : Wish) (name : List ℕ) (id : ℕ) → length name < 2 ^ 16
@@ -127,11 +127,11 @@ module _ (desk : Ask → Grant) where
   connect_by s m app None = (refl, refl)
   connect_by s m app (Some a) = (refl, refl)
 
-  connect_opens : (k : Asked) → length k.app < 2 ^ 16 → Opens (connect k)
+  connect_opens : (k : Asked) → length (tc_url k) < 2 ^ 16 → Opens (connect k)
   unfolding by_heard
   connect_opens k l = λ s.
       subst (λ (t : Step State). (t.state.ids ≡ s.ids) × (t.makes ≡ None))
-      (sym (command_does desk s 0 (items_spelling (connects k.app)) ∙ ap (by_heard desk s (connect k)) (heard_connect k l)))
+      (sym (command_does desk s 0 (items_spelling (connects k)) ∙ ap (by_heard desk s (connect k)) (heard_connect k l)))
       (connect_by s (connect k) k.app s.app)
 
   module _ (who window : ℕ) where
@@ -164,7 +164,7 @@ module _ (desk : Ask → Grant) where
         let p = phase_of k ns in
         let louder : loud (bare ms) ++ create_stream ∷ loud later ≡ asked_by k p ++ sents (id_of p) T =
         sym (loud_joined (bare ms) (create_stream ∷ later)) ∙ ap loud e ∙ loud_owed k max n ns T rise given in
-        let app : length k.app < 2 ^ 16 = omega (arith, named.app) in
-        let first = before k p (loud (bare ms)) (loud later) (sents (id_of p) T) louder (connect_other k app)
+        let short = url_short k named in
+        let first = before k p (loud (bare ms)) (loud later) (sents (id_of p) T) louder (connect_other k short)
         (λ id. asks_other k.wish k.name id (omega (arith, named.name))) (gave_other k max n (id_of p) ns T (after_small k Connecting ns (omega arith)) given) in
-        walk_opens C (fresh d) ms (every_loud Opens (bare ms) quiet_opens (subst (Every Opens) (sym first) (connect_opens k app, tt))) refl
+        walk_opens C (fresh d) ms (every_loud Opens (bare ms) quiet_opens (subst (Every Opens) (sym first) (connect_opens k short, tt))) refl

@@ -18,6 +18,7 @@ use Rattle.client_law.proofs.Push.{every_front}
 use Rattle.client_law.proofs.Push as push
 use Rattle.client_law.proofs.Readable.{owed_readable}
 use Rattle.client_law.proofs.Louds.{loud_joined, loud_owed}
+use Rattle.client_law.proofs.Steps.{url_short}
 use Rattle.client_law.specs.Loud.{Every, EverySaid, Rise, asked_by, bare, loud, sents}
 use Rattle.client_owed.specs.Client.{create_stream}
 use Rattle.client_owed.specs.Owed.{AreGiven, Follow, hello, id_of, owed, phase_of}
@@ -150,7 +151,7 @@ module _ (k : Asked) (who window max : ℕ) (desk : Ask → Grant) where
 
     heeds : Every Heeds mine
     heeds =
-        every_owed Heeds k max (λ c. inr (control_heeded desk c)) (inr (connect_heeded desk k (omega (arith, h.named.app)))) (inl refl)
+        every_owed Heeds k max (λ c. inr (control_heeded desk c)) (inr (connect_heeded desk k (url_short k h.named))) (inl refl)
         (λ id s. inr (ask_heeded desk k id (omega (arith, h.named.name)))) (λ w id g s m. inr (given_heeded desk w max id g s m)) n ns T h.given
 
     every_at : (Q : Message → Type 0) (a b : List Message) (m : Message) → Every Q (a ++ m ∷ b) → Q m
@@ -239,7 +240,7 @@ module _ (k : Asked) (who window max : ℕ) (desk : Ask → Grant) where
 
       all_say : Every Says mine
       all_say =
-          every_owed Says k max (λ c. (control_heeded desk c).says) (connect_heeded desk k (omega (arith, h.named.app))).says (create_says desk free)
+          every_owed Says k max (λ c. (control_heeded desk c).says) (connect_heeded desk k (url_short k h.named)).says (create_says desk free)
           (λ id s. (ask_heeded desk k id (omega (arith, h.named.name))).says) (λ w id g s m. (given_heeded desk w max id g s m).says) n ns T h.given
 
       heard_say : Every Says (bare ms)
@@ -349,7 +350,7 @@ module _ (k : Asked) (who window max : ℕ) (desk : Ask → Grant) where
               (omega (arith, few, length-drop hand_bytes (y ++ more))) q.2
           by_end (client_end.BadControl p) q = first (client_end.BadControl p) q.1
           by_end (client_end.BadCommand p) q = first (client_end.BadCommand p) q.1
-          by_end (client_end.Refused code) q = tt
+          by_end (client_end.Refused code description) q = tt
           by_end client_end.Done q = q
           by_end client_end.OutOfMemory q = tt
 
@@ -384,7 +385,7 @@ module _ (k : Asked) (who window max : ℕ) (desk : Ask → Grant) where
                 let all : loud (bare ms) ++ loud g.0 ≡ asked_by k p ++ sents (id_of p) T =
                 sym (loud_joined (bare ms) g.0) ∙ ap loud g.1 ∙ loud_owed k max n ns T rise h.given in
                 planned_front desk k false (loud (bare ms)) (loud g.0) (subst (Planned desk k false) (sym all)
-                (planned_all desk k free (omega (arith, h.named.app)) p (sents (id_of p) T)
+                (planned_all desk k free (url_short k h.named) p (sents (id_of p) T)
                 (gave_others (id_of p) T (push.after_small k Connecting ns (omega arith)) h.given)))
 
         abbrev made_all : List Entry
@@ -441,6 +442,6 @@ module _ (k : Asked) (who window max : ℕ) (desk : Ask → Grant) where
               by_end (client_end.BadChunk cause p) q = client_refused at more (client_end.BadChunk cause p) b few q
               by_end (client_end.BadControl p) q = refused_not (client_end.BadControl p) q.1
               by_end (client_end.BadCommand p) q = refused_not (client_end.BadCommand p) q.1
-              by_end (client_end.Refused code) q = refused_not (client_end.Refused code) q
+              by_end (client_end.Refused code description) q = refused_not (client_end.Refused code description) q
               by_end client_end.Done q = q
               by_end client_end.OutOfMemory q = tt

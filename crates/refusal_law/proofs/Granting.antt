@@ -16,7 +16,7 @@ use Rattle.client_law.proofs.Alike.{idles, said_join}
 use Rattle.client_law.proofs.Push.{pattern_low}
 use Rattle.client_law.proofs.Steps.{by_heard, command_does, heard_delete}
 use Rattle.client_law.specs.Loud.{Every, EverySaid, asked_by, bare, is_loud, keep, loud}
-use Rattle.client_owed.specs.Client.{ask, asks, connect, connects, create_stream, delete_stream}
+use Rattle.client_owed.specs.Client.{ask, asks, connect, connects, create_stream, delete_stream, tc_url}
 use Rattle.client_owed.specs.Owed.{MayGive, sent_on}
 use Rattle.client_owed.specs.declared.types.Asked.{Asked}
 use Rattle.client_owed.specs.declared.types.Given.{Given}
@@ -251,8 +251,8 @@ module _ (desk : Ask → Grant) (k : Asked) where
   command_other stream body h e w = λ s.
       subst (IsMeek s) (sym (command_does desk s stream body ∙ ap (by_heard desk s (record { kind = 20; stream = stream; time = 0; body = body })) e)) (w s)
 
-  connect_other : length k.app < 2 ^ 16 → IsOther (connect k)
-  connect_other l = command_other 0 (items_spelling (connects k.app)) _ (heard_connect k l) (λ s. connect_meek s (connect k) s.app refl)
+  connect_other : length (tc_url k) < 2 ^ 16 → IsOther (connect k)
+  connect_other l = command_other 0 (items_spelling (connects k)) _ (heard_connect k l) (λ s. connect_meek s (connect k) s.app refl)
 
   create_other : SmallFree desk → IsOther create_stream
   create_other free = command_other 0 create_stream.body creating heard_create (λ s. create_after free s create_stream s.app)
@@ -441,13 +441,13 @@ module _ (desk : Ask → Grant) (k : Asked) where
   planned_front false (m ∷ l) r (inl h) = inl (h.0, planned_front false l r h.1)
   planned_front false (m ∷ l) r (inr h) = inr (h.0, h.1, planned_front true l r h.2)
 
-  pub planned_all : (free : SmallFree desk) (app : length k.app < 2 ^ 16) (p : Rattle.client_owed.specs.declared.types.Phase.Phase) (S : List Message)
+  pub planned_all : (free : SmallFree desk) (short : length (tc_url k) < 2 ^ 16) (p : Rattle.client_owed.specs.declared.types.Phase.Phase) (S : List Message)
       → Every IsOther S
       → Planned false (asked_by k p ++ S)
-  planned_all free app client_phase.Connecting S h = inl (connect_other app, planned_others false S h)
-  planned_all free app client_phase.Creating S h = inl (connect_other app, inl (create_other free, planned_others false S h))
-  planned_all free app (client_phase.Asking id) S h = inl (connect_other app, inl (create_other free, inr (id, refl, planned_others true S h)))
-  planned_all free app (client_phase.Started id) S h = inl (connect_other app, inl (create_other free, inr (id, refl, planned_others true S h)))
+  planned_all free short client_phase.Connecting S h = inl (connect_other short, planned_others false S h)
+  planned_all free short client_phase.Creating S h = inl (connect_other short, inl (create_other free, planned_others false S h))
+  planned_all free short (client_phase.Asking id) S h = inl (connect_other short, inl (create_other free, inr (id, refl, planned_others true S h)))
+  planned_all free short (client_phase.Started id) S h = inl (connect_other short, inl (create_other free, inr (id, refl, planned_others true S h)))
 
   -- a control message
   quiet_other : (m : Message) → is_loud m ≡ false → IsOther m

@@ -12,9 +12,9 @@ use Rattle.amf0_value.specs.Pattern.{pattern}
 use Rattle.amf0_value.specs.declared.walk.Brief.TheVariants as brief
 use Rattle.chunk_wire.specs.declared.message.Message.{Message}
 use Rattle.client_law.proofs.Push.{pattern_low}
-use Rattle.client_law.proofs.Steps.{by_heard, command_does, heard_delete, hears, items_read, patterns_low}
+use Rattle.client_law.proofs.Steps.{by_heard, command_does, connect_read, heard_delete, hears, items_read, patterns_low}
 use Rattle.client_law.specs.Loud.{Every}
-use Rattle.client_owed.specs.Client.{ask, asks, connect, connects, create_stream, creates, delete_stream}
+use Rattle.client_owed.specs.Client.{ask, asks, connect, connects, create_stream, creates, delete_stream, tc_url}
 use Rattle.client_owed.specs.Owed.{MayGive, sent_on}
 use Rattle.client_owed.specs.declared.types.Asked.{Asked}
 use Rattle.client_owed.specs.declared.types.Given.{Given}
@@ -48,11 +48,9 @@ use Rattle.rtmp_command.specs.declared.heard.Heard.{Heard}
 abbrev pub creating : Heard
 creating = record { name = codes "createStream"; transaction = pattern 2; app = None; fourth = brief.Other }
 
-pub heard_connect : (k : Asked) → length k.app < 2 ^ 16 → heard_in (connect k).body ≡ hears (codes "connect") (pattern 1) (Some k.app) brief.Other
+pub heard_connect : (k : Asked) → length (tc_url k) < 2 ^ 16 → heard_in (connect k).body ≡ hears (codes "connect") (pattern 1) (Some k.app) brief.Other
 unfolding heard_in
-heard_connect k l =
-    ap heard_from (items_read (connects k.app) (omega arith, (tt, (((omega arith, omega arith), l, tt), tt))) (tt, (patterns_low.0, ((tt, tt), tt)))
-    (omega arith))
+heard_connect k l = ap heard_from (connect_read k l)
 
 pub heard_create : heard_in create_stream.body ≡ Ok creating
 unfolding heard_in
@@ -144,8 +142,8 @@ module _ (desk : Ask → Grant) where
         heeds = λ at s x f. absurd (not_some x (sym (ap (λ r. ended_by at (means.commands_by s stream r)) e ∙ (w s).ends at) ∙ f));
       }
 
-  pub connect_heeded : (k : Asked) → length k.app < 2 ^ 16 → IsHeeded (connect k)
-  connect_heeded k l = command_heeded 0 (items_spelling (connects k.app)) _ (heard_connect k l) (λ s. connect_well s (connect k) k.app s.app)
+  pub connect_heeded : (k : Asked) → length (tc_url k) < 2 ^ 16 → IsHeeded (connect k)
+  connect_heeded k l = command_heeded 0 (items_spelling (connects k)) _ (heard_connect k l) (λ s. connect_well s (connect k) k.app s.app)
 
   asks_heeded : (w : Wish) (name : List ℕ) (id : ℕ) → length name < 2 ^ 16
       → IsHeeded (record { kind = 20; stream = id; time = 0; body = items_spelling (asks w name) })

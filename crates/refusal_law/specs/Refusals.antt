@@ -71,7 +71,7 @@ IsRefusal (client_end.BadVersion at) = ⊥
 IsRefusal (client_end.BadChunk cause at) = ⊥
 IsRefusal (client_end.BadControl at) = ⊥
 IsRefusal (client_end.BadCommand at) = ⊥
-IsRefusal (client_end.Refused code) = Unit {0}
+IsRefusal (client_end.Refused code description) = Unit {0}
 IsRefusal client_end.Done = ⊥
 IsRefusal client_end.OutOfMemory = Unit {0}
 
@@ -83,7 +83,7 @@ ClientWants (client_end.BadVersion at) = ⊥
 ClientWants (client_end.BadChunk cause at) = ⊥
 ClientWants (client_end.BadControl at) = ⊥
 ClientWants (client_end.BadCommand at) = ⊥
-ClientWants (client_end.Refused code) = ⊥
+ClientWants (client_end.Refused code description) = ⊥
 ClientWants client_end.Done = ⊥
 ClientWants client_end.OutOfMemory = Unit {0}
 

@@ -6,7 +6,7 @@ use crate::watching::{Unfit, Watched, read_watched, tell_unfit};
 use crate::{
     BAD_INPUT, BAD_WORDS, LINK_FAULT, NO_MEMORY, READ_FAULT, WRITE_FAULT, status, tell_fault,
 };
-use client_command::{Ended, pull, push};
+use client_command::{Ended, Refusal, pull, push};
 use client_owed::Wish;
 use relay_base::Status;
 use relay_edge::Shown;
@@ -28,6 +28,9 @@ const NO_RTMP: u8 = 12;
 
 /// The exit code of a server that refused the publish or the play.
 const REFUSED: u8 = 13;
+
+/// The most bytes of a server's code or description that are shown.
+const MOST_TOLD: usize = 255;
 
 /// The milliseconds of a second.
 const SECOND: u64 = 1000;
@@ -161,13 +164,31 @@ fn meter<'a>(
     Meter::new(host, progress, watched.informs, begun, done)
 }
 
-// Writes that the server refused, with its code.
-fn tell_refusal(host: &HostRuntime, code: &[u8]) {
-    let _ = match str::from_utf8(code) {
-        Ok(text) if !text.is_empty() => {
-            eprintln!(host; "relay: the server refused: {}", Shown { text })
+// Returns a server's words as they are shown: the first bytes, with no character cut, or none if they aren't UTF-8.
+fn told(words: &[u8]) -> Shown<'_> {
+    let most = words.len().min(MOST_TOLD);
+    for less in 0..4usize {
+        if let Some(head) = words.get(..most.saturating_sub(less)) {
+            if let Ok(text) = str::from_utf8(head) {
+                return Shown { text };
+            }
         }
-        _ => eprintln!(host; "relay: the server refused"),
+    }
+    Shown { text: "" }
+}
+
+// Writes that the server refused, with its code and its description.
+fn tell_refusal(host: &HostRuntime, code: &[u8], description: &[u8]) {
+    let code = told(code);
+    let description = told(description);
+    let _ = if code.text.is_empty() && description.text.is_empty() {
+        eprintln!(host; "relay: the server refused")
+    } else if description.text.is_empty() {
+        eprintln!(host; "relay: the server refused: {code}")
+    } else if code.text.is_empty() {
+        eprintln!(host; "relay: the server refused: {description}")
+    } else {
+        eprintln!(host; "relay: the server refused: {code}: {description}")
     };
 }
 
@@ -190,7 +211,8 @@ fn tell_end(host: &HostRuntime, request: &Request, link: &PeerLink, ended: &Ende
             "relay: {address}: the server sent invalid RTMP at byte {place}"
         ),
         REFUSED => {
-            tell_refusal(host, ended.refusal.as_slice());
+            let Refusal { code, description } = &ended.refusal;
+            tell_refusal(host, code.as_slice(), description.as_slice());
             Ok(())
         }
         _ => Ok(()),
@@ -221,8 +243,8 @@ fn close(host: &HostRuntime, request: &Request, link: PeerLink, rest: &mut PeerR
             let _ = eprintln!(host; "relay: {address}: {error}");
             LINK_FAULT
         }
-        Parting::Refused(code) => {
-            tell_refusal(host, code.as_slice());
+        Parting::Refused { code, description } => {
+            tell_refusal(host, code.as_slice(), description.as_slice());
             REFUSED
         }
     }

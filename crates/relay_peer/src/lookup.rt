@@ -7,10 +7,13 @@ use std::{io, str};
 /// The port of a server whose address has none: that of RTMP.
 const PORT: u16 = 1935;
 
+/// The most bytes of a server's name with its port, which is told to the server.
+const MOST: usize = 255;
+
 /// Why a server has no address.
 #[derive(Drop)]
 pub enum Unknown {
-    /// The text is no `HOST[:PORT]`.
+    /// The text is no `HOST[:PORT]`, or has more than 255 bytes.
     NoServer,
     /// The system doesn't know the name.
     NotFound(io::Error),
@@ -44,6 +47,9 @@ fn parts(text: &str) -> Option<(&str, u16)> {
 /// Returns the addresses of the server that the bytes name, as `HOST[:PORT]`: an IP address, or a name that the
 /// system looks up. Without a port it is 1935.
 pub fn look_up<R: Net>(rt: &R, alloc: Global, server: &[u8]) -> Result<Vec<SocketAddr>, Unknown> {
+    if server.len() > MOST {
+        return Err(Unknown::NoServer);
+    }
     let text = str::from_utf8(server).map_err(|_| Unknown::NoServer)?;
     let mut found = Vec::new(alloc);
     if let Ok(address) = text.parse::<SocketAddr>() {

@@ -12,6 +12,9 @@ const LEVEL: &[u8] = b"\x00\x05level\x02\x00\x05error";
 /// The start of the property of a status that has its code, without the code's length.
 const CODE: &[u8] = b"\x00\x04code\x02";
 
+/// The start of the property of a status that describes it, without the description's length.
+const DESCRIPTION: &[u8] = b"\x00\x0bdescription\x02";
+
 /// How a server parted once it was sent everything.
 #[derive(Drop)]
 pub enum Parting {
@@ -19,8 +22,8 @@ pub enum Parting {
     Quiet,
     /// The connection failed.
     Failed(io::Error),
-    /// It sent a status of level `error`. These bytes have its code, or are empty.
-    Refused(Vec<u8>),
+    /// It sent a status of level `error`, with this code and description. They are empty if it has none.
+    Refused { code: Vec<u8>, description: Vec<u8> },
 }
 
 /// The bytes that a server sends before it parts.
@@ -55,12 +58,21 @@ impl LastWords {
         }
     }
 
-    // Returns the code of the status, if there is one.
-    fn code(&self) -> Option<&[u8]> {
-        let [high, low, text @ ..] = behind(self.bytes.as_slice(), CODE)? else {
+    // Returns the text of the property of the status that has this start, if there is one.
+    fn text(&self, start: &[u8]) -> Option<&[u8]> {
+        let [high, low, text @ ..] = behind(self.bytes.as_slice(), start)? else {
             return None;
         };
         text.get(..usize::from(u16::from_be_bytes([*high, *low])))
+    }
+
+    // Copies that text. It is empty if there is none.
+    fn words(&self, alloc: Global, start: &[u8]) -> Vec<u8> {
+        let mut words = Vec::new(alloc);
+        for byte in self.text(start).unwrap_or(b"") {
+            let _ = words.push(*byte);
+        }
+        words
     }
 
     /// Returns how the server parted.
@@ -68,10 +80,9 @@ impl LastWords {
         if behind(self.bytes.as_slice(), LEVEL).is_none() {
             return Parting::Quiet;
         }
-        let mut code = Vec::new(alloc);
-        for byte in self.code().unwrap_or(b"") {
-            let _ = code.push(*byte);
+        Parting::Refused {
+            code: self.words(alloc, CODE),
+            description: self.words(alloc, DESCRIPTION),
         }
-        Parting::Refused(code)
     }
 }

@@ -1,5 +1,5 @@
 -- What a line does that acts.
-use Rattle.std.specs.Prelude.{◌≡◌, ℕ, Bool, true, false, List, [], ◌∷◌, ◌++◌, length, slice_get, slice_set, Option, None, Some}
+use Rattle.std.specs.Prelude.{◌≡◌, ℕ, Bool, true, false, List, [], ◌∷◌, ◌++◌, codes, length, slice_get, slice_set, Option, None, Some}
 use Rattle.ack_window.specs.Outbound.{new_out}
 use Rattle.command_dialog.specs.declared.types.Ask.{Ask}
 use Rattle.command_dialog.specs.declared.types.Grant.{Grant}
@@ -79,7 +79,7 @@ pub record IsNewEdge (limits : AllLimits) (who stream : ℕ) (app name : List �
   pub stands : edge.StandsFor c.edge
   pub fixed : (c.edge.parts.who ≡ who) × (c.edge.parts.place ≡ stream)
   pub empty : (c.edge.parts.calls ≡ []) × (c.edge.parts.kept ≡ None) × (c.edge.parts.due ≡ due.Nothing)
-  pub asked : c.edge.client.parts.asked ≡ record { wish = Pull; app = app; name = name }
+  pub asked : c.edge.client.parts.asked ≡ record { wish = Pull; address = codes "replay"; app = app; name = name }
   pub client : edge.IsNew c.edge.client
   pub max : c.edge.client.parts.reader.max ≡ limits.max_message
   pub nowhere : c.edge.seat ≡ new_seat

@@ -50,7 +50,7 @@ fn told_edge(answer: EdgeTurn) -> Answered
 }
 
 impl Pulling {
-    // An edge of that name at that stream, with room for all.
+    // An edge of that name at that stream, with room for all. It tells the address `replay`.
     pub(crate) fn new(
         alloc: Global,
         who: u64,
@@ -63,7 +63,9 @@ impl Pulling {
         requires short { AreShort app name }
         ensures { IfOk result (IsNewEdge limits who stream app name) }
     {
-        let client = Client::new(alloc, Wish::Pull, app, name, limits.max_message)?;
+        let mut address = Bytes::new(alloc);
+        address.append(b"replay")?;
+        let client = Client::new(alloc, Wish::Pull, address, app, name, limits.max_message)?;
         Ok(Pulling {
             edge: Edge::new(who, stream, client),
             link: MemLink::new(alloc),

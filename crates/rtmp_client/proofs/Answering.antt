@@ -46,15 +46,15 @@ between_ask k id false = refl
 
 pub between : (k : Asked) (p : Phase) (n : News) → said_between k p (learns k p n).phase ≡ (learns k p n).says
 between k Connecting (Done t v) = between_connect k (t == pattern 1)
-between k Connecting (Refused code) = refl
+between k Connecting (Refused code description) = refl
 between k Connecting (Status code) = refl
 between k Connecting Other = refl
 between k Creating (Done t v) = between_create k v (t == pattern 2)
-between k Creating (Refused code) = refl
+between k Creating (Refused code description) = refl
 between k Creating (Status code) = refl
 between k Creating Other = refl
 between k (Asking id) (Done t v) = refl
-between k (Asking id) (Refused code) = refl
+between k (Asking id) (Refused code description) = refl
 between k (Asking id) (Status code) = between_ask k id (is_text code (start_code k.wish))
 between k (Asking id) Other = refl
 between k (Started id) n = refl

@@ -56,10 +56,10 @@ pub fed_light : (old now next : Core) (input left : List ℕ) (n : ℕ) → IsFe
     → 16000 * next.outgoing.others ≤ weight now.outgoing.others (length now.y) now.inbound + (356 * n + 5600000) → 16 * next.outgoing.others ≤ 194000
 fed_light old now next input left n f few short ne le = omega (arith, f.light, few, short, ne, le, greet_most (length old.y))
   where
-    greet_most : (k : ℕ) → Rattle.rtmp_client.specs.Bounds.to_greet k ≤ 1860
+    greet_most : (k : ℕ) → Rattle.rtmp_client.specs.Bounds.to_greet k ≤ 2463
     greet_most k = by_case (Rattle.std.proofs.Common.nat_lt k Rattle.session_owed.specs.Talk.hand_bytes)
       where
-        by_case : (t : Bool) → (if t then 1860 else 0) ≤ 1860
+        by_case : (t : Bool) → (if t then 2463 else 0) ≤ 2463
         by_case true = omega arith
         by_case false = omega arith
 

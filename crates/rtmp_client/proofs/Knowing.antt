@@ -106,10 +106,12 @@ tells_not body s f e h p is =
 same_value : (v w : Tree) (bytes rest other : List ℕ) → ReadsValue 0 bytes v rest → ReadsValue 0 bytes w other → v ≡ w
 same_value v w bytes rest other a b = (one_value v w bytes rest other a.0 b.0 (omega (arith, a.1)) (omega (arith, b.1))).0
 
-pub fourth_read : (bytes after later rest : List ℕ) (level code : Option (Option Brief)) (value : Brief) (f : Fourth) → HasPair (codes "level") bytes level after → HasPair (codes "code") bytes code later → HasBrief 0 bytes value rest
-    → f ≡ record { number = bits_in_brief value; level = unwrap_or (text_of level) []; code = unwrap_or (text_of code) [] } → HasFourth bytes f rest
-fourth_read bytes after later rest level code value f a b h e =
+pub fourth_read : (bytes after later last rest : List ℕ) (level code description : Option (Option Brief)) (value : Brief) (f : Fourth) → HasPair (codes "level") bytes level after → HasPair (codes "code") bytes code later
+    → HasPair (codes "description") bytes description last → HasBrief 0 bytes value rest
+    → f ≡ record { number = bits_in_brief value; level = unwrap_or (text_of level) []; code = unwrap_or (text_of code) []; description = unwrap_or (text_of description) [] } → HasFourth bytes f rest
+fourth_read bytes after later last rest level code description value f a b d h e =
     let one : level ≡ pair_of (codes "level") h.0 = a.2 ∙ ap (pair_of (codes "level")) (same_value a.0 h.0 bytes after rest a.1 h.1) in
     let two : code ≡ pair_of (codes "code") h.0 = b.2 ∙ ap (pair_of (codes "code")) (same_value b.0 h.0 bytes later rest b.1 h.1) in
+    let four : description ≡ pair_of (codes "description") h.0 = d.2 ∙ ap (pair_of (codes "description")) (same_value d.0 h.0 bytes last rest d.1 h.1) in
     let three : bits_in_brief value ≡ number_in h.0 = ap bits_in_brief h.2 ∙ bits_brief h.0 in
-    (h.0, h.1, e ∙ rw (one, two, three) refl)
+    (h.0, h.1, e ∙ rw (one, two, three, four) refl)

@@ -215,9 +215,9 @@ sound_greet c part y first whole o n l less h v he oe we ne ye =
 
 -- C2 and connect are short
 abbrev some_left : Bool → ℕ
-some_left t = if t then 1860 else 0
+some_left t = if t then 2463 else 0
 
-pub greet_quiet : (n m : ℕ) (y z : List ℕ) → m ≤ n + 1860 → length y < hand_bytes → length z ≡ hand_bytes → m + to_greet (length z) ≤ n + to_greet (length y)
+pub greet_quiet : (n m : ℕ) (y z : List ℕ) → m ≤ n + 2463 → length y < hand_bytes → length z ≡ hand_bytes → m + to_greet (length z) ≤ n + to_greet (length y)
 greet_quiet n m y z le less e =
     let a : nat_lt (length y) hand_bytes ≡ true = lt-ltb (length y) hand_bytes less in
     let b : nat_lt (length z) hand_bytes ≡ false = le-ltb (length z) hand_bytes (omega (arith, e)) in
@@ -229,7 +229,7 @@ hand_quiet n y z h less =
     let b : nat_lt (length z) hand_bytes ≡ true = lt-ltb (length z) hand_bytes h in
     omega (arith, ap some_left a, ap some_left b)
 
-pub early_weight : (n m : ℕ) (y : List ℕ) (w : InWindow) → length y < hand_bytes → m ≤ n + 1860 → 16000 * m ≤ weight n (length y) w
+pub early_weight : (n m : ℕ) (y : List ℕ) (w : InWindow) → length y < hand_bytes → m ≤ n + 2463 → 16000 * m ≤ weight n (length y) w
 early_weight n m y w less le =
     let a : nat_lt (length y) hand_bytes ≡ true = lt-ltb (length y) hand_bytes less in
     omega (arith, le, ap some_left a)

@@ -1,10 +1,10 @@
 -- What a client says can be written, and is short
-use Rattle.std.proofs.Common.{◌≡◌, ℕ, ◌+◌, ◌<◌, ◌≤◌, ◌^◌, Bool, true, false, nat_eq, nat_le, ◌&&◌, List, [], ◌∷◌, length, take, drop, length-drop, refl, sym, ap, ◌∙◌, arith, length-append}
+use Rattle.std.proofs.Common.{◌≡◌, ℕ, ◌+◌, ◌*◌, ◌<◌, ◌≤◌, ◌^◌, Bool, true, false, nat_eq, nat_le, ◌&&◌, List, [], ◌∷◌, ◌++◌, length, take, drop, length-drop, refl, sym, ap, ◌∙◌, arith, length-append}
 use Rattle.std.proofs.lemmas.Bool.Decides.{nat_tests}
 use Rattle.std.proofs.lemmas.List.{length-take}
 use Rattle.std.specs.Prelude.{codes}
 use Rattle.relay_base.specs.Numbers.{be32_of}
-use Rattle.amf0_value.specs.Tree.{Tree, number, text, object, null, Items, item, no_items, member, no_members}
+use Rattle.amf0_value.specs.Tree.{Tree, number, text, object, null, Items, item, no_items, Members, member, no_members}
 use Rattle.amf0_value.specs.Pattern.{pattern}
 use Rattle.amf0_value.specs.Encoding.{items_spelling, members_spelling, spelling}
 use Rattle.amf0_value.specs.Spelling.{be}
@@ -15,7 +15,7 @@ use Rattle.flv_tags.specs.Layout.{is_kind}
 use Rattle.client_owed.specs.declared.types.Asked.{Asked}
 use Rattle.client_owed.specs.declared.types.Wish.{Wish}
 use Rattle.client_owed.specs.declared.types.Wish.TheVariants as wish
-use Rattle.client_owed.specs.Client.{ask, asks, called, chunk_size, command, connects, create_stream, creates, delete_stream, deletes}
+use Rattle.client_owed.specs.Client.{ask, asks, called, chunk_size, command, connect, connects, create_stream, creates, delete_stream, deletes, described, flash_ver, tc_url}
 use Rattle.rtmp_client.specs.Keeping.{IsNamed}
 use Rattle.rtmp_client.specs.Owing.{IsSayable, cost_of}
 
@@ -32,18 +32,31 @@ number_length n = refl
 item_length : (v : Tree) (vs : Items) → length (items_spelling (item v vs)) ≡ length (spelling v) + length (items_spelling vs)
 item_length v vs = length-append (spelling v) (items_spelling vs)
 
-app_length : (app : List ℕ) → length (spelling (object (member (codes "app") (text app) no_members))) ≡ 12 + length app
+member_length : (key t : List ℕ) (ms : Members) → length (members_spelling (member key (text t) ms)) ≡ 5 + length key + length t + length (members_spelling ms)
 unfolding be
-app_length app = omega (arith, text_length app, length-append (spelling (text app)) [], length-append (members_spelling (member (codes "app") (text app) no_members)) (0 ∷ 0 ∷ 9 ∷ []))
+member_length key t ms = omega (arith, text_length t, length-append key (spelling (text t) ++ members_spelling ms), length-append (spelling (text t)) (members_spelling ms))
+
+object_length : (ms : Members) → length (spelling (object ms)) ≡ 4 + length (members_spelling ms)
+object_length ms = omega (arith, length-append (members_spelling ms) (0 ∷ 0 ∷ 9 ∷ []))
+
+url_length : (k : Asked) → length (tc_url k) ≡ 8 + length k.address + length k.app
+url_length k = omega (arith, length-append k.address (0x2F ∷ k.app))
+
+pub url_short : (k : Asked) → IsNamed k → length (tc_url k) < 2 ^ 16
+url_short k n = omega (arith, url_length k, n.address_most, n.app_most)
+
+described_length : (k : Asked) → length (spelling (described k)) ≡ 71 + length k.address + 2 * length k.app
+described_length k =
+    let url = member (codes "tcUrl") (text (tc_url k)) no_members in
+    let ver = member (codes "flashVer") (text flash_ver) url in
+    omega (arith, object_length (member (codes "app") (text k.app) ver), member_length (codes "app") k.app ver, member_length (codes "flashVer") flash_ver url, member_length (codes "tcUrl") (tc_url k) no_members, url_length k)
 
 called_length : (name : List ℕ) (n : ℕ) (more : Items) → length (items_spelling (called name n more)) ≡ 12 + length name + length (items_spelling more)
 called_length name n more =
     omega (arith, item_length (text name) (item (number (pattern n)) more), item_length (number (pattern n)) more, text_length name, number_length (pattern n))
 
-connects_length : (app : List ℕ) → length (items_spelling (connects app)) ≡ 31 + length app
-connects_length app =
-    let o = item (object (member (codes "app") (text app) no_members)) no_items in
-    omega (arith, called_length (codes "connect") 1 o, item_length (object (member (codes "app") (text app) no_members)) no_items, app_length app)
+connects_length : (k : Asked) → length (items_spelling (connects k)) ≡ 90 + length k.address + 2 * length k.app
+connects_length k = omega (arith, called_length (codes "connect") 1 (item (described k) no_items), item_length (described k) no_items, described_length k)
 
 asks_short : (w : Wish) (name : List ℕ) → length (items_spelling (asks w name)) ≤ 40 + length name
 asks_short wish.Push name =
@@ -76,8 +89,8 @@ sayable_kind m k one short = record {
 command_sayable : (stream : ℕ) (vs : Items) → length (items_spelling vs) ≤ 4096 → IsSayable (command stream vs)
 command_sayable stream vs l = sayable_kind (command stream vs) refl refl (omega (arith, l))
 
-pub connect_sayable : (app : List ℕ) → length app ≤ 255 → IsSayable (command 0 (connects app))
-connect_sayable app l = command_sayable 0 (connects app) (omega (arith, l, connects_length app))
+pub connect_sayable : (k : Asked) → IsNamed k → IsSayable (connect k)
+connect_sayable k n = command_sayable 0 (connects k) (omega (arith, n.address_most, n.app_most, connects_length k))
 
 pub create_sayable : IsSayable create_stream
 create_sayable = command_sayable 0 creates (omega (arith, creates_length))
@@ -100,8 +113,8 @@ size_sayable = record {
 
 -- ---- and are short
 
-pub connect_cost : (app : List ℕ) → length app ≤ 255 → cost_of (command 0 (connects app)) ≤ 5160
-connect_cost app l = omega (arith, l, connects_length app)
+pub connect_cost : (k : Asked) → IsNamed k → cost_of (connect k) ≤ 14832
+connect_cost k n = omega (arith, n.address_most, n.app_most, connects_length k)
 
 pub create_cost : cost_of create_stream ≤ 1000
 create_cost = omega (arith, creates_length)

@@ -201,7 +201,7 @@ over_acknowledge c part used m r i o l f =
 abbrev IsAt : ℕ → ClientEnd → Type 0
 IsAt last (end.BadControl at) = at ≡ last
 IsAt last (end.BadCommand at) = at ≡ last
-IsAt last (end.Refused code) = Unit {0}
+IsAt last (end.Refused code description) = Unit {0}
 IsAt last end.OutOfMemory = Unit {0}
 IsAt last (end.BadVersion at) = ⊥
 IsAt last (end.BadChunk w at) = ⊥
@@ -213,7 +213,7 @@ some_same : {X : Type 0} (x y : X) → Some x ≡ Some y → x ≡ y
 some_same x y e = cc
 
 command_at : (last : ℕ) (w : Result News CommandFail) (e : ClientEnd) → ended_by last w ≡ Some e → IsAt last e
-command_at last (Ok (news.Refused code)) e is = subst (IsAt last) (some_same (end.Refused code) e is) tt
+command_at last (Ok (news.Refused code description)) e is = subst (IsAt last) (some_same (end.Refused code description) e is) tt
 command_at last (Ok (news.Done t v)) e is = absurd (let h : None ≡ Some e = is in cc)
 command_at last (Ok (news.Status code)) e is = absurd (let h : None ≡ Some e = is in cc)
 command_at last (Ok news.Other) e is = absurd (let h : None ≡ Some e = is in cc)
@@ -237,7 +237,7 @@ decides_message : (c : Core) (y : List ℕ) (n : ℕ) (e : ClientEnd) → (e ≡
 decides_message c y n e (inl o) = rw o tt
 decides_message c y n (end.BadControl at) (inr i) = i
 decides_message c y n (end.BadCommand at) (inr i) = i
-decides_message c y n (end.Refused code) (inr i) = i.1
+decides_message c y n (end.Refused code description) (inr i) = i.1
 decides_message c y n end.OutOfMemory (inr i) = tt
 decides_message c y n (end.BadVersion at) (inr i) = absurd i.0
 decides_message c y n (end.BadChunk w at) (inr i) = absurd i.0
@@ -317,7 +317,7 @@ all_stopped max given y n (end.BadVersion at) T more d = tt
 all_stopped max given y n (end.BadChunk cause at) T more d = tt
 all_stopped max given y n (end.BadControl at) T more d = tt
 all_stopped max given y n (end.BadCommand at) T more d = tt
-all_stopped max given y n (end.Refused code) T more d = tt
+all_stopped max given y n (end.Refused code description) T more d = tt
 all_stopped max given y n end.OutOfMemory T more d = tt
 all_stopped max given y n end.PeerClosed T more d = tt
 all_stopped max given y n end.LinkFault T more d = tt

@@ -119,7 +119,7 @@ told_case false false n = omega arith
 told_most : (r : Result News CommandFail) (n : ℕ) → list_bytes (told_in r) ≤ n
 told_most (Ok (Status code)) n = told_case (is_text code (Rattle.std.specs.Prelude.codes "NetStream.Play.PublishNotify")) (is_text code (Rattle.std.specs.Prelude.codes "NetStream.Play.UnpublishNotify")) n
 told_most (Ok (Done t v)) n = omega arith
-told_most (Ok (Refused code)) n = omega arith
+told_most (Ok (Refused code description)) n = omega arith
 told_most (Ok Other) n = omega arith
 told_most (Err e) n = omega arith
 

@@ -40,7 +40,7 @@ weight_took w n x o p k le s m = weight_case (eqb n (room_of w)) w n x o p refl 
 
 -- after the handshake nothing of it is to come
 abbrev some_left : Bool → ℕ
-some_left t = if t then 1860 else 0
+some_left t = if t then 2463 else 0
 
 late_none : (x : ℕ) → hand_bytes ≤ x → to_greet x ≡ 0
 late_none x h = ap some_left (le-ltb x hand_bytes h)

@@ -52,15 +52,15 @@ started_wide id w false h = h
 
 learns_wide : (k : Asked) (p : Phase) (n : News) (w : WriterKnown) → IsWide p w.size → Wide w (learns k p n)
 learns_wide k Connecting (Done t v) w h = create_wide w (t == pattern 1)
-learns_wide k Connecting (Refused code) w h = stays_wide w Connecting h
+learns_wide k Connecting (Refused code description) w h = stays_wide w Connecting h
 learns_wide k Connecting (Status code) w h = stays_wide w Connecting h
 learns_wide k Connecting Other w h = stays_wide w Connecting h
 learns_wide k Creating (Done t v) w h = then_wide k v w (t == pattern 2) h
-learns_wide k Creating (Refused code) w h = stays_wide w Creating h
+learns_wide k Creating (Refused code description) w h = stays_wide w Creating h
 learns_wide k Creating (Status code) w h = stays_wide w Creating h
 learns_wide k Creating Other w h = stays_wide w Creating h
 learns_wide k (Asking id) (Done t v) w h = stays_wide w (Asking id) h
-learns_wide k (Asking id) (Refused code) w h = stays_wide w (Asking id) h
+learns_wide k (Asking id) (Refused code description) w h = stays_wide w (Asking id) h
 learns_wide k (Asking id) (Status code) w h = started_wide id w (is_text code (start_code k.wish)) h
 learns_wide k (Asking id) Other w h = stays_wide w (Asking id) h
 learns_wide k (Started id) n w h = stays_wide w (Started id) h

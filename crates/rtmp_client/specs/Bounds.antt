@@ -32,7 +32,7 @@ nearness w = 1000 - room_of w
 
 -- how many bytes are still to come of C2 and connect, at most
 abbrev pub to_greet : ℕ → ℕ
-to_greet fed = if nat_lt fed hand_bytes then 1860 else 0
+to_greet fed = if nat_lt fed hand_bytes then 2463 else 0
 
 -- what bounds the answers while input is fed, where n bytes of them wait: 16,000 for each, and for each that
 -- is still to come of the handshake's; and 356 for each byte of input, since acknowledgements of at most 22

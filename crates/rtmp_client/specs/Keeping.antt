@@ -27,8 +27,9 @@ keeps_of c = record { pending = c.outgoing.pending; writer = c.outgoing.writer; 
 abbrev pub StandsNow : Core → Type 0
 StandsNow c = Stands c.asked c.reader.max (past_of c) (keeps_of c)
 
--- app and name have 1 to 255 bytes
+-- app and name have 1 to 255 bytes, and the address has at most as many
 pub record IsNamed (k : Asked) : Type 0 where
+  pub address_most : length k.address ≤ 255
   pub app_some : 0 < length k.app
   pub app_most : length k.app ≤ 255
   pub name_some : 0 < length k.name
@@ -77,5 +78,5 @@ IsAll (end.BadVersion at) T more = Unit {0}
 IsAll (end.BadChunk cause at) T more = Unit {0}
 IsAll (end.BadControl at) T more = Unit {0}
 IsAll (end.BadCommand at) T more = Unit {0}
-IsAll (end.Refused code) T more = Unit {0}
+IsAll (end.Refused code description) T more = Unit {0}
 IsAll end.OutOfMemory T more = Unit {0}

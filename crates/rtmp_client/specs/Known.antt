@@ -31,7 +31,7 @@ bits_in_brief (brief.Boolean b) = None
 bits_in_brief brief.Other = None
 
 abbrev pub fourth_of : Option Tree → Fourth
-fourth_of v = record { number = number_at v; level = text_at (codes "level") v; code = text_at (codes "code") v }
+fourth_of v = record { number = number_at v; level = text_at (codes "level") v; code = text_at (codes "code") v; description = text_at (codes "description") v }
 
 abbrev pub known_with : List ℕ → ℕ → Fourth → Known
 known_with name transaction f = record { name = name; transaction = transaction; fourth = f }
@@ -66,13 +66,16 @@ abbrev pub HasFourth : List ℕ → Fourth → List ℕ → Type 0
 HasFourth bytes f rest = (v : Tree) × ReadsValue 0 bytes v rest × (f ≡ fourth_of (Some v))
 
 -- the news by what was read
+abbrev pub refusal_by : Fourth → News
+refusal_by f = Refused f.code f.description
+
 abbrev pub status_by : Fourth → News
-status_by f = if is_text f.level (codes "error") then Refused f.code else Status f.code
+status_by f = if is_text f.level (codes "error") then refusal_by f else Status f.code
 
 abbrev pub news_by : Known → News
 news_by k =
     if is_text k.name (codes "_result") then Done k.transaction k.fourth.number
-    else (if is_text k.name (codes "_error") then Refused k.fourth.code
+    else (if is_text k.name (codes "_error") then refusal_by k.fourth
     else (if is_text k.name (codes "onStatus") then status_by k.fourth
     else Other))
 

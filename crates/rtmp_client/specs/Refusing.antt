@@ -14,7 +14,7 @@ use Rattle.rtmp_client.specs.declared.end.ClientEnd.TheVariants as end
 
 -- by what a command makes known, where its last byte is at this place
 abbrev pub ended_by : ℕ → Result News CommandFail → Option ClientEnd
-ended_by at (Ok (news.Refused code)) = Some (end.Refused code)
+ended_by at (Ok (news.Refused code description)) = Some (end.Refused code description)
 ended_by at (Ok (news.Done transaction number)) = None
 ended_by at (Ok (news.Status code)) = None
 ended_by at (Ok news.Other) = None

@@ -120,7 +120,7 @@ fn told_news(news: &News) -> Option<Gift>
             transaction: _,
             number: _,
         } => None,
-        News::Refused(_) => None,
+        News::Refused { .. } => None,
         News::Other => None,
     }
 }
@@ -156,7 +156,7 @@ fn heard(alloc: Global, last: u64, body: &[u8]) -> Result<News, ClientEnd>
 {
     match news(alloc, body) {
         Err(fail) => Err(end_of(fail, last)),
-        Ok(News::Refused(code)) => Err(ClientEnd::Refused { code }),
+        Ok(News::Refused { code, description }) => Err(ClientEnd::Refused { code, description }),
         Ok(known) => Ok(known),
     }
 }

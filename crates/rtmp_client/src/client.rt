@@ -46,21 +46,24 @@ impl Model for Client {
 }
 
 impl Client {
-    /// Makes a client that publishes or plays the stream of this name at an app. It takes messages of at most
-    /// `max_message` bytes. Its first bytes are to be sent.
+    /// Makes a client that publishes or plays the stream of this name at an app of the server at an address. The
+    /// address is told to the server, as `HOST:PORT` or in another form in which it was dialled. It takes messages
+    /// of at most `max_message` bytes. Its first bytes are to be sent.
     pub fn new(
         alloc: Global,
         wish: Wish,
+        address: Bytes,
         app: Bytes,
         name: Bytes,
         max_message: u32,
     ) -> Result<Client, OutOfMemory>
+        requires address_most { length address ≤ 255 }
         requires app_some { 0 < length app }
         requires app_most { length app ≤ 255 }
         requires name_some { 0 < length name }
         requires name_most { length name ≤ 255 }
         requires most { max_message ≤ 4194304 }
-        ensures asked { IfOk result (λ c. c.parts.asked ≡ record { wish = wish; app = app; name = name }) }
+        ensures asked { IfOk result (λ c. c.parts.asked ≡ record { wish = wish; address = address; app = app; name = name }) }
         ensures max { IfOk result (λ c. c.parts.reader.max ≡ max_message) }
         ensures past { IfOk result (λ c. past_of c.parts ≡ new_past) }
         ensures keeps { IfOk result (λ c. keeps_of c.parts ≡ new_keeps) }
@@ -69,7 +72,13 @@ impl Client {
         ensures lives { IfOk result (λ c. c.ended ≡ None) }
         ensures stands { IfOk result (λ c. StandsFor c) }
     {
-        let core = new_core(alloc, Asked { wish, app, name }, max_message)?;
+        let asked = Asked {
+            wish,
+            address,
+            app,
+            name,
+        };
+        let core = new_core(alloc, asked, max_message)?;
         Ok(Client {
             core,
             input: Input::new(alloc),

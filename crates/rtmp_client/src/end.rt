@@ -24,9 +24,9 @@ pub enum ClientEnd {
     /// The body of a command message is no command.
     #[error("a command message that is no command, at byte {at}")]
     BadCommand { at: u64 },
-    /// The server answered with an error: its code, or no bytes if it gave none.
+    /// The server answered with an error: its code and its description, each no bytes if it gave none.
     #[error("the server refused")]
-    Refused { code: Bytes },
+    Refused { code: Bytes, description: Bytes },
     /// It was finished, and all that it owed was sent.
     #[error("all was sent")]
     Done,

@@ -6,7 +6,7 @@ ghost use Rattle.amf0_value.specs.Reading.{Gives, Left, ReadsItems};
 ghost use Rattle.rtmp_command.specs.Commands.{command_fail};
 ghost use Rattle.rtmp_command.specs.Heard.{number_in_brief};
 ghost use Rattle.client_owed.specs.News.{news_in, text_of};
-ghost use Rattle.rtmp_client.specs.Known.{HasFourth, Knows, behind_name, behind_third, behind_transaction, bits_in_brief, fourth_of, known_of, news_by, status_by, text_in_brief};
+ghost use Rattle.rtmp_client.specs.Known.{HasFourth, Knows, behind_name, behind_third, behind_transaction, bits_in_brief, fourth_of, known_of, news_by, refusal_by, status_by, text_in_brief};
 
 use amf0_value::walk::{Brief, glance, pair, skip, skip_all};
 use amf0_value::{AmfFail, Stop};
@@ -16,12 +16,13 @@ use rtmp_command::CommandFail;
 use std::alloc::Global;
 
 /// The parts of a command's fourth value that a client reads: the pattern of the number that it is, or the
-/// texts under `level` and `code` if it is an object. A text that is missing has no bytes.
+/// texts under `level`, `code` and `description` if it is an object. A text that is missing has no bytes.
 #[derive(Drop)]
 pub(crate) struct Fourth {
     pub number: Option<u64>,
     pub level: Bytes,
     pub code: Bytes,
+    pub description: Bytes,
 }
 
 /// The parts of a command that a client reads (RTMP 1.0, section 7.2): its name, its transaction, and its
@@ -89,6 +90,7 @@ fn nothing(alloc: Global) -> Fourth
         number: None,
         level: Bytes::new(alloc),
         code: Bytes::new(alloc),
+        description: Bytes::new(alloc),
     }
 }
 
@@ -98,11 +100,13 @@ fn read_fourth(alloc: Global, bytes: &[u8]) -> Result<(Fourth, &[u8]), Stop>
 {
     let (level, _) = pair(alloc, bytes, b"level")?;
     let (code, _) = pair(alloc, bytes, b"code")?;
+    let (description, _) = pair(alloc, bytes, b"description")?;
     let (value, rest) = glance(alloc, bytes, 0)?;
     let fourth = Fourth {
         number: bits_in(&value),
         level: text_or_none(alloc, level),
         code: text_or_none(alloc, code),
+        description: text_or_none(alloc, description),
     };
     Ok((fourth, rest))
 }
@@ -215,7 +219,7 @@ fn news_of(known: Known) -> News
         };
     }
     if name == b"_error".as_slice() {
-        return News::Refused(fourth.code);
+        return refusal(fourth);
     }
     if name == b"onStatus".as_slice() {
         return status(fourth);
@@ -223,12 +227,22 @@ fn news_of(known: Known) -> News
     News::Other
 }
 
+// Returns the news of a refusal.
+fn refusal(fourth: Fourth) -> News
+    ensures { result ≡ refusal_by fourth }
+{
+    News::Refused {
+        code: fourth.code,
+        description: fourth.description,
+    }
+}
+
 // Returns the news that a status brings.
 fn status(fourth: Fourth) -> News
     ensures { result ≡ status_by fourth }
 {
     if fourth.level.as_slice() == b"error".as_slice() {
-        return News::Refused(fourth.code);
+        return refusal(fourth);
     }
     News::Status(fourth.code)
 }

@@ -82,7 +82,7 @@ fn behind_connect(news: &News) -> Phase
                 Phase::Connecting
             }
         }
-        News::Refused(_) => Phase::Connecting,
+        News::Refused { .. } => Phase::Connecting,
         News::Status(_) => Phase::Connecting,
         News::Other => Phase::Connecting,
     }
@@ -103,7 +103,7 @@ fn behind_create(news: &News) -> Phase
                 Phase::Creating
             }
         }
-        News::Refused(_) => Phase::Creating,
+        News::Refused { .. } => Phase::Creating,
         News::Status(_) => Phase::Creating,
         News::Other => Phase::Creating,
     }
@@ -125,7 +125,7 @@ fn behind_ask(wish: Wish, id: u32, news: &News) -> Phase
             transaction: _,
             number: _,
         } => Phase::Asking(id),
-        News::Refused(_) => Phase::Asking(id),
+        News::Refused { .. } => Phase::Asking(id),
         News::Other => Phase::Asking(id),
     }
 }

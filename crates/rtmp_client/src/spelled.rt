@@ -1,9 +1,9 @@
 //! The commands that a client says (RTMP 1.0, sections 7.2.1 and 7.2.2).
-ghost use Rattle.std.specs.Prelude.{◌≡◌, ◌<◌, ◌≤◌, ◌^◌, ◌∷◌, ◌++◌, [], codes, length, IfOk, OnOk};
-ghost use Rattle.amf0_value.specs.Tree.{member, no_members, null, number, object, text as a_text};
+ghost use Rattle.std.specs.Prelude.{◌≡◌, ◌<◌, ◌≤◌, ◌^◌, ◌++◌, length, IfOk, OnOk};
+ghost use Rattle.amf0_value.specs.Tree.{null, number, text as a_text};
 ghost use Rattle.amf0_value.specs.Encoding.{items_spelling, spelling};
 ghost use Rattle.amf0_value.specs.Pattern.{pattern};
-ghost use Rattle.client_owed.specs.Client.{ask as ask_of, asks, command as command_of, connects, create_stream as create_of, creates, delete_stream as delete_of, deletes};
+ghost use Rattle.client_owed.specs.Client.{ask as ask_of, asks, connect as connect_of, connects, create_stream as create_of, creates, delete_stream as delete_of, deletes, described, tc_url as url_of};
 ghost use Rattle.client_owed.specs.declared.types.Wish.TheVariants as wish;
 ghost use Rattle.rtmp_client.specs.Keeping.{IsNamed};
 
@@ -39,13 +39,30 @@ fn put_null(out: &mut Bytes) -> Result<(), OutOfMemory>
     encode(&value, out)
 }
 
-// Appends an object with the pair `app`.
-fn put_app(alloc: Global, app: &[u8], out: &mut Bytes) -> Result<(), OutOfMemory>
-    requires { length app.now < 2 ^ 16 }
-    ensures { OnOk result (out.new ≡ out.old ++ spelling (object (member (codes "app") (a_text app.now) no_members))) }
+// Returns the URL of the app at its server.
+fn tc_url(alloc: Global, asked: &Asked) -> Result<Bytes, OutOfMemory>
+    ensures { IfOk result (λ url. url ≡ url_of asked.now) }
 {
-    out.append(&[0x03, 0x00, 0x03, b'a', b'p', b'p'])?;
-    put_text(alloc, app, out)?;
+    let mut url = Bytes::new(alloc);
+    url.append(b"rtmp://")?;
+    url.append(asked.address.as_slice())?;
+    url.append(b"/")?;
+    url.append(asked.app.as_slice())?;
+    Ok(url)
+}
+
+// Appends the object of `connect`.
+fn put_described(alloc: Global, asked: &Asked, out: &mut Bytes) -> Result<(), OutOfMemory>
+    requires { IsNamed asked.now }
+    ensures { OnOk result (out.new ≡ out.old ++ spelling (described asked.now)) }
+{
+    let url = tc_url(alloc, asked)?;
+    out.append(b"\x03\x00\x03app")?;
+    put_text(alloc, asked.app.as_slice(), out)?;
+    out.append(b"\x00\x08flashVer")?;
+    put_text(alloc, b"FMLE/3.0 (compatible; relay)", out)?;
+    out.append(b"\x00\x05tcUrl")?;
+    put_text(alloc, url.as_slice(), out)?;
     out.append(&[0x00, 0x00, 0x09])?;
     Ok(())
 }
@@ -62,12 +79,12 @@ fn called(alloc: Global, name: &[u8], transaction: u64) -> Result<Bytes, OutOfMe
     Ok(out)
 }
 
-fn connect_body(alloc: Global, app: &[u8]) -> Result<Bytes, OutOfMemory>
-    requires { length app.now ≤ 255 }
-    ensures { IfOk result (λ body. body ≡ items_spelling (connects app.now)) }
+fn connect_body(alloc: Global, asked: &Asked) -> Result<Bytes, OutOfMemory>
+    requires { IsNamed asked.now }
+    ensures { IfOk result (λ body. body ≡ items_spelling (connects asked.now)) }
 {
     let mut out = called(alloc, b"connect", 1)?;
-    put_app(alloc, app, &mut out)?;
+    put_described(alloc, asked, &mut out)?;
     Ok(out)
 }
 
@@ -121,12 +138,12 @@ fn command(stream: u32, body: Bytes) -> Message
     }
 }
 
-/// Makes `connect` to an app (7.2.1.1).
-pub(crate) fn connect(alloc: Global, app: &[u8]) -> Result<Message, OutOfMemory>
-    requires { length app.now ≤ 255 }
-    ensures { IfOk result (λ m. m ≡ command_of 0 (connects app.now)) }
+/// Makes `connect` to the app at its server (7.2.1.1).
+pub(crate) fn connect(alloc: Global, asked: &Asked) -> Result<Message, OutOfMemory>
+    requires { IsNamed asked.now }
+    ensures { IfOk result (λ m. m ≡ connect_of asked.now) }
 {
-    let body = connect_body(alloc, app)?;
+    let body = connect_body(alloc, asked)?;
     Ok(command(0, body))
 }
 

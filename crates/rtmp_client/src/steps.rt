@@ -73,11 +73,11 @@ fn greet(alloc: Global, asked: &Asked, y: &[u8], outgoing: &mut Outgoing) -> Res
     requires { IsNamed asked.now }
     ensures bytes { OnOk result (outgoing.new.pending ≡ outgoing.old.pending ++ (c2 y.now ++ written outgoing.old.writer (connect_of asked.now ∷ []))) }
     ensures writer { OnOk result (outgoing.new.writer ≡ after_all outgoing.old.writer (connect_of asked.now ∷ [])) }
-    ensures light { outgoing.new.others ≤ outgoing.old.others + 1860 }
+    ensures light { outgoing.new.others ≤ outgoing.old.others + 2463 }
     ensures apart { Apart outgoing.old outgoing.new }
 {
     say_c2(y, outgoing)?;
-    let message = connect(alloc, asked.app.as_slice())?;
+    let message = connect(alloc, asked)?;
     outgoing.say(&message)?;
     Ok(())
 }
@@ -147,7 +147,7 @@ fn hand_end(core: &mut Core, alloc: Global, part: &[u8]) -> Result<(), OutOfMemo
     ensures sound { OnOk result (IsSound core.new) }
     ensures changed { OnOk result (core.new ≡ record core.old { first = core.new.first; outgoing = core.new.outgoing; fed = core.new.fed; y = core.old.y ++ part.now }) }
     ensures err { OnErr result (core.new ≡ record core.old { first = core.new.first; outgoing = core.new.outgoing }) }
-    ensures light { core.new.outgoing.others ≤ core.old.outgoing.others + 1860 }
+    ensures light { core.new.outgoing.others ≤ core.old.outgoing.others + 2463 }
     ensures apart { Apart core.old.outgoing core.new.outgoing }
 {
     core.first.append(part)?;
@@ -173,7 +173,7 @@ fn hand_part(core: &mut Core, alloc: Global, part: &[u8]) -> Result<(), OutOfMem
     ensures changed { OnOk result (core.new ≡ record core.old { first = core.new.first; outgoing = core.new.outgoing; fed = core.new.fed; y = core.old.y ++ part.now }) }
     ensures err { OnErr result (core.new ≡ record core.old { first = core.new.first; outgoing = core.new.outgoing }) }
     ensures quiet { OnOk result (core.new.outgoing.others + to_greet (length core.new.y) ≤ core.old.outgoing.others + to_greet (length core.old.y)) }
-    ensures light { core.new.outgoing.others ≤ core.old.outgoing.others + 1860 }
+    ensures light { core.new.outgoing.others ≤ core.old.outgoing.others + 2463 }
     ensures apart { Apart core.old.outgoing core.new.outgoing }
 {
     if core.fed + part.len() as u64 == HAND_BYTES {

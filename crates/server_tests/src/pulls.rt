@@ -42,6 +42,7 @@ fn client(alloc: Global) -> Result<Client, OutOfMemory>
     Client::new(
         alloc,
         Wish::Pull,
+        bytes(alloc, b"127.0.0.1:1935")?,
         bytes(alloc, b"live")?,
         bytes(alloc, b"one")?,
         65_536,

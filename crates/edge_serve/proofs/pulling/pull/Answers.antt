@@ -25,7 +25,7 @@ drive-end-requires-clause-at g c =
 pub returns : goal.returns
 returns g c =
     let L = g.L.Link in
-    let k = pull_of c.args.stream.app.now c.args.stream.name.now in
+    let k = pull_of c.args.stream.address.now c.args.stream.app.now c.args.stream.name.now in
     let max = c.args.stream.longest in
     let start = origin (L.told c.args.link) (L.counts c.args.link) in
     let now = origin (L.told c.drive-end.new.link) (L.counts c.drive-end.new.link) in
