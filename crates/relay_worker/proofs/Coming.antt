@@ -21,14 +21,17 @@ module _ {P D K Q L : Type 0} {fits : P → ℕ → Q → Type 0} {rules : P →
     {told : L → Option LinkTold} {counts : L → LinkCounts} {hears : L → ℕ → Came → L → Type 0} {says : L → List ℕ → Said → L → Type 0}
     {ready : L → Bool → Type 0} {doors : D → DoorTold} {takes : K → List ℕ → Put → K → Type 0} {holds : K → Option (List ℕ)}
     {desk : Ask → Grant} where
-  abbrev By : WorkerState P D K Q L → WorkerState P D K Q L → Type 0
-  By = ByRounds fits rules root seen mine count wants busies adds kin branches told counts hears says ready doors takes holds desk
-
   -- no round yet
-  pub by_none : (w : WorkerState P D K Q L) → By w w
+  pub by_none : (w : WorkerState P D K Q L)
+      → ByRounds fits rules root seen mine count wants busies adds kin branches told counts hears says ready doors takes holds desk w w
   by_none w = record { times = 0; rounds = refl }
 
   -- a round more, and then nothing
-  pub by_more : (u v m w : WorkerState P D K Q L) → By u v → RoundOn fits rules root seen mine count wants busies adds kin branches told counts hears says ready doors takes holds desk v m
-      → w ≡ m → By u w
-  by_more u v m w b r e = record { times = suc b.times; rounds = (v, (b.rounds, subst (λ (x : WorkerState P D K Q L). RoundOn fits rules root seen mine count wants busies adds kin branches told counts hears says ready doors takes holds desk v x) (sym e) r)) }
+  pub by_more : (u v m w : WorkerState P D K Q L)
+      → ByRounds fits rules root seen mine count wants busies adds kin branches told counts hears says ready doors takes holds desk u v
+      → RoundOn fits rules root seen mine count wants busies adds kin branches told counts hears says ready doors takes holds desk v m
+      → w ≡ m
+      → ByRounds fits rules root seen mine count wants busies adds kin branches told counts hears says ready doors takes holds desk u w
+  by_more u v m w b r e =
+      let Goes : WorkerState P D K Q L → Type 0 = λ x. RoundOn fits rules root seen mine count wants busies adds kin branches told counts hears says ready doors takes holds desk v x in
+      record { times = suc b.times; rounds = (v, (b.rounds, subst Goes (sym e) r)) }
