@@ -43,6 +43,15 @@ fn with_place(alloc: Global, code: u8, place: u64) -> Ended
     }
 }
 
+// Copies the words of a refusal.
+fn words_of(code: &Bytes, description: &Bytes) -> Result<Refusal, OutOfMemory>
+    ensures { IfOk result (λ words. words ≡ record { code = code.now; description = description.now }) }
+{
+    let code = code.again()?;
+    let description = description.again()?;
+    Ok(Refusal { code, description })
+}
+
 // By the end of the client.
 fn by_client(alloc: Global, end: &ClientEnd) -> Result<Ended, OutOfMemory>
     ensures ok { IfOk result (λ e. e ≡ record { status = client_status end.now; refusal = refusal_in end.now }) }
@@ -57,10 +66,7 @@ fn by_client(alloc: Global, end: &ClientEnd) -> Result<Ended, OutOfMemory>
         ClientEnd::BadCommand { at } => Ok(with_place(alloc, 12, *at)),
         ClientEnd::Refused { code, description } => Ok(Ended {
             status: Status { code: 13, place: 0 },
-            refusal: Refusal {
-                code: code.again()?,
-                description: description.again()?,
-            },
+            refusal: words_of(code, description)?,
         }),
         ClientEnd::Done => Ok(with_code(alloc, 0)),
         ClientEnd::OutOfMemory => Ok(with_code(alloc, 6)),

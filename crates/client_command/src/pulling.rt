@@ -144,10 +144,9 @@ fn pull_stream<W: Wait, L: Link, R: Rest, K: Sink>(
 /// Plays a stream of an RTMP server, and writes it as FLV (annex E of Adobe's FLV 10.1) up to its end, each
 /// tag as it comes.
 ///
-/// The words are `pull ADDRESS APP NAME`. Each of the three has 1 to 255 bytes, and a key may stand
-/// in NAME behind `?`. The address is told to the server; to connect to it is the caller's affair. It may
-/// wait, and rests after each
-/// turn in which nothing moved. The answer's code tells how it ended:
+/// The words are `pull ADDRESS APP NAME`. Each of the three has 1 to 255 bytes, and a key may stand in NAME
+/// behind `?`. The address is told to the server; to connect to it is the caller's affair. It may wait, and
+/// rests after each turn in which nothing moved. The answer's code tells how it ended:
 ///
 /// | Code | Comes | Written |
 /// |---|---|---|

@@ -207,11 +207,10 @@ fn push_stream<W: Wait, S: Source, L: Link, R: Rest>(
 /// Publishes a film of FLV (annex E of Adobe's FLV 10.1) at an RTMP server. Each tag is sent as it is read,
 /// so the film's source gives the pace.
 ///
-/// The words are `push ADDRESS APP NAME`. Each of the three has 1 to 255 bytes, and a key may stand
-/// in NAME behind `?`. The address is told to the server; to connect to it is the caller's affair. It may
-/// wait, and rests after each
-/// turn in which nothing moved. The film is asked for more only if nothing is to be sent and the server has
-/// nothing more to say. The answer's code tells how it ended:
+/// The words are `push ADDRESS APP NAME`. Each of the three has 1 to 255 bytes, and a key may stand in NAME
+/// behind `?`. The address is told to the server; to connect to it is the caller's affair. It may wait, and
+/// rests after each turn in which nothing moved. The film is asked for more only if nothing is to be sent and
+/// the server has nothing more to say. The answer's code tells how it ended:
 ///
 /// | Code | Comes | The link took |
 /// |---|---|---|

@@ -1,7 +1,6 @@
 -- What a session owes can be written and read, where each item that it was sent has room in a message
-use Rattle.std.proofs.Common.{◌≡◌, ◌⊎◌, inl, inr, ℕ, zero, suc, ◌+◌, ◌<◌, ◌≤◌, ◌^◌, Bool, true, false, ◌==◌, ◌&&◌, ◌||◌, nat_le, nat_eq, if◌then◌else◌, List, [], ◌∷◌, ◌++◌, length, Option, Some, None, Result, Ok, Err, refl, sym, ap, subst, arith}
+use Rattle.std.proofs.Common.{◌≡◌, ◌⊎◌, inl, inr, ℕ, suc, ◌≤◌, ◌^◌, Bool, true, false, ◌==◌, ◌&&◌, ◌||◌, nat_le, nat_eq, if◌then◌else◌, List, [], ◌∷◌, ◌++◌, length, Option, Some, None, Result, Ok, Err, refl, sym, ap, subst, arith}
 use Rattle.std.specs.List.{All}
-use Rattle.std.proofs.lemmas.Bool.Decides.{nat_tests}
 use Rattle.relay_base.specs.Numbers.{be32_of}
 use Rattle.av_unit.specs.declared.item.Item.{Item}
 use Rattle.av_unit.specs.declared.item.Item.TheVariants as item
@@ -26,7 +25,7 @@ use Rattle.stream_model.specs.declared.calls.Call.{Call}
 use Rattle.stream_model.specs.declared.replies.Reply.{Reply}
 use Rattle.stream_model.specs.declared.replies.Reply.TheVariants as reply
 use Rattle.session_owed.specs.Acks.{acks_at}
-use Rattle.session_owed.specs.Dialogue.{Dialogue, Step, Told}
+use Rattle.session_owed.specs.Dialogue.{Dialogue, Step}
 use Rattle.session_owed.specs.Owed.{at_count, owed, upto}
 use Rattle.session_owed.specs.Talk.{Own, Talk, calling, does_at, goes, is_at, is_take, item_of, items_at, one, reply_at, resumed, said_if, says_at, state_at, state_if, talk, told_of, walk}
 use Rattle.session_owed.specs.Talk as talking

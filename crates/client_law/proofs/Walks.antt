@@ -1,5 +1,5 @@
 -- The dialogue of a session over the messages of a client that publishes
-use Rattle.std.proofs.Common.{◌≡◌, ◌≢◌, ℕ, ◌+◌, ◌<◌, ◌≤◌, ◌^◌, ◌⊎◌, inl, inr, Bool, true, false, if◌then◌else◌, nat_le, List, [], ◌∷◌, ◌++◌, length, Option, Some, None, refl, sym, ap, ◌∙◌, subst, arith, append-nil, append_assoc}
+use Rattle.std.proofs.Common.{◌≡◌, ℕ, ◌<◌, ◌^◌, ◌⊎◌, inl, inr, Bool, true, false, if◌then◌else◌, nat_le, List, [], ◌∷◌, ◌++◌, length, Option, Some, None, refl, sym, ap, ◌∙◌, subst, append-nil, append_assoc}
 use Rattle.std.proofs.lemmas.Bool.{cases_eq}
 use Rattle.av_unit.specs.Classes.{unit_from}
 use Rattle.av_unit.specs.Media.{Media}
@@ -36,7 +36,7 @@ use Rattle.client_owed.specs.Client.{ask, connect, create_stream, delete_stream,
 use Rattle.client_owed.specs.Owed.{EndsAt, Follow, MayGive, sent_on}
 use Rattle.client_law.specs.Loud.{Every, EverySaid, bare, listed, sents, size_after, tag_unit, units, units_from}
 use Rattle.client_law.proofs.Alike.{said_join}
-use Rattle.client_law.proofs.Steps.{Silent, asking, ask_of, ask_does, ask_passed, connect_does, create_does, idle, idle_delete, idle_media, live, live_after, live_delete, live_is, live_media, publishing, pushes}
+use Rattle.client_law.proofs.Steps.{Silent, asking, ask_of, ask_does, ask_passed, connect_does, create_does, idle, idle_delete, idle_media, live, live_after, live_delete, live_media, publishing, pushes}
 
 pushed_more : (es : List Entry) (e : Entry) → pushed (es ++ e ∷ []) ≡ pushed es ++ unit_of e.call
 unfolding pushed
