@@ -110,7 +110,7 @@ module _ (push_law : PushLaw) (pull_law : PullLaw) (readable : ReadableLaw) (his
       let owed : near.handed ≡ client.out pusher c.y c.ms (g ∷ T) = sym (none_more near p.none) ∙ sym (append-nil (near.handed ++ near.sent)) ∙ c.took in
       let owes : far.handed ≡ session_owed.out (dialogue publisher) x s.ms C = sym (none_more far q.none) ∙ s.owes in
       push_law pusher publisher window max_message granted x c.y s.ms c.ms g T C refl (record {
-        named = record { app = omega arith; name = omega arith };
+        named = record { address = omega arith; app = omega arith; name = omega arith };
         least = omega arith;
         most = omega arith;
         greeted = greeted c.early;
@@ -146,7 +146,7 @@ module _ (push_law : PushLaw) (pull_law : PullLaw) (readable : ReadableLaw) (his
       let owed : near.handed ++ more ≡ client.out puller c.y c.ms [] = ap (λ (l : List ℕ). l ++ more) (sym (none_more near p.none)) ∙ c.took in
       let owes : far.handed ≡ session_owed.out (dialogue player) x s.ms C = sym (none_more far q.none) ∙ s.owes in
       let t = pull_law puller player window max_message granted x c.y s.ms c.ms [] C refl (record {
-        named = record { app = omega arith; name = omega arith };
+        named = record { address = omega arith; app = omega arith; name = omega arith };
         least = omega arith;
         most = omega arith;
         given = tt;

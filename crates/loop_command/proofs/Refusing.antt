@@ -326,7 +326,7 @@ module _ (who : ℕ) (k : Asked) (named : IsNamed k) (p : SoleState) (l : Line) 
         ⊎ Causes x c.reader.given (c.y ++ rest) l.near.counts m.counts) → ⊥
     by_cause end.PeerClosed q f w = not_link (subst (λ (z : ClientEnd). ByLink (Err z)) q tt)
     by_cause end.LinkFault q f w = not_link (subst (λ (z : ClientEnd). ByLink (Err z)) q tt)
-    by_cause (end.Refused code description) q f (inl w) = absurd (let g : end.Refused code ≡ end.Done = w.is_done in cc)
+    by_cause (end.Refused code description) q f (inl w) = absurd (let g : end.Refused code description ≡ end.Done = w.is_done in cc)
     by_cause (end.Refused code description) q f (inr w) = by_byte w.0.0 (end.Refused code description) w.0.1
     by_cause (end.BadVersion at) q f (inl w) = absurd (let g : end.BadVersion at ≡ end.Done = w.is_done in cc)
     by_cause (end.BadVersion at) q f (inr w) = by_byte w.0.0 (end.BadVersion at) w.0.1
