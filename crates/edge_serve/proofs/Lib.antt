@@ -3,3 +3,4 @@ pub mod Turned
 pub mod Leaving
 pub mod Pulled
 pub mod Ending
+pub mod Asking
