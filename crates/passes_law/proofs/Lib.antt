@@ -1,0 +1,5 @@
+pub mod Counting
+pub mod Passing
+pub mod Walking
+pub mod Turning
+pub mod Working
