@@ -22,7 +22,7 @@ use Rattle.relay_session.specs.declared.end.End.{End}
 use Rattle.relay_session.specs.declared.seat_answers.Made.{Made}
 use Rattle.relay_session.specs.declared.turn.Turn.{Turn}
 use Rattle.passes_law.proofs.Passing.{asked_keeps, none_keeps, placed_keeps, then_keeps}
-use Rattle.passes_law.proofs.Walking.{walk_kept}
+use Rattle.relay_worker.proofs.Moving.{moves_turned}
 
 -- ---- of a session
 
@@ -40,10 +40,8 @@ module _ {P Q : Type 0} (fits : P → ℕ → Q → Type 0) (rules : P → PortR
   module _ (desk : Ask → Grant) {L : Type 0} (hears : L → ℕ → Came → L → Type 0) (says : L → List ℕ → Said → L → Type 0) where
     pub keeps_ended : (o : Option End) (quit : Bool) (v : Life P (SeatState Q)) (l : L) (a : Turn) (w : Life P (SeatState Q)) (m : L) → EndedBy Asks desk hears says o quit v l a w m
         → Keeps v.port v.seat w.port w.seat
-    keeps_ended (Some e) quit v l a w m t = subst (λ (x : Life P (SeatState Q)). Keeps v.port v.seat x.port x.seat) (sym t.1) (none_keeps branches kin v.port v.seat.spot)
-    keeps_ended None quit v l a w m t =
-        walk_kept Asks Keeps (λ p s. none_keeps branches kin p s.spot) (λ p q r s t u x y. then_keeps branches kin p q r s.spot t.spot u.spot x y) keeps_asked desk hears says
-        v.parts.kept quit v l a w m t
+    keeps_ended = moves_turned Keeps (λ p s. none_keeps branches kin p s.spot)
+        (λ p s q t r u x y. then_keeps branches kin p q r s.spot t.spot u.spot x y) Asks keeps_asked desk hears says
 
 -- ---- of a recorder
 
