@@ -63,7 +63,8 @@ in_below f g key (suc n) l e = elim (cases_eq n key) [
   | inl i ↦
       let same : all_below g n ≡ all_below f n = below_same f g n (λ j m. e j (λ (d : j ≡ key). omega (arith, m, d, i))) in
       let last : InPlace (f n) (g n) (all_below f n ++ f n) (all_below g n ++ g n) =
-      subst (λ (b : List Branch). InPlace (f n) (g n) (all_below f n ++ f n) (b ++ g n)) (sym same) (in_front (f n) (g n) (f n) (g n) (all_below f n) (in_self (f n) (g n))) in
+      subst (λ (b : List Branch). InPlace (f n) (g n) (all_below f n ++ f n) (b ++ g n)) (sym same)
+          (in_front (f n) (g n) (f n) (g n) (all_below f n) (in_self (f n) (g n))) in
       subst (λ (m : ℕ). InPlace (f m) (g m) (all_below f n ++ f n) (all_below g n ++ g n)) i last
   | inr d ↦
       let rest : InPlace (f key) (g key) (all_below f n) (all_below g n) = in_below f g key n (omega (arith, l, d)) e in
@@ -73,7 +74,8 @@ in_below f g key (suc n) l e = elim (cases_eq n key) [
 
 -- ---- in a list
 
-pub in_listed : {X : Type 0} (f : X → List Branch) (xs : List X) (i : ℕ) (x y : X) → slice_get xs i ≡ Some x → InPlace (f x) (f y) (all_of f xs) (all_of f (slice_set xs i y))
+pub in_listed : {X : Type 0} (f : X → List Branch) (xs : List X) (i : ℕ) (x y : X) → slice_get xs i ≡ Some x
+    → InPlace (f x) (f y) (all_of f xs) (all_of f (slice_set xs i y))
 in_listed f [] i x y e = absurd (cc)
 in_listed f (z ∷ zs) zero x y e =
     let same : z ≡ x = cc in

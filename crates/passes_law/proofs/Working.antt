@@ -44,7 +44,8 @@ use Rattle.passes_law.proofs.Passing.{left_keeps, none_keeps}
 use Rattle.passes_law.proofs.Turning.{keeps_ended, recorder_keeps}
 
 -- what each step keeps, a walk keeps
-walked : {B : Type 0} (step : ℕ → B → B → Type 0) (R : B → B → Type 0) → ((b : B) → R b b) → ((a b c : B) → R a b → R b c → R a c) → ((key : ℕ) (b c : B) → step key b c → R b c)
+walked : {B : Type 0} (step : ℕ → B → B → Type 0) (R : B → B → Type 0) → ((b : B) → R b b) → ((a b c : B) → R a b → R b c → R a c)
+    → ((key : ℕ) (b c : B) → step key b c → R b c)
     → (n : ℕ) (b c : B) → Walks step n b c → R b c
 walked step R same next one zero b c w = subst (R b) (sym w) (same b)
 walked step R same next one (suc n) b c w = next b w.0 c (walked step R same next one n b w.0 w.1.0) (one n w.0 c w.1.1)
@@ -97,7 +98,8 @@ module _ {P K Q L : Type 0} (kin : P → Kin) (branches : Q → List Branch) whe
         let r : List Branch = of_recorders branches rs q in
         let here : Kindred (kin x q ++ f key) (kin y q ++ g key) =
         subst (λ (w : Option (Seated P L Q)). Kindred (kin x q ++ branches_by branches (spot_at w) q) (kin y q ++ g key)) (sym at)
-        (subst (λ (w : Option (Seated P L Q)). Kindred (kin x q ++ branches_by branches (spot_at o) q) (kin y q ++ branches_by branches (spot_at w) q)) (sym u.changed) (k.kindred q)) in
+        (subst (λ (w : Option (Seated P L Q)). Kindred (kin x q ++ branches_by branches (spot_at o) q)
+            (kin y q ++ branches_by branches (spot_at w) q)) (sym u.changed) (k.kindred q)) in
         swap_in (kin x q) (kin y q) (f key) (g key) (all_below f n ++ r) (all_below g n ++ r)
         (in_behind (f key) (g key) (all_below f n) (all_below g n) r
         (in_below f g key n (omega (arith, l)) (λ j d. ap (λ (w : Option (Seated P L Q)). branches_by branches (spot_at w) q) (u.others j d)))) here;
@@ -156,20 +158,26 @@ module _ {P K Q L : Type 0} (kin : P → Kin) (branches : Q → List Branch) whe
         -- ---- closes
 
         module _ (closes : P → SessionState Q → Leaving → P → SessionState Q → Type 0)
-            (kept : (x : P) (s : SessionState Q) (r : Leaving) (y : P) (t : SessionState Q) → closes x s r y t → KeepsPasses kin branches x s.seat.spot y t.seat.spot)
+            (kept : (x : P) (s : SessionState Q) (r : Leaving) (y : P) (t : SessionState Q) → closes x s r y t
+                → KeepsPasses kin branches x s.seat.spot y t.seat.spot)
             (leaves : (x : P) (s : SessionState Q) (r : Leaving) (y : P) (t : SessionState Q) → closes x s r y t → has_left r ≡ true → t.seat.spot ≡ None) where
-          on_goes : (d : Bool) (r : Leaving) (key : ℕ) (s : Seated P L Q) (now : SessionState Q) (b c : Bench P D Q L) → has_left r ≡ d → get b.sessions key ≡ Some s
+          on_goes : (d : Bool) (r : Leaving) (key : ℕ) (s : Seated P L Q) (now : SessionState Q) (b c : Bench P D Q L) → has_left r ≡ d
+              → get b.sessions key ≡ Some s
               → closes b.port s.session r c.port now → GoesIf told counts doors d key s now b c → On b c
           on_goes true r key s now b c is at k g =
               seated b.port c.port b.sessions c.sessions rs key (Some s) None at g.gone
-              (subst (λ (o : Option (ℕ × Q)). KeepsPasses kin branches b.port s.session.seat.spot c.port o) (leaves b.port s.session r c.port now k is) (kept b.port s.session r c.port now k))
-          on_goes false r key s now b c is at k g = seated b.port c.port b.sessions c.sessions rs key (Some s) (Some _) at g.there (kept b.port s.session r c.port now k)
+              (subst (λ (o : Option (ℕ × Q)). KeepsPasses kin branches b.port s.session.seat.spot c.port o)
+                  (leaves b.port s.session r c.port now k is) (kept b.port s.session r c.port now k))
+          on_goes false r key s now b c is at k g = seated b.port c.port b.sessions c.sessions rs key (Some s) (Some _) at g.there
+              (kept b.port s.session r c.port now k)
 
-          on_closes_by : (o : Option End) (key : ℕ) (s : Seated P L Q) (b c : Bench P D Q L) → get b.sessions key ≡ Some s → ClosesBy told counts doors closes o key s b c → On b c
+          on_closes_by : (o : Option End) (key : ℕ) (s : Seated P L Q) (b c : Bench P D Q L) → get b.sessions key ≡ Some s
+              → ClosesBy told counts doors closes o key s b c → On b c
           on_closes_by None key s b c at i = on_is b c i
           on_closes_by (Some e) key s b c at i = on_goes (has_left i.answer) i.answer key s i.now b c refl at i.close i.goes
 
-          on_closes_if : (o : Option (Seated P L Q)) (key : ℕ) (b c : Bench P D Q L) → get b.sessions key ≡ o → ClosesIf told counts doors closes o key b c → On b c
+          on_closes_if : (o : Option (Seated P L Q)) (key : ℕ) (b c : Bench P D Q L) → get b.sessions key ≡ o
+              → ClosesIf told counts doors closes o key b c → On b c
           on_closes_if None key b c at i = on_is b c i
           on_closes_if (Some s) key b c at i = on_closes_by s.session.ended key s b c at i
 
@@ -179,9 +187,12 @@ module _ {P K Q L : Type 0} (kin : P → Kin) (branches : Q → List Branch) whe
       -- ---- turns
 
       module _ (takes : P → Seated P L Q → Turn → P → Seated P L Q → Type 0) (busies : P → ℕ) (ready : L → Bool → Type 0)
-          (kept : (x : P) (s : Seated P L Q) (a : Turn) (y : P) (t : Seated P L Q) → takes x s a y t → KeepsPasses kin branches x s.session.seat.spot y t.session.seat.spot) where
-        on_turns_by : (o : Option End) (key : ℕ) (s : Seated P L Q) (b c : Bench P D Q L) → get b.sessions key ≡ Some s → TurnsBy takes busies ready o key s b c → On b c
-        on_turns_by None key s b c at (inl i) = seated b.port c.port b.sessions c.sessions rs key (Some s) (Some i.now) at i.there (kept b.port s i.answer c.port i.now i.turn)
+          (kept : (x : P) (s : Seated P L Q) (a : Turn) (y : P) (t : Seated P L Q) → takes x s a y t
+              → KeepsPasses kin branches x s.session.seat.spot y t.session.seat.spot) where
+        on_turns_by : (o : Option End) (key : ℕ) (s : Seated P L Q) (b c : Bench P D Q L) → get b.sessions key ≡ Some s
+            → TurnsBy takes busies ready o key s b c → On b c
+        on_turns_by None key s b c at (inl i) = seated b.port c.port b.sessions c.sessions rs key (Some s) (Some i.now) at i.there
+            (kept b.port s i.answer c.port i.now i.turn)
         on_turns_by None key s b c at (inr i) = on_is b c i.same
         on_turns_by (Some e) key s b c at i = on_is b c i
 
@@ -205,8 +216,10 @@ module _ {P K Q L : Type 0} (kin : P → Kin) (branches : Q → List Branch) whe
 
     module _ (files : P → Recorder P K Q → RecTurn → P → Recorder P K Q → Type 0)
         (kept : (x : P) (r : Recorder P K Q) (a : RecTurn) (y : P) (r' : Recorder P K Q) → files x r a y r'
-        → KeepsPasses kin branches x (spot_of (state_of r).seat.place (state_of r).seat.pass) y (spot_of (state_of r').seat.place (state_of r').seat.pass)) where
-      both_records_if : (o : Option (Recorder P K Q)) (i : ℕ) (x y : Bench P D Q L × List (Recorder P K Q)) → slice_get x.1 i ≡ o → RecordsIf files o i x y → Both x y
+        → KeepsPasses kin branches x (spot_of (state_of r).seat.place (state_of r).seat.pass) y
+            (spot_of (state_of r').seat.place (state_of r').seat.pass)) where
+      both_records_if : (o : Option (Recorder P K Q)) (i : ℕ) (x y : Bench P D Q L × List (Recorder P K Q)) → slice_get x.1 i ≡ o
+          → RecordsIf files o i x y → Both x y
       both_records_if None i x y at e = subst (Both x) (sym e) (both_refl x)
       both_records_if (Some r) i x y at e =
           let same : y.0.sessions ≡ x.0.sessions = ap (λ (b : Bench P D Q L). b.sessions) e.turn.same in
@@ -224,7 +237,8 @@ module _ {P K Q L : Type 0} (kin : P → Kin) (branches : Q → List Branch) whe
     Over = KeepsAll kin branches
 
     over_then : (u v w : WorkerState P D K Q L) → Over u v → Over v w → Over u w
-    over_then u v w a b = held_then u.bench.port v.bench.port w.bench.port u.bench.sessions v.bench.sessions w.bench.sessions u.recorders v.recorders w.recorders a b
+    over_then u v w a b = held_then u.bench.port v.bench.port w.bench.port u.bench.sessions v.bench.sessions w.bench.sessions u.recorders v.recorders
+        w.recorders a b
 
     over_refl : (w : WorkerState P D K Q L) → Over w w
     over_refl w = held_same w.bench.port w.bench.port w.bench.sessions w.bench.sessions w.recorders w.recorders refl refl refl
@@ -233,16 +247,22 @@ module _ {P K Q L : Type 0} (kin : P → Kin) (branches : Q → List Branch) whe
     pub over_gone : (w v : WorkerState P D K Q L) → slab_len w.bench.sessions ≡ 0 → slab_len v.bench.sessions ≡ 0 → Over w v → (q : ℕ)
         → Kindred (kin w.bench.port q ++ of_recorders branches w.recorders q) (kin v.bench.port q ++ of_recorders branches v.recorders q)
     over_gone w v e f k q =
-        subst (λ (l : List Branch). Kindred (kin w.bench.port q ++ (l ++ of_recorders branches w.recorders q)) (kin v.bench.port q ++ of_recorders branches v.recorders q)) (none w.bench.sessions k.last e)
-        (subst (λ (l : List Branch). Kindred (kin w.bench.port q ++ (of_sessions branches w.bench.sessions k.last q ++ of_recorders branches w.recorders q)) (kin v.bench.port q ++ (l ++ of_recorders branches v.recorders q)))
+        subst (λ (l : List Branch). Kindred (kin w.bench.port q ++ (l ++ of_recorders branches w.recorders q))
+            (kin v.bench.port q ++ of_recorders branches v.recorders q)) (none w.bench.sessions k.last e)
+        (subst (λ (l : List Branch). Kindred (kin w.bench.port q ++
+            (of_sessions branches w.bench.sessions k.last q ++ of_recorders branches w.recorders q))
+            (kin v.bench.port q ++ (l ++ of_recorders branches v.recorders q)))
         (none v.bench.sessions k.last f) (k.kindred k.last q (omega arith)))
       where
         none : (s : Slab (Seated P L Q)) (n : ℕ) → slab_len s ≡ 0 → of_sessions branches s n q ≡ []
-        none s n z = below_none (λ j. branches_by branches (spot_at (get s j)) q) n (λ j. ap (λ (o : Option (Seated P L Q)). branches_by branches (spot_at o) q) (none_at s.slots j z))
+        none s n z = below_none (λ j. branches_by branches (spot_at (get s j)) q) n
+            (λ j. ap (λ (o : Option (Seated P L Q)). branches_by branches (spot_at o) q) (none_at s.slots j z))
 
-    module _ (fits : P → ℕ → Q → Type 0) (rules : P → PortRules) (root : P → Histories) (seen : Q → List Step) (mine : Q → List ℕ) (count : Q → ℕ) (wants : Entry → Type 0) (busies : P → ℕ)
+    module _ (fits : P → ℕ → Q → Type 0) (rules : P → PortRules) (root : P → Histories) (seen : Q → List Step) (mine : Q → List ℕ) (count : Q → ℕ)
+        (wants : Entry → Type 0) (busies : P → ℕ)
         (adds : List Step → List Step → List Step → Type 0)
-        (told : L → Option LinkTold) (counts : L → LinkCounts) (hears : L → ℕ → Came → L → Type 0) (says : L → List ℕ → Said → L → Type 0) (ready : L → Bool → Type 0)
+        (told : L → Option LinkTold) (counts : L → LinkCounts) (hears : L → ℕ → Came → L → Type 0) (says : L → List ℕ → Said → L → Type 0)
+            (ready : L → Bool → Type 0)
         (doors : D → DoorTold) (takes : K → List ℕ → Put → K → Type 0) (holds : K → Option (List ℕ)) (desk : Ask → Grant) where
       abbrev Turns : P → Seated P L Q → Turn → P → Seated P L Q → Type 0
       Turns = TakesTurn (AskedAlone fits rules root seen count wants busies adds kin branches) (GoesOn fits rules root seen busies) desk hears says
@@ -253,10 +273,13 @@ module _ {P K Q L : Type 0} (kin : P → Kin) (branches : Q → List Branch) whe
       abbrev Files : P → Recorder P K Q → RecTurn → P → Recorder P K Q → Type 0
       Files = FileTurn fits rules root busies seen mine count adds kin branches takes holds
 
-      turns_keep : (x : P) (s : Seated P L Q) (a : Turn) (y : P) (t : Seated P L Q) → Turns x s a y t → KeepsPasses kin branches x s.session.seat.spot y t.session.seat.spot
-      turns_keep x s a y t k = keeps_ended fits rules root seen count wants busies adds kin branches desk hears says s.session.ended s.session.quit _ s.link a _ t.link k.turn
+      turns_keep : (x : P) (s : Seated P L Q) (a : Turn) (y : P) (t : Seated P L Q) → Turns x s a y t
+          → KeepsPasses kin branches x s.session.seat.spot y t.session.seat.spot
+      turns_keep x s a y t k = keeps_ended fits rules root seen count wants busies adds kin branches desk hears says s.session.ended s.session.quit _
+          s.link a _ t.link k.turn
 
-      ends_keep : (x : P) (s : SessionState Q) (r : Leaving) (y : P) (t : SessionState Q) → Ends x s r y t → KeepsPasses kin branches x s.seat.spot y t.seat.spot
+      ends_keep : (x : P) (s : SessionState Q) (r : Leaving) (y : P) (t : SessionState Q) → Ends x s r y t
+          → KeepsPasses kin branches x s.seat.spot y t.seat.spot
       ends_keep x s r y t k = left_keeps branches kin x y s.seat.spot t.seat.spot s.seat.visits t.seat.visits r k.spot k.splits
 
       ends_leave : (x : P) (s : SessionState Q) (r : Leaving) (y : P) (t : SessionState Q) → Ends x s r y t → has_left r ≡ true → t.seat.spot ≡ None
@@ -266,19 +289,27 @@ module _ {P K Q L : Type 0} (kin : P → Kin) (branches : Q → List Branch) whe
           → KeepsPasses kin branches x (spot_of (state_of r).seat.place (state_of r).seat.pass) y (spot_of (state_of r').seat.place (state_of r').seat.pass)
       files_keep x r a y r' k = recorder_keeps rules adds root seen kin branches x y (state_of r).seat (state_of r').seat k.place k.alone
 
-      over_round : (w v : WorkerState P D K Q L) → RoundOn fits rules root seen mine count wants busies adds kin branches told counts hears says ready doors takes holds desk w v → Over w v
+      over_round : (w v : WorkerState P D K Q L) → RoundOn fits rules root seen mine count wants busies adds kin branches told counts hears says ready
+          doors takes holds desk w v → Over w v
       over_round w v r =
           let a = r.1 in
           let rs = w.recorders in
           let admitted : On rs w.bench a.admitted = on_admits_if rs told counts doors w.terms (asks_door w.terms w.bench) (begun w.bench) a.admitted a.admits in
           let turned : On rs a.admitted a.turned =
-          walked (TurnsAt Turns busies ready) (On rs) (on_refl rs) (on_then rs) (on_turns rs Turns busies ready turns_keep) a.turns.last a.admitted a.turned a.turns.walk in
+          walked (TurnsAt Turns busies ready) (On rs) (on_refl rs) (on_then rs) (on_turns rs Turns busies ready turns_keep) a.turns.last a.admitted
+              a.turned a.turns.walk in
           let closed : On rs a.turned a.closed =
-          walked (ClosesAt told counts doors Ends) (On rs) (on_refl rs) (on_then rs) (on_closes rs told counts doors Ends ends_keep ends_leave) a.closings.last a.turned a.closed a.closings.walk in
-          let filed : Both (a.closed, rs) (v.bench, v.recorders) = walked (RecordsAt Files) Both both_refl both_then (both_records Files files_keep) (length rs) (a.closed, rs) (v.bench, v.recorders) a.records in
-          both_then (w.bench, rs) (a.closed, rs) (v.bench, v.recorders) (on_then rs w.bench a.turned a.closed (on_then rs w.bench a.admitted a.turned admitted turned) closed) filed
+          walked (ClosesAt told counts doors Ends) (On rs) (on_refl rs) (on_then rs) (on_closes rs told counts doors Ends ends_keep ends_leave)
+              a.closings.last a.turned a.closed a.closings.walk in
+          let filed : Both (a.closed, rs) (v.bench, v.recorders) =
+              walked (RecordsAt Files) Both both_refl both_then (both_records Files files_keep) (length rs) (a.closed, rs) (v.bench, v.recorders)
+              a.records in
+          both_then (w.bench, rs) (a.closed, rs) (v.bench, v.recorders)
+              (on_then rs w.bench a.turned a.closed (on_then rs w.bench a.admitted a.turned admitted turned) closed) filed
 
       -- ITS ROUNDS
-      pub over_rounds : (w v : WorkerState P D K Q L) → ByRounds fits rules root seen mine count wants busies adds kin branches told counts hears says ready doors takes holds desk w v → Over w v
+      pub over_rounds : (w v : WorkerState P D K Q L)
+          → ByRounds fits rules root seen mine count wants busies adds kin branches told counts hears says ready doors takes holds desk w v → Over w v
       over_rounds w v b =
-          walked (λ n. RoundOn fits rules root seen mine count wants busies adds kin branches told counts hears says ready doors takes holds desk) Over over_refl over_then (λ n. over_round) b.times w v b.rounds
+          walked (λ n. RoundOn fits rules root seen mine count wants busies adds kin branches told counts hears says ready doors takes holds desk)
+              Over over_refl over_then (λ n. over_round) b.times w v b.rounds

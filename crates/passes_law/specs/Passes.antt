@@ -21,5 +21,6 @@ spot_of place (Some p) = Some (place, p)
 -- NO PASS IS LOST AND NONE CAME FROM ELSEWHERE. At each place the root's passes and those of one who calls are
 -- those from before, after splits and joins among them. So all that was split off from a root is its caller's,
 -- or it was taken in again
-pub record KeepsPasses {P Q : Type 0} (kin : P → Kin) (branches : Q → List Branch) (port : P) (spot : Option (ℕ × Q)) (port' : P) (spot' : Option (ℕ × Q)) : Type 0 where
+pub record KeepsPasses {P Q : Type 0} (kin : P → Kin) (branches : Q → List Branch) (port : P) (spot : Option (ℕ × Q)) (port' : P)
+    (spot' : Option (ℕ × Q)) : Type 0 where
   pub kindred : (q : ℕ) → Kindred (kin port q ++ branches_by branches spot q) (kin port' q ++ branches_by branches spot' q)
