@@ -64,7 +64,7 @@ in_below f g key (suc n) l e = elim (cases_eq n key) [
       let same : all_below g n ≡ all_below f n = below_same f g n (λ j m. e j (λ (d : j ≡ key). omega (arith, m, d, i))) in
       let last : InPlace (f n) (g n) (all_below f n ++ f n) (all_below g n ++ g n) =
       subst (λ (b : List Branch). InPlace (f n) (g n) (all_below f n ++ f n) (b ++ g n)) (sym same)
-          (in_front (f n) (g n) (f n) (g n) (all_below f n) (in_self (f n) (g n))) in
+      (in_front (f n) (g n) (f n) (g n) (all_below f n) (in_self (f n) (g n))) in
       subst (λ (m : ℕ). InPlace (f m) (g m) (all_below f n ++ f n) (all_below g n ++ g n)) i last
   | inr d ↦
       let rest : InPlace (f key) (g key) (all_below f n) (all_below g n) = in_below f g key n (omega (arith, l, d)) e in

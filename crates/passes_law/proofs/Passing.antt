@@ -55,7 +55,7 @@ called_all : (rs : List Made) (kin kin' : Kin) (pass pass' : List Branch) (place
     → Kindred (kin q ++ only_at place pass q) (kin' q ++ only_at place pass' q)
 called_all [] kin kin' pass pass' place s q =
     kindred_same (kin q ++ only_at place pass q) (kin' q ++ only_at place pass' q)
-        (ap (λ (k : Kin). k q ++ only_at place pass' q) s.0 ∙ ap (λ (l : List Branch). kin q ++ only_at place l q) s.1)
+    (ap (λ (k : Kin). k q ++ only_at place pass' q) s.0 ∙ ap (λ (l : List Branch). kin q ++ only_at place l q) s.1)
 called_all (r ∷ rs) kin kin' pass pass' place s q =
     kindred_then (kin q ++ only_at place pass q) (s.0 q ++ only_at place s.1.0 q) (kin' q ++ only_at place pass' q)
     (called_at kin s.0 pass s.1.0 place (answer_of r) s.1.1.0 q) (called_all rs s.0 kin' s.1.0 pass' place s.1.1.1 q)
@@ -96,7 +96,7 @@ module _ {Q : Type 0} (branches : Q → List Branch) where
   given kin kin' (Some p) g q =
       let k : Kindred (kin p.0 ++ branches p.1) (kin' p.0 ++ []) = kindred_same (kin p.0 ++ branches p.1) (kin' p.0 ++ []) (append-nil (kin' p.0) ∙ g.here) in
       subst (λ (l : List Branch). Kindred (kin q ++ only_at p.0 (branches p.1) q) (kin' q ++ l)) (only_none p.0 q)
-          (one_place p.0 kin kin' (branches p.1) [] k g.others q)
+      (one_place p.0 kin kin' (branches p.1) [] k g.others q)
 
   -- it has come to a place
   come : (kin kin' : Kin) (spot : Option (ℕ × Q)) (place : ℕ) (pass : List Branch) → Comes branches kin spot place pass kin' → (q : ℕ)
@@ -104,15 +104,15 @@ module _ {Q : Type 0} (branches : Q → List Branch) where
   come kin kin' spot place pass (inl c) q =
       kindred_same (kin q ++ branches_by branches spot q) (kin' q ++ only_at place pass q)
       (ap (λ (k : Kin). k q ++ only_at place pass q) c.1.1
-          ∙ ap (λ (l : List Branch). kin q ++ l) (ap (λ (l : List Branch). only_at place l q) c.1.0 ∙ sym (by_place spot place c.0 q)))
+      ∙ ap (λ (l : List Branch). kin q ++ l) (ap (λ (l : List Branch). only_at place l q) c.1.0 ∙ sym (by_place spot place c.0 q)))
   come kin kin' spot place pass (inr a) q =
       let mid = a.between in
       let here : Kindred (mid place ++ []) (kin' place ++ pass) =
-          subst (λ (l : List Branch). Kindred l (kin' place ++ pass)) (sym (append-nil (mid place)))
-          (attached_kindred mid kin' place pass a.split a.pass_is) in
+      subst (λ (l : List Branch). Kindred l (kin' place ++ pass)) (sym (append-nil (mid place)))
+      (attached_kindred mid kin' place pass a.split a.pass_is) in
       let all : Kindred (mid q ++ []) (kin' q ++ only_at place pass q) =
       subst (λ (l : List Branch). Kindred (mid q ++ l) (kin' q ++ only_at place pass q)) (only_none place q)
-          (one_place place mid kin' [] pass here a.split.others q) in
+      (one_place place mid kin' [] pass here a.split.others q) in
       kindred_then (kin q ++ branches_by branches spot q) (mid q ++ []) (kin' q ++ only_at place pass q) (given kin mid spot a.gives q) all
 
   -- it stays with its pass, or has given it back
@@ -127,7 +127,7 @@ module _ {Q : Type 0} (branches : Q → List Branch) where
   rested (Some n) kin kin' place pass spot' r at (inr e) q =
       kindred_same (kin q ++ only_at place pass q) (kin' q ++ branches_by branches spot' q)
       (ap (λ (k : Kin). k q ++ branches_by branches spot' q) r.0
-          ∙ ap (λ (l : List Branch). kin q ++ l) (by_place spot' place (at ∙ e) q ∙ ap (λ (l : List Branch). only_at place l q) r.1))
+      ∙ ap (λ (l : List Branch). kin q ++ l) (by_place spot' place (at ∙ e) q ∙ ap (λ (l : List Branch). only_at place l q) r.1))
 
   module _ {P : Type 0} (kin : P → Kin) where
     -- ONE CALL of a seat

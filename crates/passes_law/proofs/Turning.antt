@@ -65,13 +65,13 @@ module _ {P Q : Type 0} (rules : P → PortRules) (adds : List Step → List Ste
       → KeepsPasses kin branches x (spot_of s.place s.pass) y (spot_of s.place t.pass)
   stays_put x y s t (inl e) = subst (λ (p : P). KeepsPasses kin branches x (spot_of s.place s.pass) p (spot_of s.place t.pass)) (sym e.0)
       (subst (λ (u : RecorderSeat Q). KeepsPasses kin branches x (spot_of s.place s.pass) x (spot_of s.place u.pass)) (sym e.1)
-          (none_keeps branches kin x (spot_of s.place s.pass)))
+      (none_keeps branches kin x (spot_of s.place s.pass)))
   stays_put x y s t (inr w) =
       let a = w.1.1 in
       placed_keeps branches kin x y s.place s.pass t.pass
       (kindred_then (kin x s.place ++ branches_of branches s.pass) (a.between s.place ++ a.pass) (kin y s.place ++ branches_of branches t.pass)
       (entered branches (kin x) a.between s.place s.pass a.pass a.enters)
-          (called_kindred (a.between s.place) a.pass (kin y s.place) (branches_of branches t.pass) w.1.0 a.splits.here))
+      (called_kindred (a.between s.place) a.pass (kin y s.place) (branches_of branches t.pass) w.1.0 a.splits.here))
       (λ q d. a.splits.others q d ∙ elsewhere branches (kin x) a.between s.place s.pass a.pass a.enters q d)
 
   -- ONE CALL AT MOST

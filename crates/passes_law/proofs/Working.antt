@@ -99,7 +99,7 @@ module _ {P K Q L : Type 0} (kin : P → Kin) (branches : Q → List Branch) whe
         let here : Kindred (kin x q ++ f key) (kin y q ++ g key) =
         subst (λ (w : Option (Seated P L Q)). Kindred (kin x q ++ branches_by branches (spot_at w) q) (kin y q ++ g key)) (sym at)
         (subst (λ (w : Option (Seated P L Q)). Kindred (kin x q ++ branches_by branches (spot_at o) q)
-            (kin y q ++ branches_by branches (spot_at w) q)) (sym u.changed) (k.kindred q)) in
+        (kin y q ++ branches_by branches (spot_at w) q)) (sym u.changed) (k.kindred q)) in
         swap_in (kin x q) (kin y q) (f key) (g key) (all_below f n ++ r) (all_below g n ++ r)
         (in_behind (f key) (g key) (all_below f n) (all_below g n) r
         (in_below f g key n (omega (arith, l)) (λ j d. ap (λ (w : Option (Seated P L Q)). branches_by branches (spot_at w) q) (u.others j d)))) here;
@@ -159,7 +159,7 @@ module _ {P K Q L : Type 0} (kin : P → Kin) (branches : Q → List Branch) whe
 
         module _ (closes : P → SessionState Q → Leaving → P → SessionState Q → Type 0)
             (kept : (x : P) (s : SessionState Q) (r : Leaving) (y : P) (t : SessionState Q) → closes x s r y t
-                → KeepsPasses kin branches x s.seat.spot y t.seat.spot)
+            → KeepsPasses kin branches x s.seat.spot y t.seat.spot)
             (leaves : (x : P) (s : SessionState Q) (r : Leaving) (y : P) (t : SessionState Q) → closes x s r y t → has_left r ≡ true → t.seat.spot ≡ None) where
           on_goes : (d : Bool) (r : Leaving) (key : ℕ) (s : Seated P L Q) (now : SessionState Q) (b c : Bench P D Q L) → has_left r ≡ d
               → get b.sessions key ≡ Some s
@@ -167,7 +167,7 @@ module _ {P K Q L : Type 0} (kin : P → Kin) (branches : Q → List Branch) whe
           on_goes true r key s now b c is at k g =
               seated b.port c.port b.sessions c.sessions rs key (Some s) None at g.gone
               (subst (λ (o : Option (ℕ × Q)). KeepsPasses kin branches b.port s.session.seat.spot c.port o)
-                  (leaves b.port s.session r c.port now k is) (kept b.port s.session r c.port now k))
+              (leaves b.port s.session r c.port now k is) (kept b.port s.session r c.port now k))
           on_goes false r key s now b c is at k g = seated b.port c.port b.sessions c.sessions rs key (Some s) (Some _) at g.there
               (kept b.port s.session r c.port now k)
 
@@ -188,7 +188,7 @@ module _ {P K Q L : Type 0} (kin : P → Kin) (branches : Q → List Branch) whe
 
       module _ (takes : P → Seated P L Q → Turn → P → Seated P L Q → Type 0) (busies : P → ℕ) (ready : L → Bool → Type 0)
           (kept : (x : P) (s : Seated P L Q) (a : Turn) (y : P) (t : Seated P L Q) → takes x s a y t
-              → KeepsPasses kin branches x s.session.seat.spot y t.session.seat.spot) where
+          → KeepsPasses kin branches x s.session.seat.spot y t.session.seat.spot) where
         on_turns_by : (o : Option End) (key : ℕ) (s : Seated P L Q) (b c : Bench P D Q L) → get b.sessions key ≡ Some s
             → TurnsBy takes busies ready o key s b c → On b c
         on_turns_by None key s b c at (inl i) = seated b.port c.port b.sessions c.sessions rs key (Some s) (Some i.now) at i.there
@@ -217,7 +217,7 @@ module _ {P K Q L : Type 0} (kin : P → Kin) (branches : Q → List Branch) whe
     module _ (files : P → Recorder P K Q → RecTurn → P → Recorder P K Q → Type 0)
         (kept : (x : P) (r : Recorder P K Q) (a : RecTurn) (y : P) (r' : Recorder P K Q) → files x r a y r'
         → KeepsPasses kin branches x (spot_of (state_of r).seat.place (state_of r).seat.pass) y
-            (spot_of (state_of r').seat.place (state_of r').seat.pass)) where
+        (spot_of (state_of r').seat.place (state_of r').seat.pass)) where
       both_records_if : (o : Option (Recorder P K Q)) (i : ℕ) (x y : Bench P D Q L × List (Recorder P K Q)) → slice_get x.1 i ≡ o
           → RecordsIf files o i x y → Both x y
       both_records_if None i x y at e = subst (Both x) (sym e) (both_refl x)
@@ -248,10 +248,10 @@ module _ {P K Q L : Type 0} (kin : P → Kin) (branches : Q → List Branch) whe
         → Kindred (kin w.bench.port q ++ of_recorders branches w.recorders q) (kin v.bench.port q ++ of_recorders branches v.recorders q)
     over_gone w v e f k q =
         subst (λ (l : List Branch). Kindred (kin w.bench.port q ++ (l ++ of_recorders branches w.recorders q))
-            (kin v.bench.port q ++ of_recorders branches v.recorders q)) (none w.bench.sessions k.last e)
+        (kin v.bench.port q ++ of_recorders branches v.recorders q)) (none w.bench.sessions k.last e)
         (subst (λ (l : List Branch). Kindred (kin w.bench.port q ++
-            (of_sessions branches w.bench.sessions k.last q ++ of_recorders branches w.recorders q))
-            (kin v.bench.port q ++ (l ++ of_recorders branches v.recorders q)))
+        (of_sessions branches w.bench.sessions k.last q ++ of_recorders branches w.recorders q))
+        (kin v.bench.port q ++ (l ++ of_recorders branches v.recorders q)))
         (none v.bench.sessions k.last f) (k.kindred k.last q (omega arith)))
       where
         none : (s : Slab (Seated P L Q)) (n : ℕ) → slab_len s ≡ 0 → of_sessions branches s n q ≡ []
@@ -262,7 +262,7 @@ module _ {P K Q L : Type 0} (kin : P → Kin) (branches : Q → List Branch) whe
         (wants : Entry → Type 0) (busies : P → ℕ)
         (adds : List Step → List Step → List Step → Type 0)
         (told : L → Option LinkTold) (counts : L → LinkCounts) (hears : L → ℕ → Came → L → Type 0) (says : L → List ℕ → Said → L → Type 0)
-            (ready : L → Bool → Type 0)
+        (ready : L → Bool → Type 0)
         (doors : D → DoorTold) (takes : K → List ℕ → Put → K → Type 0) (holds : K → Option (List ℕ)) (desk : Ask → Grant) where
       abbrev Turns : P → Seated P L Q → Turn → P → Seated P L Q → Type 0
       Turns = TakesTurn (AskedAlone fits rules root seen count wants busies adds kin branches) (GoesOn fits rules root seen busies) desk hears says
@@ -297,19 +297,19 @@ module _ {P K Q L : Type 0} (kin : P → Kin) (branches : Q → List Branch) whe
           let admitted : On rs w.bench a.admitted = on_admits_if rs told counts doors w.terms (asks_door w.terms w.bench) (begun w.bench) a.admitted a.admits in
           let turned : On rs a.admitted a.turned =
           walked (TurnsAt Turns busies ready) (On rs) (on_refl rs) (on_then rs) (on_turns rs Turns busies ready turns_keep) a.turns.last a.admitted
-              a.turned a.turns.walk in
+          a.turned a.turns.walk in
           let closed : On rs a.turned a.closed =
           walked (ClosesAt told counts doors Ends) (On rs) (on_refl rs) (on_then rs) (on_closes rs told counts doors Ends ends_keep ends_leave)
-              a.closings.last a.turned a.closed a.closings.walk in
+          a.closings.last a.turned a.closed a.closings.walk in
           let filed : Both (a.closed, rs) (v.bench, v.recorders) =
-              walked (RecordsAt Files) Both both_refl both_then (both_records Files files_keep) (length rs) (a.closed, rs) (v.bench, v.recorders)
-              a.records in
+          walked (RecordsAt Files) Both both_refl both_then (both_records Files files_keep) (length rs) (a.closed, rs) (v.bench, v.recorders)
+          a.records in
           both_then (w.bench, rs) (a.closed, rs) (v.bench, v.recorders)
-              (on_then rs w.bench a.turned a.closed (on_then rs w.bench a.admitted a.turned admitted turned) closed) filed
+          (on_then rs w.bench a.turned a.closed (on_then rs w.bench a.admitted a.turned admitted turned) closed) filed
 
       -- ITS ROUNDS
       pub over_rounds : (w v : WorkerState P D K Q L)
           → ByRounds fits rules root seen mine count wants busies adds kin branches told counts hears says ready doors takes holds desk w v → Over w v
       over_rounds w v b =
           walked (λ n. RoundOn fits rules root seen mine count wants busies adds kin branches told counts hears says ready doors takes holds desk)
-              Over over_refl over_then (λ n. over_round) b.times w v b.rounds
+          Over over_refl over_then (λ n. over_round) b.times w v b.rounds

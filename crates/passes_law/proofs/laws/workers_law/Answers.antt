@@ -6,7 +6,7 @@ returns-clause-rounds g c = λ desk w v b.
     let P = g.P.StreamPort in
     let L = g.D.Link.Link in
     over_rounds P.kin P.branches P.fits P.rules P.root P.seen P.mine P.count P.wants P.busies P.adds L.told L.counts L.hears L.says L.ready
-        g.D.Door.told g.K.Sink.takes g.K.Sink.holds desk w v b
+    g.D.Door.told g.K.Sink.takes g.K.Sink.holds desk w v b
 
 pub returns-clause-gone : goal.returns-clause-gone
 returns-clause-gone g c = λ w v e f k q. let P = g.P.StreamPort in over_gone P.kin P.branches w v e f k q
