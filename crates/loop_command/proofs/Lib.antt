@@ -13,6 +13,7 @@ pub mod Beginning
 pub mod Running
 pub mod Refusing
 pub mod Rounding
+pub mod Parts
 pub mod Settling
 pub mod Finishing
 pub mod Outcomes

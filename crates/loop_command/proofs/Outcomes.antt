@@ -1,17 +1,19 @@
 -- How the command ends, by what its steps came to
-use Rattle.std.proofs.Common.{◌≡◌, ◌∙◌, ℕ, ◌≤◌, List, length, Option, Result, Ok, Err, refl, sym, ap, subst, arith}
+use Rattle.std.proofs.Common.{◌≡◌, ◌⊎◌, ◌∙◌, ℕ, ◌≤◌, List, length, Option, Result, Ok, Err, inl, inr, refl, sym, ap, subst, arith}
 use Rattle.std.specs.Prelude.{IfErr, OnOk}
 use Rattle.file_commands.specs.Outcome.{seen}
 use Rattle.flv_tags.specs.declared.tag.Tag.{Tag}
-use Rattle.loop_command.specs.Course.{CameNot, IsFirst, rounds_of, text_of}
+use Rattle.loop_command.specs.Course.{CameBack, CameNot, CamePart, IsFirst, rounds_of, text_of}
 use Rattle.loop_command.specs.Films.{WasWhole, most_bytes}
 use Rattle.loop_command.specs.Looped.{IsLooped}
-use Rattle.loop_command.specs.Outcome.{Ends, HasCome}
-use Rattle.loop_command.specs.Rounds.{EndsWith, Goes, HasSettled, IsRun, IsUnsettled, ReadStops, ReadsWhole, RunsBy, SinkCause, how_of}
+use Rattle.loop_command.specs.Outcome.{Ends, HasCome, HasPart}
+use Rattle.loop_command.specs.Rounds.{EndsWith, Goes, HasSettled, IsRun, IsUnsettled, PartBy, ReadStops, ReadsWhole, RunsBy, RunsPart}
+use Rattle.loop_command.specs.Rounds.{SinkCause, how_of}
 use Rattle.loop_command.specs.declared.film.Reading.{Reading}
 use Rattle.loop_command.specs.declared.rounds.Run.{Run}
 use Rattle.loop_command.specs.declared.stop.Stop.{Stop}
 use Rattle.loop_command.specs.declared.stop.Stop.TheVariants.{Refused, Source, Sink, Memory, Unfinished}
+use Rattle.loop_command.proofs.Parts.{all_written}
 use Rattle.loop_command.proofs.Running.{run_text}
 
 whole : (r : Reading) (left left' held held' : Option (List ℕ)) (n n' f f' : ℕ) → ReadsWhole r left left' n n'
@@ -27,14 +29,39 @@ film_ends (Refused at) left left' held n n' f h = (
 )
 film_ends Source left left' held n n' f h = (h, record { held = refl; faults = refl })
 film_ends Sink left left' held n n' f h = absurd h
-film_ends Memory left left' held n n' f h = (h, refl)
+film_ends Memory left left' held n n' f h = (h, refl, inl refl)
 film_ends Unfinished left left' held n n' f h = absurd h
 
 -- memory is refused
 pub memory_ends : (stop : Stop) (r : Reading) (left left' held held' : Option (List ℕ)) (n n' f f' : ℕ) → stop ≡ Memory → ReadsWhole r left left' n n'
-    → f' ≡ f → Ends (how_of (Err stop)) (seen left held n f) (seen left' held' n' f')
-memory_ends stop r left left' held held' n n' f f' e h s = subst (λ (x : Stop). Ends (how_of (Err x)) (seen left held n f) (seen left' held' n' f'))
-    (sym e) (h.faults, s)
+    → f' ≡ f
+    → (held' ≡ held)
+    ⊎ (HasPart CamePart (seen left held n f) (seen left' held' n' f') ⊎ HasPart CameBack (seen left held n f) (seen left' held' n' f'))
+    → Ends (how_of (Err stop)) (seen left held n f) (seen left' held' n' f')
+memory_ends stop r left left' held held' n n' f f' e h s d = subst (λ (x : Stop). Ends (how_of (Err x)) (seen left held n f) (seen left' held' n' f'))
+    (sym e) (h.faults, s, d)
+
+-- a first part of what had come is written
+part_of : (r : Reading) (left left' held held' : Option (List ℕ)) (n n' f f' : ℕ) (first : Run) → ReadsWhole r left left' n n' → IsFirst r.tags.items first
+    → RunsPart first (rounds_of r.bytes) held held' → HasPart CamePart (seen left held n f) (seen left' held' n' f')
+unfolding whole
+part_of r left left' held held' n n' f f' first h fresh p = record {
+  tags = r.tags.items;
+  film = whole r left left' held held' n n' f f' h;
+  text = text_of p.last;
+  came = record {
+    first = first;
+    fresh = fresh;
+    states = p.states;
+    before = p.before;
+    course = p.course;
+    within = omega (arith, p.within, h.count);
+    last = p.last;
+    begun = p.begun;
+    text_is = refl;
+  };
+  part = p.part;
+}
 
 not_back : (r : Reading) (left left' held now : Option (List ℕ)) (n n' : ℕ) (first last : Run) (h : ReadsWhole r left left' n n')
     → IsFirst r.tags.items first → IsUnsettled first last (rounds_of r.bytes) held now → CameNot r.tags.items (length h.read) (text_of last)
@@ -50,14 +77,16 @@ not_back r left left' held now n n' first last h fresh e = record {
 
 -- the run doesn't come to its end
 pub run_ends : (stop : Stop) (r : Reading) (left left' held held' : Option (List ℕ)) (n n' f f' : ℕ) (first last : Run) → ReadsWhole r left left' n n'
-    → IsFirst r.tags.items first → RunsBy (Err stop) r.tags.items first last (rounds_of r.bytes) held held' → SinkCause stop f f'
+    → IsFirst r.tags.items first → RunsBy (Err stop) r.tags.items first last (rounds_of r.bytes) held held'
+    → PartBy stop first (rounds_of r.bytes) held held' → SinkCause stop f f'
     → Ends (how_of (Err stop)) (seen left held n f) (seen left' held' n' f')
 unfolding whole
-run_ends (Refused at) r left left' held held' n n' f f' first last h fresh e s = absurd s
-run_ends Source r left left' held held' n n' f f' first last h fresh e s = absurd s
-run_ends Sink r left left' held held' n n' f f' first last h fresh e s = ((r.tags.items, whole r left left' held held' n n' f f' h), s)
-run_ends Memory r left left' held held' n n' f f' first last h fresh e s = (h.faults, s)
-run_ends Unfinished r left left' held held' n n' f f' first last h fresh e s = record {
+run_ends (Refused at) r left left' held held' n n' f f' first last h fresh e p s = absurd s
+run_ends Source r left left' held held' n n' f f' first last h fresh e p s = absurd s
+run_ends Sink r left left' held held' n n' f f' first last h fresh e p s = (part_of r left left' held held' n n' f f' first h fresh p, s)
+run_ends Memory r left left' held held' n n' f f' first last h fresh e p s =
+    (h.faults, s, inr (inl (part_of r left left' held held' n n' f f' first h fresh p)))
+run_ends Unfinished r left left' held held' n n' f f' first last h fresh e p s = record {
   tags = r.tags.items;
   film = whole r left left' held held' n n' f f' h;
   text = text_of last;
@@ -67,48 +96,69 @@ run_ends Unfinished r left left' held held' n n' f f' first last h fresh e s = r
 }
 
 -- the film came back
+came_back : (r : Reading) (left left' held held' : Option (List ℕ)) (n n' : ℕ) (first last : Run) (h : ReadsWhole r left left' n n')
+    → IsFirst r.tags.items first → Goes r.tags.items last held held' (HasSettled first last (rounds_of r.bytes))
+    → CameBack r.tags.items (length h.read) (text_of last)
+came_back r left left' held held' n n' first last h fresh g =
+    let m = g.made in
+    record {
+      first = first;
+      fresh = fresh;
+      states = m.states;
+      before = m.before;
+      course = m.course;
+      within = omega (arith, m.within, h.count);
+      last = last;
+      round = m.round;
+      settled = m.settled;
+      text_is = refl;
+    }
+
 back_ends : (r : Reading) (left left' held held' : Option (List ℕ)) (n n' f f' : ℕ) (first last : Run) → ReadsWhole r left left' n n'
     → IsFirst r.tags.items first → Goes r.tags.items last held held' (HasSettled first last (rounds_of r.bytes)) → f' ≡ f
     → IsLooped r.tags.items (text_of last) → HasCome (seen left held n f) (seen left' held' n' f')
 unfolding whole
-back_ends r left left' held held' n n' f f' first last h fresh g s looped =
-    let m = g.made in
-    record {
-      tags = r.tags.items;
-      film = whole r left left' held held' n n' f f' h;
-      text = text_of last;
-      back = record {
-        first = first;
-        fresh = fresh;
-        states = m.states;
-        before = m.before;
-        course = m.course;
-        within = omega (arith, m.within, h.count);
-        last = last;
-        round = m.round;
-        settled = m.settled;
-        text_is = refl;
-      };
-      looped = looped;
-      held = run_text r.tags.items last held held' g.is_run;
-      faults = s;
-    }
+back_ends r left left' held held' n n' f f' first last h fresh g s looped = record {
+  tags = r.tags.items;
+  film = whole r left left' held held' n n' f f' h;
+  text = text_of last;
+  back = came_back r left left' held held' n n' first last h fresh g;
+  looped = looped;
+  held = run_text r.tags.items last held held' g.is_run;
+  faults = s;
+}
+
+-- all of it is written
+back_part : (r : Reading) (left left' held held' : Option (List ℕ)) (n n' f f' : ℕ) (first last : Run) → ReadsWhole r left left' n n'
+    → IsFirst r.tags.items first → Goes r.tags.items last held held' (HasSettled first last (rounds_of r.bytes))
+    → HasPart CameBack (seen left held n f) (seen left' held' n' f')
+unfolding whole
+back_part r left left' held held' n n' f f' first last h fresh g = record {
+  tags = r.tags.items;
+  film = whole r left left' held held' n n' f f' h;
+  text = text_of last;
+  came = came_back r left left' held held' n n' first last h fresh g;
+  part = all_written (text_of last) held held' (run_text r.tags.items last held held' g.is_run);
+}
 
 pub finish_ends : (v : Result (Unit {0}) Stop) (r : Reading) (left left' held held' : Option (List ℕ)) (n n' f f' : ℕ) (first last : Run)
     → ReadsWhole r left left' n n' → IsFirst r.tags.items first
     → Goes r.tags.items last held held' (HasSettled first last (rounds_of r.bytes)) → f' ≡ f → OnOk v (IsLooped r.tags.items (text_of last))
     → IfErr v (λ stop. stop ≡ Memory) → Ends (how_of v) (seen left held n f) (seen left' held' n' f')
 finish_ends (Ok x) r left left' held held' n n' f f' first last h fresh g s looped e = back_ends r left left' held held' n n' f f' first last h fresh g s looped
-finish_ends (Err stop) r left left' held held' n n' f f' first last h fresh g s looped e = memory_ends stop r left left' held held' n n' f f' e h s
+finish_ends (Err stop) r left left' held held' n n' f f' first last h fresh g s looped e =
+    memory_ends stop r left left' held held' n n' f f' e h s (inr (inr (back_part r left left' held held' n n' f f' first last h fresh g)))
 
 -- ---- a run, by what its rounds came to
 
 pub whole_stops : (stop : Stop) (first last : Run) (rounds : ℕ) (held before now : Option (List ℕ)) (f f' : ℕ)
-    → ((file : List Tag) → IsRun file first held before → RunsBy (Err stop) file first last rounds held now) → SinkCause stop f f'
+    → ((file : List Tag) → IsRun file first held before → RunsBy (Err stop) file first last rounds held now)
+    → ((file : List Tag) → IsRun file first held before → PartBy stop first rounds held now) → SinkCause stop f f'
     → EndsWith (Err stop) first rounds held before now f f'
-whole_stops stop first last rounds held before now f f' goes s = λ r left left' n n' h e fresh is.
+whole_stops stop first last rounds held before now f f' goes part s = λ r left left' n n' h e fresh is.
     run_ends stop r left left' held now n n' f f' first last h fresh
-    (subst (λ (k : ℕ). RunsBy (Err stop) r.tags.items first last k held now) e (goes r.tags.items is)) s
+    (subst (λ (k : ℕ). RunsBy (Err stop) r.tags.items first last k held now) e (goes r.tags.items is))
+    (subst (λ (k : ℕ). PartBy stop first k held now) e (part r.tags.items is)) s
 
 pub whole_ends : (v : Result (Unit {0}) Stop) (first last : Run) (rounds : ℕ) (held before now : Option (List ℕ)) (f f' : ℕ)
     → ((file : List Tag) → IsRun file first held before → Goes file last held now (HasSettled first last rounds)) → f' ≡ f

@@ -1,5 +1,5 @@
 -- THE RUN OF A FILM, as a relation: rounds of turns, each of them that of a client or of a session
-use Rattle.std.specs.Prelude.{◌≡◌, ◌<◌, ◌+◌, ◌-◌, ◌*◌, ◌^◌, ◌++◌, ℕ, Bool, true, false, ◌&&◌, not, min, nat_eq, nat_le, List, [], ◌∷◌, length, Option}
+use Rattle.std.specs.Prelude.{◌≡◌, ◌⊎◌, ◌<◌, ◌+◌, ◌-◌, ◌*◌, ◌^◌, ◌++◌, ℕ, Bool, true, false, ◌&&◌, not, min, nat_eq, nat_le, List, [], ◌∷◌, length, Option}
 use Rattle.std.specs.Prelude.{Some, None}
 use Rattle.std.specs.Option.{is_some}
 use Rattle.flv_tags.specs.declared.tag.Tag.{Tag}
@@ -299,4 +299,20 @@ pub record CameNot (tags : List Tag) (bytes : ℕ) (text : List ℕ) : Type 0 wh
   pub last : Run
   pub course : IsCourse first states last
   pub count : length states ≡ rounds_of bytes
+  pub text_is : text ≡ text_of last
+
+-- in the midst of a round: before it, or behind the turn of the client that plays and its gift
+abbrev pub IsWithin : Run → Run → Type 0
+IsWithin r s = (s ≡ r) ⊎ ((pulled : Run) × Pulled r pulled × TakesGift pulled.over pulled.pull.client.parts.gift pulled s)
+
+-- IT ENDED IN A ROUND, in the midst of which this text had come
+pub record CamePart (tags : List Tag) (bytes : ℕ) (text : List ℕ) : Type 0 where
+  pub first : Run
+  pub fresh : IsFirst tags first
+  pub states : List Run
+  pub before : Run
+  pub course : IsCourse first states before
+  pub within : length states < rounds_of bytes
+  pub last : Run
+  pub begun : IsWithin before last
   pub text_is : text ≡ text_of last

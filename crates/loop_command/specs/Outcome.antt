@@ -1,12 +1,13 @@
 -- HOW THE COMMAND ENDS
-use Rattle.std.specs.Prelude.{◌≡◌, ℕ, List, length}
+use Rattle.std.specs.Prelude.{◌≡◌, ◌⊎◌, ℕ, List, length}
 use Rattle.std.specs.Io.KnownBytes.{append_known}
 use Rattle.relay_base.specs.declared.limits.Status.{Status}
 use Rattle.relay_outside.specs.Counts.{Rose}
 use Rattle.flv_tags.specs.declared.tag.Tag.{Tag}
 use Rattle.file_commands.specs.Outcome.{Seen}
+use Rattle.put_text.specs.Written.{WritesPart}
 use Rattle.segment_command.specs.Films.{WasRead}
-use Rattle.loop_command.specs.Course.{CameBack, CameNot}
+use Rattle.loop_command.specs.Course.{CameBack, CameNot, CamePart}
 use Rattle.loop_command.specs.Films.{IsRefused, WasWhole}
 use Rattle.loop_command.specs.Looped.{IsLooped}
 
@@ -51,6 +52,14 @@ pub record HasNotCome (old new : Seen) : Type 0 where
   pub held : new.held ≡ append_known old.held text
   pub faults : new.sink_faults ≡ old.sink_faults
 
+-- the whole film was read, and a first part of what had come is written
+pub record HasPart (Came : List Tag → ℕ → List ℕ → Type 0) (old new : Seen) : Type 0 where
+  pub tags : List Tag
+  pub film : WasWhole tags old new
+  pub text : List ℕ
+  pub came : Came tags (length film.read) text
+  pub part : WritesPart text old.held new.held
+
 -- nothing is written
 pub record IsUnwritten (old new : Seen) : Type 0 where
   pub held : new.held ≡ old.held
@@ -68,8 +77,10 @@ abbrev pub Ends : How → Seen → Seen → Type 0
 Ends Whole old new = HasCome old new
 Ends (ByFilm at) old new = HasRefused at old new × IsUnwritten old new
 Ends BySource old new = Rose old.source_faults new.source_faults × IsUnwritten old new
-Ends BySink old new = ((tags : List Tag) × WasWhole tags old new) × Rose old.sink_faults new.sink_faults
-Ends ByMemory old new = (new.source_faults ≡ old.source_faults) × (new.sink_faults ≡ old.sink_faults)
+Ends BySink old new = HasPart CamePart old new × Rose old.sink_faults new.sink_faults
+Ends ByMemory old new =
+    (new.source_faults ≡ old.source_faults) × (new.sink_faults ≡ old.sink_faults)
+    × ((new.held ≡ old.held) ⊎ (HasPart CamePart old new ⊎ HasPart CameBack old new))
 Ends ByRounds old new = HasNotCome old new
 
 pub record Outcome (old new : Seen) (status : Status) : Type 0 where

@@ -4,6 +4,7 @@ use Rattle.std.specs.Prelude.{◌≡◌, ◌≤◌, ◌<◌, ◌+◌, ◌++◌, 
 use Rattle.std.specs.Io.KnownBytes.{append_known}
 use Rattle.flv_tags.specs.declared.tag.Tag.{Tag}
 use Rattle.flv_tags.specs.Written.{IsWritable}
+use Rattle.put_text.specs.Written.{WritesPart}
 use Rattle.relay_outside.specs.Counts.{Rose}
 use Rattle.relay_outside.specs.MemLinks.{MemHears, MemLinkState, MemSays}
 use Rattle.client_owed.specs.declared.types.Gave.{Gave}
@@ -35,8 +36,8 @@ use Rattle.client_command.specs.declared.stop.Stop.{Stop as CommandStop}
 use Rattle.client_command.specs.declared.stop.Stop.TheVariants as command
 use Rattle.file_commands.specs.Outcome.{seen}
 use Rattle.segment_command.specs.Films.{WasRead}
-use Rattle.loop_command.specs.Course.{Asks, ClientTurned, IsCourse, IsFirst, Plays, Publishes, Round, SessionTurned}
-use Rattle.loop_command.specs.Course.{is_on, is_settled, rounds_of, sent_in, text_of}
+use Rattle.loop_command.specs.Course.{Asks, ClientTurned, IsCourse, IsFirst, IsWithin, Plays, Publishes, Round, SessionTurned}
+use Rattle.loop_command.specs.Course.{TakesGift, is_on, is_settled, rounds_of, sent_in, text_of}
 use Rattle.loop_command.specs.Desk.{granted, player, publisher, puller, pusher, rules}
 use Rattle.loop_command.specs.Films.{IsRefused, film_length, most_bytes, tag_length}
 use Rattle.loop_command.specs.Outcome.{Ends, How, Whole, ByFilm, BySource, BySink, ByMemory, ByRounds}
@@ -326,6 +327,38 @@ pub record IsUnsettled (first last : Run) (rounds : ℕ) (old now : Option (List
 
 abbrev pub RunsBy : Result (Unit {0}) Stop → List Tag → Run → Run → ℕ → Option (List ℕ) → Option (List ℕ) → Type 0
 RunsBy r file run new rounds old now = StepBy r (Goes file new old now (HasSettled run new rounds)) (IsUnsettled run new rounds old now)
+
+-- ---- what is written where memory is refused, or the sink fails
+
+-- a first part of what the client that plays was told, with its gift
+pub record WritesGift (r : Run) (old now : Option (List ℕ)) : Type 0 where
+  pub told : Run
+  pub gift : TakesGift r.over r.pull.client.parts.gift r told
+  pub part : WritesPart (text_of told) old now
+
+-- and of what it was told in the midst of a run's next round
+pub record WritesWithin (r : Run) (old now : Option (List ℕ)) : Type 0 where
+  pub last : Run
+  pub begun : IsWithin r last
+  pub part : WritesPart (text_of last) old now
+
+-- and in that of one of so many rounds
+pub record RunsPart (first : Run) (rounds : ℕ) (old now : Option (List ℕ)) : Type 0 where
+  pub states : List Run
+  pub before : Run
+  pub course : IsCourse first states before
+  pub within : length states < rounds
+  pub last : Run
+  pub begun : IsWithin before last
+  pub part : WritesPart (text_of last) old now
+
+-- where a run didn't stop for its rounds
+abbrev pub PartBy : Stop → Run → ℕ → Option (List ℕ) → Option (List ℕ) → Type 0
+PartBy Unfinished first rounds old now = Unit {0}
+PartBy (Refused at) first rounds old now = RunsPart first rounds old now
+PartBy Source first rounds old now = RunsPart first rounds old now
+PartBy Sink first rounds old now = RunsPart first rounds old now
+PartBy Memory first rounds old now = RunsPart first rounds old now
 
 -- what a stop says of the sink
 abbrev pub SinkCause : Stop → ℕ → ℕ → Type 0

@@ -5,7 +5,7 @@ ghost use Rattle.flv_tags.specs.declared.tag.Tag.{Tag as ATag};
 ghost use Rattle.client_command.specs.Telling.{IsFine};
 ghost use Rattle.client_command.specs.Turned.{IsLive};
 ghost use Rattle.loop_command.specs.Course.{PlayerServed, Pulled, TakesGift, without};
-ghost use Rattle.loop_command.specs.Rounds.{Goes, IsOwn, IsRun, IsSound, IsWanting, PlaysBy, SinkCause, StepBy};
+ghost use Rattle.loop_command.specs.Rounds.{Goes, IsOwn, IsRun, IsSound, IsWanting, PlaysBy, SinkCause, StepBy, WritesGift, WritesWithin};
 
 use crate::line::{turn_client, turn_session};
 use crate::rounds::Run;
@@ -61,6 +61,8 @@ fn write_next<K: Sink>(alloc: Global, run: &mut Run, out: &mut K) -> Result<(), 
     ensures sound { OnOk result (IsSound run.new) }
     ensures goes { (file : List ATag) (held : Option (List ℕ)) → IsRun file run.old held (K.holds out.old)
         → OnOk result (Goes file run.new held (K.holds out.new) (TakesGift run.old.over run.old.pull.client.parts.gift run.old run.new)) }
+    ensures part { (file : List ATag) (held : Option (List ℕ)) → IsRun file run.old held (K.holds out.old)
+        → IfErr result (λ stop. WritesGift run.old held (K.holds out.new)) }
     ensures stops { IfErr result IsWanting }
     ensures faults { MatchResult result (λ _. K.faults out.new ≡ K.faults out.old) (λ stop. SinkCause stop (K.faults out.old) (K.faults out.new)) }
 {
@@ -100,6 +102,8 @@ pub(crate) fn play<K: Sink>(alloc: Global, run: &mut Run, out: &mut K) -> Result
     ensures sound { OnOk result (IsSound run.new) }
     ensures goes { (file : List ATag) (held : Option (List ℕ)) → IsRun file run.old held (K.holds out.old)
         → PlaysBy result file run.old run.new held (K.holds out.new) }
+    ensures part { (file : List ATag) (held : Option (List ℕ)) → IsRun file run.old held (K.holds out.old)
+        → IfErr result (λ stop. WritesWithin run.old held (K.holds out.new)) }
     ensures faults { MatchResult result (λ _. K.faults out.new ≡ K.faults out.old) (λ stop. SinkCause stop (K.faults out.old) (K.faults out.new)) }
 {
     pull_turn(alloc, run)?;

@@ -5,7 +5,7 @@ ghost use Rattle.flv_tags.specs.declared.tag.Tag.{Tag as ATag};
 ghost use Rattle.client_owed.specs.declared.types.Wish.TheVariants.{Pull};
 ghost use Rattle.loop_command.specs.Desk.{one_name, player};
 ghost use Rattle.loop_command.specs.Newly.{IsNewLine, IsNewPort};
-ghost use Rattle.loop_command.specs.Rounds.{AreWritable, IsNewRun, IsRun, IsSound, RoundBy, SinkCause};
+ghost use Rattle.loop_command.specs.Rounds.{AreWritable, IsNewRun, IsRun, IsSound, RoundBy, SinkCause, WritesWithin};
 ghost use Rattle.loop_command.specs.declared.rounds.Stage.TheVariants.{Giving};
 ghost use Rattle.loop_command.specs.declared.stop.Stop.TheVariants.{Memory};
 
@@ -156,6 +156,8 @@ pub(crate) fn round<K: Sink>(alloc: Global, run: &mut Run, out: &mut K) -> Resul
     ensures sound { OnOk result (IsSound run.new) }
     ensures goes { (file : List ATag) (held : Option (List ℕ)) → IsRun file run.old held (K.holds out.old)
         → RoundBy result file run.old run.new held (K.holds out.new) }
+    ensures part { (file : List ATag) (held : Option (List ℕ)) → IsRun file run.old held (K.holds out.old)
+        → IfErr result (λ stop. WritesWithin run.old held (K.holds out.new)) }
     ensures faults { MatchResult result (λ _. K.faults out.new ≡ K.faults out.old) (λ stop. SinkCause stop (K.faults out.old) (K.faults out.new)) }
 {
     play(alloc, run, out)?;

@@ -1,11 +1,11 @@
 //! `loop`: a film through the relay and back.
-ghost use Rattle.std.specs.Prelude.{◌≡◌, ◌↔◌, ◌≤◌, ◌^◌, ℕ, List, map, true, false, OnOk, MatchResult};
+ghost use Rattle.std.specs.Prelude.{◌≡◌, ◌↔◌, ◌≤◌, ◌^◌, ℕ, List, map, true, false, IfErr, OnOk, MatchResult};
 ghost use Rattle.std.specs.declared.option.Option.{Option};
 ghost use Rattle.file_commands.specs.Outcome.{seen};
 ghost use Rattle.flv_tags.specs.declared.tag.Tag.{Tag as ATag};
 ghost use Rattle.loop_command.specs.Course.{rounds_of};
 ghost use Rattle.loop_command.specs.Outcome.{Ends, Outcome, status_of};
-ghost use Rattle.loop_command.specs.Rounds.{AreWritable, EndsFilm, EndsWith, IsRun, IsSettled, IsSound, RunsBy, SinkCause, how_of};
+ghost use Rattle.loop_command.specs.Rounds.{AreWritable, EndsFilm, EndsWith, IsRun, IsSettled, IsSound, PartBy, RunsBy, SinkCause, how_of};
 ghost use Rattle.loop_command.specs.Words.{is_loop};
 
 use crate::ending::{finish, is_settled, settled_law};
@@ -35,6 +35,8 @@ fn run_all<K: Sink>(alloc: Global, run: &mut Run, rounds: u64, out: &mut K) -> R
     ensures settled { OnOk result (IsSettled run.new) }
     ensures goes { (file : List ATag) (held : Option (List ℕ)) → IsRun file run.old held (K.holds out.old)
         → RunsBy result file run.old run.new rounds held (K.holds out.new) }
+    ensures part { (file : List ATag) (held : Option (List ℕ)) → IsRun file run.old held (K.holds out.old)
+        → IfErr result (λ stop. PartBy stop run.old rounds held (K.holds out.new)) }
     ensures faults { MatchResult result (λ _. K.faults out.new ≡ K.faults out.old) (λ stop. SinkCause stop (K.faults out.old) (K.faults out.new)) }
 {
     let mut left = rounds;
@@ -117,8 +119,8 @@ fn status_of(run: Result<(), Stop>) -> Status
 /// | 2 | exactly if the words are others; nothing is read | nothing |
 /// | 3 | only if the source's faults rose | nothing |
 /// | 4 | the film is refused at `place`: at that of [`flv_tags::FlvFail`], or at 2^28 if it has more bytes | nothing |
-/// | 5 | only if the sink's faults rose | a first part |
-/// | 6 | for want of memory | a first part |
+/// | 5 | only if the sink's faults rose | a first part of the header and the tags that had come |
+/// | 6 | for want of memory | the same |
 /// | 9 | the run hasn't come to its end within 4,096 rounds and two for each byte of the film | the tags that came |
 ///
 /// `place` is 0 but for code 4.

@@ -44,12 +44,13 @@ pub struct RealLink {
 impl Drop for RealLink {
     fn drop(self) {
         let RealLink {
-            wire,
+            mut wire,
             life,
             failed: _,
             waited: _,
             ended: _,
         } = self;
+        let _ = wire.flush();
         life.end(&wire.cell.post);
         drop(life);
         drop(wire);
@@ -95,6 +96,7 @@ impl RealLink {
             waited: _,
             ended: _,
         } = self;
+        let _ = wire.flush();
         life.end(&wire.cell.post);
         let answered = life.is_answered();
         drop(life);

@@ -2,6 +2,7 @@ use Rattle.std.proofs.Common.{◌∙◌, subst, sym}
 use Rattle.loop_command.specs.Rounds.{IsWanting, SinkCause}
 use Rattle.loop_command.specs.declared.stop.Stop.{Stop}
 use Rattle.loop_command.proofs.Running.{gift_goes, gift_sound, none_goes, over_gift, put_wanting, told_is}
+use Rattle.loop_command.proofs.Parts.{gift_part}
 use Rattle.loop_command.proofs.playing.write_next.Goals as goal
 
 pub returns-then-run-clause-goes : goal.returns-then-run-clause-goes
@@ -39,3 +40,10 @@ returns-in-Err-clause-faults g c =
     let n = g.K.Sink.faults c.args.out.now in
     let m = g.K.Sink.faults c.write_gift.new.out in
     subst (λ (s : Stop). SinkCause s n m) (sym c.within.ensures) (put_wanting c.in-Err.stop n m c.in-Err.ensures.faults).1
+
+pub returns-in-Err-clause-part : goal.returns-in-Err-clause-part
+returns-in-Err-clause-part g c = λ file held h.
+    let r = c.args.run.now in
+    let t = told_is file r held (g.K.Sink.holds c.args.out.now) c.if-run.false h in
+    gift_part held (g.K.Sink.holds c.write_gift.new.out) r c.in-Some.gift c.if-run.false (sym c.take_gift.ensures.gift ∙ c.in-Some.is)
+    (c.in-Err.ensures.text r.pull.client.parts.taken held t.0 t.1)

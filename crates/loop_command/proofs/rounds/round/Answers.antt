@@ -1,4 +1,6 @@
 use Rattle.std.proofs.Common.{rules}
+use Rattle.loop_command.specs.Rounds.{WritesWithin}
+use Rattle.loop_command.proofs.Parts.{if_err, served_part}
 use Rattle.loop_command.proofs.Rounding.{own_match, play_stops, round_by}
 use Rattle.loop_command.proofs.rounds.round.Goals as goal
 
@@ -18,3 +20,14 @@ returns-clause-goes g c = λ file held h.
 pub returns-clause-faults : goal.returns-clause-faults
 returns-clause-faults g c =
     own_match c.publish.result (g.K.Sink.faults c.args.out.now) (g.K.Sink.faults c.play.new.out) c.in_ok-play.ensures.faults c.publish.ensures.err
+
+pub returns-in_err-play-clause-part : goal.returns-in_err-play-clause-part
+returns-in_err-play-clause-part g c = λ file held h.
+    let x = c.in_err-play.ensures.part file held h in
+    search (rules, x)
+
+pub returns-clause-part : goal.returns-clause-part
+returns-clause-part g c = λ file held h.
+    let now = g.K.Sink.holds c.play.new.out in
+    let p = c.in_ok-play.ensures.goes file held h in
+    if_err c.publish.result (WritesWithin c.args.run.now held now) (served_part file c.args.run.now c.play.new.run held now p.made p.is_run)

@@ -1,4 +1,5 @@
 use Rattle.std.proofs.Common.{◌∙◌, ◌-◌, arith, refl, rules, sym}
+use Rattle.loop_command.proofs.Parts.{runs_part}
 use Rattle.loop_command.proofs.Rounding.{round_stops, run_begins, run_on, run_out, run_settles}
 use Rattle.loop_command.proofs.run.run_all.Goals as goal
 
@@ -46,3 +47,12 @@ pub returns-clause-goes : goal.returns-clause-goes
 returns-clause-goes g c = λ file held h.
     let l = c.loop-left in
     run_out file c.args.run.now l.run c.args.rounds l.left held (g.K.Sink.holds l.out) (l.invariant.goes file held h) (omega (arith, c.loop-left-test.false))
+
+pub returns-in_err-round-clause-part : goal.returns-in_err-round-clause-part
+returns-in_err-round-clause-part g c = λ file held h.
+    let l = c.loop-left in
+    let e = c.in_err-round in
+    let o = l.invariant.goes file held h in
+    let x = runs_part e.field-0.0 file c.args.run.now l.run c.args.rounds l.left held (g.K.Sink.holds l.out) (g.K.Sink.holds c.round.new.out) o
+    (omega (arith, c.loop-left-test.true)) (e.ensures.part file held o.is_run) in
+    search (rules, x)

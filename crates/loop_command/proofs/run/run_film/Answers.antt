@@ -1,4 +1,4 @@
-use Rattle.std.proofs.Common.{refl}
+use Rattle.std.proofs.Common.{inl, refl}
 use Rattle.loop_command.proofs.Outcomes.{memory_ends}
 use Rattle.loop_command.proofs.run.run_film.Goals as goal
 
@@ -13,4 +13,4 @@ returns-in-Err g c = λ left left' n n' h.
     let K = g.K.Sink in
     let held = K.holds c.args.out.now in
     let faults = K.faults c.args.out.now in
-    memory_ends c.in-Err.stop c.args.film left left' held held n n' faults faults c.in-Err.ensures.err h refl
+    memory_ends c.in-Err.stop c.args.film left left' held held n n' faults faults c.in-Err.ensures.err h refl (inl refl)

@@ -16,4 +16,4 @@ returns-in-Err g c = λ held.
     let e = c.in-Err in
     let t = c.run_all.new in
     whole_stops e.stop c.args.run.now t.run c.args.rounds held (K.holds c.args.out.now) (K.holds t.out) (K.faults c.args.out.now) (K.faults t.out)
-    (λ file. e.ensures.goes file held) e.ensures.faults
+    (λ file. e.ensures.goes file held) (λ file. e.ensures.part file held) e.ensures.faults
