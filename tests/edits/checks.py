@@ -77,10 +77,14 @@ class Libraries:
         code = self.path(name) / "toolchain/mir.json"
         return set(re.findall(rf'"({name}::[^"]*)"', code.read_text())) if code.is_file() else set()
 
-    def functions(self, name):
-        """The names of a library's functions, with those that its text doesn't show; of a program none."""
+    def uses_within(self, name):
+        """Of each function of a library, also of those that its text doesn't show, the ones of the library that its code
+        names, by their paths below it; of a program none."""
         code = self.path(name) / "toolchain/mir.json"
-        return [it[0] for it in json.loads(code.read_text())] if code.is_file() else []
+        texts = {it[0]: json.dumps(it[1]) for it in json.loads(code.read_text())} if code.is_file() else {}
+        below = {it: it.split("::", 1)[1] for it in texts}
+        named = {it: set(re.findall(rf'"({name}::[^"]*)"', text)) & below.keys() for it, text in texts.items()}
+        return {below[it]: {below[other] for other in others} for it, others in named.items()}
 
     def words(self, name):
         """The words of a check over the libraries, as `rt` gives them."""

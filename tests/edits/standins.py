@@ -11,6 +11,8 @@ from source import body_of, items_of, name_of
 
 # A faulty place that a check names: a line of the code, or the file of a function's proof.
 FAULTY = re.compile(r"(?:note: )?(?:\./)?((?:src|proofs)/[^:]+):(?:(\d+):\d+:)? error")
+# A closure by its path: it is checked with its function.
+CLOSURE = re.compile(r"(^|::)fn::")
 OWN_FILES = ("Answers.antt", "Invariants.antt")
 HOLE = """use Rattle.{module}.Statement.{{statement}}
 
@@ -21,17 +23,32 @@ pub {function}_spec : {{M : Type 1}} → statement M
 
 @dataclass
 class StandIns:
-    """The functions of a crate that a check may take at their word, by their paths, each with its place in the code."""
+    """The functions of a crate that a check may take at their word, by their paths, each with its place in the code,
+    and of each function those of the crate that its code names."""
 
     crate: str
+    uses: dict
     places: dict = field(default_factory=dict)
 
+    def beside(self, kept):
+        """The functions that get a stand-in beside those kept. One without a text is compiled only where the code of a
+        function that is kept leads to it."""
+        reached = self.reached(kept)
+        return {path: span for path, span in self.places.items() if path not in kept and (span or path in reached)}
+
+    def reached(self, kept):
+        """The functions without a text that the code of these leads to, by others without a text or at once."""
+        found, ahead = set(), list(kept)
+        while ahead:
+            new = {it for it in self.uses.get(ahead.pop(), ()) if it not in found and not self.places.get(it)}
+            found |= new
+            ahead += new
+        return found
+
     def put(self, texts, kept):
-        """The texts with a stand-in for each of these functions but those kept. No line of code moves."""
+        """The texts with these stand-ins. No line of code moves."""
         texts = dict(texts)
-        for path, span in self.places.items():
-            if path in kept:
-                continue
+        for path, span in self.beside(kept).items():
             if span:
                 texts[span.file] = without_body(texts[span.file], span)
             folder = folder_of(path)
@@ -44,8 +61,8 @@ class StandIns:
     def drop_refused(self, lines, kept):
         """Takes out the functions whose stand-ins a check has refused, and says whether there were any."""
         faulty = [it for it in map(FAULTY.match, lines) if it]
-        places = {path: span for path, span in self.places.items() if path not in kept}
-        refused = [path for path, span in places.items() if any(is_of(it, path, span) for it in faulty)]
+        places = self.beside(kept).items()
+        refused = [path for path, span in places if any(is_of(it, path, span) for it in faulty)]
         for path in refused:
             del self.places[path]
         return bool(refused)
@@ -62,12 +79,13 @@ def folder_of(path):
     return f"proofs/{path.replace('::', '/')}/"
 
 
-def stand_ins(crate, texts, known, compiled):
-    """The stand-ins of a crate: of what its code says, and of what was compiled without a text, as a value's end.
+def stand_ins(crate, texts, known, uses):
+    """The stand-ins of a crate: of what its code says, and of what was compiled without a text, as a value's end. Of
+    each compiled function is given what its code names.
 
     A function of a cycle of calls has its proof with the others of the cycle, and the value of a constant function may
     be wanted: both stay as they are, as does what has a proof written out."""
-    found = StandIns(crate)
+    found = StandIns(crate, uses)
     said = {}
     for file in sorted(it for it in texts if it.startswith("src/")):
         lines = texts[file].split("\n")
@@ -76,8 +94,8 @@ def stand_ins(crate, texts, known, compiled):
                 path = name_of(crate, file, holder, function, known).split("::", 1)[1]
                 said[path] = span if can_stand(lines, span, texts, path) else None
     found.places = {path: span for path, span in said.items() if span}
-    others = (it.split("::", 1)[1] for it in compiled)
-    found.places |= {it: None for it in others if it not in said and f"{folder_of(it)}Proof.antt" not in texts}
+    others = (it for it in uses if it not in said and not CLOSURE.search(it) and f"{folder_of(it)}Proof.antt" not in texts)
+    found.places |= {it: None for it in others if it not in found.reached([it])}
     return found
 
 
