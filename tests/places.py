@@ -354,6 +354,20 @@ def over(relay, folder):
     server.kill()
 
 
+def counted(relay, folder):
+    """A link's last bytes, which are sent as it ends, are among those that the log tells."""
+    server, lines, port = over_http(relay, folder, "workers = 1", RELAY_LOG="info")
+    stranger = get(port, "/live/none.flv")
+    answer = b""
+    while piece := stranger.recv(65536):
+        answer += piece
+    want = f"{address(stranger)} ended: answered 404; "
+    expect(wait_for(lambda: says(lines, want)), f"counted: the log lacks {want!r}, it has {lines}")
+    expect(answer and lines[-1].endswith(f", {len(answer)} bytes out\n"), f"counted: {len(answer)} bytes are told as {lines[-1:]}")
+    stranger.close()
+    server.kill()
+
+
 def no_place(relay, folder):
     """A viewer over HTTP that finds no place is answered at once."""
     server, lines, port = over_http(relay, folder, "links = 2", RELAY_LOG="warn")
@@ -463,7 +477,8 @@ def names(relay, folder):
     server.kill()
 
 
-TESTS = [gives_way, without_limit, eight_seconds, slow, kept_alive, strangers, one_address, waiting, farewells, guesses, over, no_place, forwarded, names]
+TESTS = [gives_way, without_limit, eight_seconds, slow, kept_alive, strangers, one_address, waiting, farewells, guesses, over, counted, no_place, forwarded,
+         names]
 
 
 def run(test, relay):

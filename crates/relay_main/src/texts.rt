@@ -383,7 +383,7 @@ const LOOP: &str = "usage: relay loop < FLV > FLV
 Sends the FLV of standard input through the relay and writes what comes back as
 FLV. It opens no connection: one client publishes the file and another plays it,
 over a stream of this program, on one thread. A file has at most 268435456
-bytes.
+bytes. All of it is kept in memory, with some 300 bytes more for each tag.
 ";
 
 pub const STATUS: &str = "Exit status:
