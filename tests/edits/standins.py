@@ -11,8 +11,8 @@ from source import body_of, items_of, name_of
 
 # A faulty place that a check names: a line of the code, or the file of a function's proof.
 FAULTY = re.compile(r"(?:note: )?(?:\./)?((?:src|proofs)/[^:]+):(?:(\d+):\d+:)? error")
-# A closure by its path: it is checked with its function.
-CLOSURE = re.compile(r"(^|::)fn::")
+# What is never left out: a closure, which is checked with its function, and the end of what has none.
+OWN = re.compile(r"(^|::)fn::|^Destruct\+\+none::")
 OWN_FILES = ("Answers.antt", "Invariants.antt")
 HOLE = """use Rattle.{module}.Statement.{{statement}}
 
@@ -94,7 +94,7 @@ def stand_ins(crate, texts, known, uses):
                 path = name_of(crate, file, holder, function, known).split("::", 1)[1]
                 said[path] = span if can_stand(lines, span, texts, path) else None
     found.places = {path: span for path, span in said.items() if span}
-    others = (it for it in uses if it not in said and not CLOSURE.search(it) and f"{folder_of(it)}Proof.antt" not in texts)
+    others = (it for it in uses if it not in said and not OWN.search(it) and f"{folder_of(it)}Proof.antt" not in texts)
     found.places |= {it: None for it in others if it not in found.reached([it])}
     return found
 
