@@ -8,7 +8,7 @@ use crate::life::{Life, STUCK};
 use crate::post::Post;
 use crate::wire::{Flushed, Wire};
 use mio::net::TcpStream;
-use relay_outside::{Heard, Link, News, Said};
+use relay_outside::{Ending, Heard, Link, News, Said};
 use std::alloc::Global;
 use std::io::ErrorKind;
 use std::marker::Model;
@@ -44,13 +44,12 @@ pub struct RealLink {
 impl Drop for RealLink {
     fn drop(self) {
         let RealLink {
-            mut wire,
+            wire,
             life,
             failed: _,
             waited: _,
             ended: _,
         } = self;
-        let _ = wire.flush();
         life.end(&wire.cell.post);
         drop(life);
         drop(wire);
@@ -96,7 +95,6 @@ impl RealLink {
             waited: _,
             ended: _,
         } = self;
-        let _ = wire.flush();
         life.end(&wire.cell.post);
         let answered = life.is_answered();
         drop(life);
@@ -261,6 +259,14 @@ impl Link for RealLink {
     }
 
     fn tell(&self, news: News, app: &[u8], name: &[u8]) {
+        match news {
+            News::Ended {
+                ending: Ending::LinkFault,
+                at: _,
+            } => {}
+            News::Ended { .. } => self.wire.count_kept(),
+            _ => {}
+        }
         self.life
             .tell(&self.wire.cell.post, news, app, name, self.wire.cause);
     }

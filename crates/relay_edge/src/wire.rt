@@ -157,6 +157,13 @@ impl Wire {
         }
     }
 
+    /// Counts the kept bytes as sent, because the link ends: they are handed to the system when it is dropped.
+    pub fn count_kept(&self) {
+        if let Some(seat) = self.cell.seat() {
+            seat.send(self.outbox.left().len());
+        }
+    }
+
     /// Records that its link gave `count` bytes.
     pub fn received(&self, count: usize) {
         if let Some(seat) = self.cell.seat() {
