@@ -1,10 +1,12 @@
 -- Sums of numbers that are each within a bound
-use Rattle.std.proofs.Common.{◌≡◌, ℕ, ◌+◌, ◌*◌, ◌≤◌, List, [], ◌∷◌, length, sum, sum_by, All, mul_assoc, ap, sym, subst, ◌∙◌, arith}
+use Rattle.std.proofs.Common.{◌≡◌, ℕ, ◌+◌, ◌*◌, ◌≤◌, List, [], ◌∷◌, length, sum, sum_by, All, mul_assoc, ap, sym, subst, ◌∙◌, arith, Option, Some, None}
+use Rattle.std.specs.Option.{unwrap_or}
 use Rattle.std.proofs.lemmas.List.Sums.{sum_by-cons, sum_by-le}
 use Rattle.std.proofs.Math.Nat.{add-mul}
 use Rattle.std.proofs.lemmas.Nat.{mul-le}
 use Rattle.http_flv.specs.PlayerState.{most_held as most_played}
-use Rattle.relay_config.specs.Sum.{configured_sum, http_workers, name_bytes, names_of, recorder_bytes, recorders_of, session_bytes, stream_bytes}
+use Rattle.relay_config.specs.Sum.{configured_sum, http_room, http_workers, name_bytes, names_of, player_bytes, players_of, recorder_bytes, recorders_of}
+use Rattle.relay_config.specs.Sum.{session_bytes, sessions_by, sessions_of, stream_bytes}
 use Rattle.relay_base.specs.declared.limits.Limits.{Limits}
 use Rattle.relay_config.specs.declared.config.Config.{Config}
 use Rattle.relay_config.specs.declared.config.OpenRule.{OpenRule}
@@ -29,9 +31,19 @@ links_are workers more links bytes =
     ap (λ (n : ℕ). n + more * links * bytes) (sym (mul_assoc workers links bytes))
     ∙ (sym (add-mul (workers * links) (more * links) bytes) ∙ ap (λ (n : ℕ). n * bytes) (sym (add-mul workers more links)))
 
--- five sums, each within its own bound
-together : (a b c d e ma mb mc md me : ℕ) → a ≤ ma → b ≤ mb → c ≤ mc → d ≤ md → e ≤ me → a + b + c + d + e ≤ ma + mb + (mc + md) + me
-together a b c d e ma mb mc md me p q r s t = omega (arith, p, q, r, s, t)
+-- what the links of workers and those of HTTP players hold, however the latter are reckoned
+links_within : (own : Option ℕ) (workers http links session player c d : ℕ) → c ≤ workers * (links * session)
+    → d ≤ http * unwrap_or own links * player → player ≤ session
+    → c + d ≤ sessions_by workers http links own * session + http * unwrap_or own 0 * player
+links_within None workers http links session player c d few most less =
+    subst (λ (n : ℕ). c + d ≤ n + http * 0 * player) (links_are workers http links session)
+    (omega (arith, few, most, mul-le (http * links) player (http * links) session (omega arith) less))
+links_within (Some own) workers http links session player c d few most less =
+    subst (λ (n : ℕ). c + d ≤ n + http * own * player) (sym (mul_assoc workers links session)) (omega (arith, few, most))
+
+-- five sums, each within its own bound, but two together
+together : (a b c d e ma mb mc md me : ℕ) → a ≤ ma → b ≤ mb → c + d ≤ mc + md → e ≤ me → a + b + c + d + e ≤ ma + mb + mc + me + md
+together a b c d e ma mb mc md me p q r s = omega (arith, p, q, r, s)
 
 module _ (config : Config) (streams tables : List ℕ) (workers : List (List ℕ)) (players recorders : List ℕ)
     (h : AreWithin config streams tables workers players recorders) where
@@ -52,24 +64,21 @@ module _ (config : Config) (streams tables : List ℕ) (workers : List (List ℕ
         mul-le config.links (most_held m m) config.links (session_bytes config.limits) (omega arith) session_is,
       ))
 
-  player_is : most_played m ≤ session_bytes config.limits
+  player_is : player_bytes config.limits ≤ session_bytes config.limits
   player_is = omega arith
 
-  players_are : sum_by (λ n. n) players ≤ http_workers config * config.links * session_bytes config.limits
-  players_are = within (λ n. n) (session_bytes config.limits) (http_workers config * config.links) players h.few_players
-      (λ k d lt. let own = h.each_player k d lt in omega (arith, own, player_is))
+  players_are : sum_by (λ n. n) players ≤ http_workers config * http_room config * player_bytes config.limits
+  players_are = within (λ n. n) (most_played m) (http_workers config * http_room config) players h.few_players h.each_player
+
+  links_all : sum_by sum workers + sum players ≤ sessions_of config * session_bytes config.limits + players_of config * player_bytes config.limits
+  links_all =
+      links_within config.http_links config.workers (http_workers config) config.links (session_bytes config.limits) (player_bytes config.limits) _ _
+      sessions_are players_are player_is
 
   recorders_are : sum_by (λ n. n) recorders ≤ recorders_of config.places * most_recorded m
   recorders_are = within (λ n. n) (most_recorded m) (recorders_of config.places) recorders h.few_recorders h.each_recorder
 
-  -- all but the links
-  abbrev rest : ℕ → ℕ
-  rest n =
-      length config.places * stream_bytes config.limits + names_of config.opens * name_bytes config.limits + n + recorders_of config.places * recorder_bytes config.limits
-
   pub all_are : sum streams + sum tables + sum_by sum workers + sum players + sum recorders ≤ configured_sum config
   all_are =
-      subst (λ (n : ℕ). sum streams + sum tables + sum_by sum workers + sum players + sum recorders ≤ rest n)
-      (links_are config.workers (http_workers config) config.links (session_bytes config.limits))
-      (together (sum streams) (sum tables) (sum_by sum workers) (sum players) (sum recorders) _ _ _ _ _ streams_are
-      (tables_are config.limits config.opens tables h.each_table) sessions_are players_are recorders_are)
+      together (sum streams) (sum tables) (sum_by sum workers) (sum players) (sum recorders) _ _ _ _ _ streams_are
+      (tables_are config.limits config.opens tables h.each_table) links_all recorders_are

@@ -1,7 +1,7 @@
 -- What the holders of a server hold at most, each by itself
 use Rattle.std.specs.Prelude.{ℕ, ◌+◌, ◌*◌, ◌≤◌, List, [], ◌∷◌, length, All}
 use Rattle.http_flv.specs.PlayerState.{most_held as most_played}
-use Rattle.relay_config.specs.Sum.{http_workers, recorders_of}
+use Rattle.relay_config.specs.Sum.{http_room, http_workers, recorders_of}
 use Rattle.relay_config.specs.declared.config.Config.{Config}
 use Rattle.relay_config.specs.declared.config.OpenRule.{OpenRule}
 use Rattle.media_recorder.specs.Mediums.{most_held as most_recorded}
@@ -27,7 +27,7 @@ pub record AreWithin (config : Config) (streams tables : List ℕ) (workers : Li
   pub few_workers : length workers ≤ config.workers
   pub few_sessions : All (λ w. length w ≤ config.links) workers
   pub each_session : All (λ w. All (λ n. n ≤ most_held config.limits.max_message config.limits.max_message) w) workers
-  pub few_players : length players ≤ http_workers config * config.links
+  pub few_players : length players ≤ http_workers config * http_room config
   pub each_player : All (λ n. n ≤ most_played config.limits.max_message) players
   pub few_recorders : length recorders ≤ recorders_of config.places
   pub each_recorder : All (λ n. n ≤ most_recorded config.limits.max_message) recorders

@@ -8,7 +8,7 @@ ghost use Rattle.held_law.specs.Holders.{AreWithin};
 /// also be no more of them than the configuration has. The bounds are those of `Stream::held`,
 /// `Pool::held`, `Session::held`, `HttpPlayer::held` and the recorders' `held`, if no message and no item
 /// is longer than the configuration's longest message. A worker has at most `links` sessions by
-/// `Worker::law`, and the HTTP worker at most `links` players by `HttpWorker::law`.
+/// `Worker::law`, and the HTTP worker at most as many players as it has links, by `HttpWorker::law`.
 pub fn all_together_hold_at_most_the_sum()
     ensures { (config : Config) (streams tables : List ℕ) (workers : List (List ℕ)) (players recorders : List ℕ)
         → AreWithin config streams tables workers players recorders

@@ -180,7 +180,8 @@ apart_from listen http free at is = λ same.
 pub lawful : (config : Config) (streams tables : List Data) → config.places ≡ map place_of streams → config.opens ≡ map open_of tables
     → tables_refusal stream_rows streams ≡ None → tables_refusal open_rows tables ≡ None → InRange config → whole_refusal config ≡ None → Lawful config
 lawful config streams tables is opens_are read opens_read numbers whole =
-    let (own, rest0) = none_of _ _ whole in
+    let (own, rest_own) = none_of _ _ whole in
+    let (_, rest0) = none_of _ _ rest_own in
     let (some, rest) = none_of _ _ rest0 in
     let (few, rest2) = none_of _ _ rest in
     let (room, rest3) = none_of _ _ rest2 in

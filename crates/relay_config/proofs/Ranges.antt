@@ -1,6 +1,6 @@
 -- The numbers of a configuration whose table `relay` passes its tests
 use Rattle.std.proofs.Common.{◌≡◌, ℕ, ◌+◌, ◌≤◌, Bool, true, false, not, cond, List, [], ◌∷◌, refl, sym, Option, Some}
-use Rattle.std.proofs.Common.{None, option_map, arith, subst, lit≤}
+use Rattle.std.proofs.Common.{None, IfSome, option_map, arith, subst, lit≤}
 use Rattle.std.specs.Option.{unwrap_or, option_and_then, option_map_or}
 use Rattle.std.specs.List.{find}
 use Rattle.std.proofs.lemmas.Bool.Decides.{nat_tests}
@@ -55,6 +55,16 @@ number_inside (Some value) least most default low high h = go (number_in value) 
     go None k = absurd (cc)
     go (Some n) k = grind (arith, nat_tests, k)
 
+-- a number inside its range, where it is there
+own_inside : (o : Option Data) (least most : ℕ) → option_map_or (λ value. not (is_number least most value)) o false ≡ false
+    → IfSome (option_and_then number_in o) (λ n. (least ≤ n) × (n ≤ most))
+own_inside None least most h = tt
+own_inside (Some value) least most h = go (number_in value) h
+  where
+    go : (n : Option ℕ) → not (passes (is_within least most) n) ≡ false → IfSome n (λ n. (least ≤ n) × (n ≤ most))
+    go None k = absurd (cc)
+    go (Some n) k = grind (arith, nat_tests, k)
+
 in_rows : (d : Data) (streams opens : List Data) → Each (is_outside d) relay_rows → InRange (config_of d streams opens)
 in_rows d streams opens h =
     let message = number_inside (value_at key.MaxMessage d) 4096 4194304 4194304 (lit≤ tt) (lit≤ tt) h.1.1.1.1.1.0 in
@@ -62,6 +72,7 @@ in_rows d streams opens h =
     record {
       workers = number_inside (value_at key.Workers d) 1 16 2 (lit≤ tt) (lit≤ tt) h.1.1.0;
       links = number_inside (value_at key.Links d) 1 64 32 (lit≤ tt) (lit≤ tt) h.1.1.1.0;
+      http_links = own_inside (value_at key.HttpLinks d) 1 1024 h.1.1.1.1.1.1.1.1.1.1.0;
       accept = (number_inside (value_at key.Accept d) 0 1000000 0 (lit≤ tt) (lit≤ tt) h.1.1.1.1.0).1;
       max_message = message;
       ring_bytes = number_inside (value_at key.RingBytes d) (number_or key.MaxMessage 4194304 d + 64) 268435456 33554432

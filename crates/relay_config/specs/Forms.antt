@@ -30,9 +30,13 @@ natural (negsuc n) = None
 abbrev pub number_in : Data → Option ℕ
 number_in d = option_and_then natural (as_integer d)
 
--- the number at a key, or the default where the table lacks the key
+-- the number at a key, where the table has the key
+abbrev pub number_at : Key → Data → Option ℕ
+number_at key d = option_and_then number_in (value_at key d)
+
+-- the same, or the default where the table lacks the key
 abbrev pub number_or : Key → ℕ → Data → ℕ
-number_or key default d = unwrap_or (option_and_then number_in (value_at key d)) default
+number_or key default d = unwrap_or (number_at key d) default
 
 -- the text at a key, and whether the value there is true
 abbrev pub text_at : Key → Data → Option (List ℕ)

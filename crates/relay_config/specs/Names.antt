@@ -2,7 +2,7 @@
 use Rattle.std.specs.Prelude.{ℕ, List, codes}
 use Rattle.relay_config.specs.declared.key.Key.{Key}
 use Rattle.relay_config.specs.declared.key.Key.TheVariants.{Relay, Stream, Open, Listen, Http, Workers, Links, Accept, MaxMessage, RingBytes, RingItems, Players}
-use Rattle.relay_config.specs.declared.key.Key.TheVariants.{Window, App, Name, Names, Publish, Play, Digest, Flv, Ts}
+use Rattle.relay_config.specs.declared.key.Key.TheVariants.{Window, HttpLinks, App, Name, Names, Publish, Play, Digest, Flv, Ts}
 
 abbrev pub name_of : Key → List ℕ
 name_of Relay = codes "relay"
@@ -18,6 +18,7 @@ name_of RingBytes = codes "ring_bytes"
 name_of RingItems = codes "ring_items"
 name_of Players = codes "players"
 name_of Window = codes "window"
+name_of HttpLinks = codes "http_links"
 name_of App = codes "app"
 name_of Name = codes "name"
 name_of Names = codes "names"

@@ -1,6 +1,6 @@
 -- The tests that a configuration must pass, in order, and what is answered at the first that fails
 use Rattle.std.specs.Prelude.{◌≡◌, ℕ, ◌+◌, ◌⊎◌, Bool, true, false, not, ◌&&◌, ◌==◌, nat_lt, nat_eq, if◌then◌else◌, List, [], ◌∷◌, length}
-use Rattle.std.specs.Prelude.{take, map, Option, Some, None, option_map, is_none, slice_get, Result, MatchResult}
+use Rattle.std.specs.Prelude.{take, map, Option, Some, None, option_map, is_none, is_some, slice_get, Result, MatchResult}
 use Rattle.std.specs.Option.{option_or, option_and_then, option_map_or}
 use Rattle.std.specs.List.{find, list_any, range_with_len}
 use Rattle.std.specs.Cmp.Lexicographic.{pointwise}
@@ -48,6 +48,7 @@ relay_rows =
     ∷ optional key.RingItems (Number 16 65536)
     ∷ optional key.Players (Number 4 256)
     ∷ optional key.Window (Number 1000 2147483647)
+    ∷ optional key.HttpLinks (Number 1 1024)
     ∷ []
 
 abbrev pub stream_rows : List Row
@@ -130,12 +131,17 @@ twice_of config = option_or (twice_in same_names config.places) (option_map (λ 
 abbrev pub is_taken : Config → Bool
 is_taken config = option_map_or (pointwise nat_eq config.listen) config.http false
 
+-- whether HTTP players have link places of their own, but no address to come to
+abbrev pub is_nowhere : Config → Bool
+is_nowhere config = is_some config.http_links && is_none config.http
+
 abbrev pub when : Bool → ConfigFail → Option ConfigFail
 when b e = if b then Some e else None
 
 abbrev pub whole_refusal : Config → Option ConfigFail
 whole_refusal config = first_of (
     when (is_taken config) (fail.Range key.Http)
+    ∷ when (is_nowhere config) (fail.Missing key.Http)
     ∷ when (length config.places + length config.opens == 0) (fail.Missing key.Stream)
     ∷ when (nat_lt 64 (length config.places)) (fail.Range key.Stream)
     ∷ when (nat_lt 64 (length config.places + names_of config.opens)) (fail.Range key.Names)

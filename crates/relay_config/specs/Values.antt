@@ -15,8 +15,8 @@ use Rattle.relay_config.specs.declared.config.PlaceRule.{PlaceRule}
 use Rattle.relay_config.specs.declared.config.OpenRule.{OpenRule}
 use Rattle.relay_config.specs.declared.key.Key.{Key}
 use Rattle.relay_config.specs.declared.key.Key.TheVariants.{Stream, Open, Listen, Http, Workers, Links, Accept, MaxMessage, RingBytes, RingItems, Players}
-use Rattle.relay_config.specs.declared.key.Key.TheVariants.{Window, App, Name, Names, Publish, Play, Digest, Flv, Ts}
-use Rattle.relay_config.specs.Forms.{value_at, elements, number_or, text_at, is_true_at}
+use Rattle.relay_config.specs.declared.key.Key.TheVariants.{Window, HttpLinks, App, Name, Names, Publish, Play, Digest, Flv, Ts}
+use Rattle.relay_config.specs.Forms.{value_at, elements, number_at, number_or, text_at, is_true_at}
 
 -- the bytes that hexadecimal digits name, and a key as it is kept
 abbrev pub or_none : Result (List ℕ) FromHexError → List ℕ
@@ -82,6 +82,7 @@ config_of relay streams opens = record {
   http = text_at Http relay;
   workers = number_or Workers 2 relay;
   links = number_or Links 32 relay;
+  http_links = number_at HttpLinks relay;
   accept = number_or Accept 0 relay;
   limits = limits_of relay;
   places = map place_of streams;

@@ -14,8 +14,10 @@ pub struct Config {
     pub http: Option<Bytes>,
     /// The number of workers that serve the links of `listen`; one more serves those of `http`.
     pub workers: u32,
-    /// The largest number of links of each worker.
+    /// The largest number of links of each worker that serves `listen`.
     pub links: u32,
+    /// The largest number of links of HTTP players; `None`: as many as a worker has.
+    pub http_links: Option<u32>,
     /// The number of links after which it accepts no more; 0: it always accepts.
     pub accept: u32,
     /// The limits of its readers and its streams.

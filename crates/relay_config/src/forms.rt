@@ -2,7 +2,7 @@ ghost use Rattle.std.specs.Prelude.{◌≡◌, ◌+◌, is_some, map, option_map
 ghost use Rattle.std.specs.List.{list_all};
 ghost use Rattle.toml.specs.Data.{as_table};
 ghost use Rattle.toml.specs.View.{view};
-ghost use Rattle.relay_config.specs.Forms.{value_at, elements, number_in, number_or, text_at, is_true_at, is_within, is_text, is_word, is_word_byte};
+ghost use Rattle.relay_config.specs.Forms.{value_at, elements, number_in, number_at, number_or, text_at, is_true_at, is_within, is_text, is_word, is_word_byte};
 ghost use Rattle.relay_config.specs.Forms.{is_digest, is_hex_digit, is_number, is_list_of, is_key, fits};
 
 use crate::Key;
@@ -32,14 +32,18 @@ fn number_in(value: &Value) -> Option<u32>
     u32::try_from(value.as_integer()?).ok()
 }
 
+/// Returns the number at a key.
+pub(crate) fn number_at(table: &Value, key: Key) -> Option<u32>
+    ensures { result ≡ number_at key (view table.now) }
+{
+    number_in(value_at(table, key)?)
+}
+
 /// Returns the number at a key, or the default.
 pub(crate) fn number_or(table: &Value, key: Key, default: u32) -> u32
     ensures { result ≡ number_or key default (view table.now) }
 {
-    match value_at(table, key) {
-        Some(value) => number_in(value).unwrap_or(default),
-        None => default,
-    }
+    number_at(table, key).unwrap_or(default)
 }
 
 /// Returns the text at a key.

@@ -22,4 +22,4 @@ pub use config::{Config, ConfigFail, OpenRule, OpenRules, PlaceList, PlaceRule};
 pub use key::Key;
 pub use read::read_config;
 pub use report_line::report;
-pub use total::{http_workers, sum, sum_of};
+pub use total::{http_room, http_workers, player_links, players_sum, session_links, sum, sum_of};

@@ -73,7 +73,7 @@ pub(crate) fn whole() -> [Row; 3]
 }
 
 /// Returns the keys of the table `relay`.
-pub(crate) fn relay() -> [Row; 10]
+pub(crate) fn relay() -> [Row; 11]
     ensures { result ≡ relay_rows }
 {
     [
@@ -87,6 +87,7 @@ pub(crate) fn relay() -> [Row; 10]
         number(Key::RingItems, 16, 65_536),
         number(Key::Players, 4, 256),
         number(Key::Window, 1_000, 2_147_483_647),
+        number(Key::HttpLinks, 1, 1_024),
     ]
 }
 

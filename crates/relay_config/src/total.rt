@@ -1,5 +1,6 @@
 ghost use Rattle.std.specs.Prelude.{◌≡◌, ◌+◌, ◌*◌, ◌≤◌, ◌<◌, ◌^◌, length};
-ghost use Rattle.relay_config.specs.Sum.{stream_bytes, name_bytes, session_bytes, recorder_bytes, total_of, recorders_of, names_of, http_workers, configured_sum, InRange};
+ghost use Rattle.relay_config.specs.Sum.{stream_bytes, name_bytes, session_bytes, player_bytes, recorder_bytes, total_of, recorders_of, names_of};
+ghost use Rattle.relay_config.specs.Sum.{http_workers, http_room, sessions_of, players_of, configured_sum, InRange};
 
 use crate::{Config, OpenRule, PlaceRule};
 use relay_base::Limits;
@@ -27,6 +28,15 @@ fn session_bytes(limits: &Limits) -> u64
 {
     let message = limits.max_message as u64;
     4_096 + (message + 65_536) + 32_768 + message + message.div_ceil(512)
+}
+
+// Returns the bytes that an HTTP player holds at most: the head of its request, and the tag of a unit.
+fn player_bytes(limits: &Limits) -> u64
+    requires { limits.now.max_message ≤ 4194304 }
+    ensures value { result ≡ player_bytes limits.now }
+    ensures most { result < 2 ^ 24 }
+{
+    4_096 + (limits.max_message as u64 + 256)
 }
 
 fn recorder_bytes(limits: &Limits) -> u64
@@ -82,6 +92,44 @@ pub fn http_workers(config: &Config) -> u32
     if config.http.is_some() { 1 } else { 0 }
 }
 
+/// Returns the number of links that HTTP players have at a time.
+pub fn http_room(config: &Config) -> u32
+    ensures { result ≡ http_room config.now }
+{
+    config.http_links.unwrap_or(config.links)
+}
+
+/// Returns the number of links that the sum reckons as sessions: those of all workers. Those of HTTP players
+/// are among them unless `http_links` is there.
+pub fn session_links(config: &Config) -> u32
+    requires { InRange config.now }
+    ensures value { result ≡ sessions_of config.now }
+    ensures most { result ≤ 1088 }
+{
+    match config.http_links {
+        Some(_) => config.workers * config.links,
+        None => (config.workers + http_workers(config)) * config.links,
+    }
+}
+
+/// Returns the number of links that the sum reckons as HTTP players.
+pub fn player_links(config: &Config) -> u32
+    requires { InRange config.now }
+    ensures value { result ≡ players_of config.now }
+    ensures most { result ≤ 1024 }
+{
+    http_workers(config) * config.http_links.unwrap_or(0)
+}
+
+/// Returns the bound in bytes for this number of HTTP players, with these limits.
+pub fn players_sum(limits: &Limits, players: u32) -> u64
+    requires message { limits.now.max_message ≤ 4194304 }
+    ensures value { result ≡ players * player_bytes limits.now }
+    ensures most { players ≤ 1024 → result < 2 ^ 34 }
+{
+    players as u64 * player_bytes(limits)
+}
+
 /// Returns the configured sum: the largest number of bytes that a relay of this configuration holds.
 pub fn sum(config: &Config) -> u64
     requires numbers { InRange config.now }
@@ -89,13 +137,12 @@ pub fn sum(config: &Config) -> u64
     ensures { result ≡ configured_sum config.now }
 {
     let places = config.places.as_slice();
-    let sessions = (config.workers + http_workers(config)) * config.links;
     let recorders = recorders_of(places);
     sum_of(
         &config.limits,
         places.len() as u32,
         names_of(config.opens.as_slice()),
-        sessions,
+        session_links(config),
         recorders as u32,
-    )
+    ) + players_sum(&config.limits, player_links(config))
 }

@@ -4,7 +4,7 @@ ghost use Rattle.toml.specs.View.{view};
 ghost use Rattle.relay_config.specs.Forms.{text_at};
 ghost use Rattle.relay_config.specs.Values.{kept, keys_of_texts, mode_by, grants_at, place_of, open_of, limits_of, config_of};
 
-use crate::forms::{elements, is_true_at, number_or, text_at, value_at};
+use crate::forms::{elements, is_true_at, number_at, number_or, text_at, value_at};
 use crate::{Config, Key, OpenRule, OpenRules, PlaceList, PlaceRule};
 use av_unit::{Bytes, OutOfMemory};
 use hex::FromHexError;
@@ -173,6 +173,7 @@ pub(crate) fn config(
         http: optional_text(alloc, relay, Key::Http)?,
         workers: number_or(relay, Key::Workers, 2),
         links: number_or(relay, Key::Links, 32),
+        http_links: number_at(relay, Key::HttpLinks),
         accept: number_or(relay, Key::Accept, 0),
         limits: limits(relay),
         places: places(alloc, streams)?,

@@ -2,7 +2,7 @@ ghost use Rattle.std.specs.Prelude.{◌≡◌, ◌≤◌, ◌<◌, ◌+◌, Bool
 ghost use Rattle.std.specs.List.{list_any, AllPass};
 ghost use Rattle.relay_config.specs.Sum.{InRange, names_of};
 ghost use Rattle.relay_config.specs.Accepts.{has_room};
-ghost use Rattle.relay_config.specs.Refusals.{Tells, is_taken, repeats, twice_in, twice_of, whole_refusal};
+ghost use Rattle.relay_config.specs.Refusals.{Tells, is_nowhere, is_taken, repeats, twice_in, twice_of, whole_refusal};
 
 use crate::{Config, ConfigFail, Key, OpenRule, PlaceRule, sum};
 
@@ -106,6 +106,13 @@ fn is_taken(config: &Config) -> bool
     }
 }
 
+// Tells whether HTTP players have links, but no address.
+fn is_nowhere(config: &Config) -> bool
+    ensures { result ≡ is_nowhere config.now }
+{
+    config.http_links.is_some() && config.http.is_none()
+}
+
 /// Tests both addresses, the streams and open tables together, and the sum.
 pub(crate) fn check_whole(config: &Config) -> Result<(), ConfigFail>
     requires numbers { InRange config.now }
@@ -114,6 +121,9 @@ pub(crate) fn check_whole(config: &Config) -> Result<(), ConfigFail>
 {
     if is_taken(config) {
         return Err(ConfigFail::Range { key: Key::Http });
+    }
+    if is_nowhere(config) {
+        return Err(ConfigFail::Missing { key: Key::Http });
     }
     let places = config.places.as_slice();
     let opens = config.opens.as_slice();

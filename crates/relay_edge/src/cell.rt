@@ -33,7 +33,7 @@ impl Drop for Cell {
         if fed {
             post.cells.ask();
         }
-        post.cells.set(token, 0);
+        post.cells.clear(token);
         if leaves {
             post.end_farewell();
             return;

@@ -24,20 +24,28 @@ pub const CALM: u64 = 32;
 /// The token of the door.
 pub const DOOR: usize = 0;
 
-/// The most links of a worker.
+/// The most links of a worker that serves RTMP.
 pub const MOST_LINKS: usize = 64;
+
+/// The most links of the worker that serves HTTP players.
+pub const MOST_HTTP_LINKS: usize = 1024;
 
 /// The most peers that are seen off at a time.
 pub const MOST_FAREWELLS: usize = 64;
 
-/// The last token: each link has one, and each peer that is seen off.
-pub const LAST_TOKEN: usize = MOST_LINKS + MOST_FAREWELLS;
+/// Returns the last token of a worker of at most `links` links: each link has one, and each peer that is seen
+/// off.
+pub fn last_token(links: usize) -> usize {
+    DOOR.saturating_add(links).saturating_add(MOST_FAREWELLS)
+}
 
 /// A cell of bits for the door and one for each link of a worker, by their tokens. The door, the links and the rest of
 /// a worker are never used at the same time.
 #[derive(Drop)]
 pub struct Cells {
     list: Vec<AtomicU64>,
+    // The last token that a link has had.
+    last: AtomicU64,
     // The number of links that received bytes and weren't asked for more since. Until then, the effects of
     // these bytes may be complete in each turn.
     fed: AtomicU64,
@@ -52,15 +60,17 @@ pub struct Cells {
 }
 
 impl Cells {
-    pub fn new(alloc: Global) -> Result<Cells, AllocError> {
+    /// Creates the cells of a worker of at most `links` links.
+    pub fn new(alloc: Global, links: usize) -> Result<Cells, AllocError> {
         let mut list = Vec::new(alloc);
-        for _ in 0..=LAST_TOKEN {
+        for _ in 0..=last_token(links) {
             if list.push(AtomicU64::new(0)).is_err() {
                 return Err(AllocError);
             }
         }
         Ok(Cells {
             list,
+            last: AtomicU64::new(0),
             fed: AtomicU64::new(0),
             asked: AtomicBool::new(false),
             begun: AtomicBool::new(false),
@@ -76,9 +86,18 @@ impl Cells {
         }
     }
 
-    pub fn set(&self, token: usize, bits: u64) {
+    /// Gives the cell of a token to a new link.
+    pub fn take(&self, token: usize) {
         if let Some(cell) = self.list.get(token) {
-            cell.store(bits, Ordering::SeqCst);
+            cell.store(TAKEN | READABLE | WRITABLE, Ordering::SeqCst);
+            self.last.fetch_max(token as u64, Ordering::SeqCst);
+        }
+    }
+
+    /// Frees the cell of a token.
+    pub fn clear(&self, token: usize) {
+        if let Some(cell) = self.list.get(token) {
+            cell.store(0, Ordering::SeqCst);
         }
     }
 
@@ -100,7 +119,7 @@ impl Cells {
         }
     }
 
-    /// Returns a token that no link has.
+    /// Returns the least token that no link has.
     pub fn free(&self) -> Option<usize> {
         for token in DOOR + 1..self.list.len() {
             if !self.has(token, TAKEN) {
@@ -151,7 +170,7 @@ impl Cells {
     /// afterwards.
     pub fn take_calm(&self) -> bool {
         let mut calm = true;
-        for token in DOOR + 1..self.list.len() {
+        for token in DOOR + 1..=self.last.load(Ordering::SeqCst) as usize {
             calm = calm && (!self.has(token, TAKEN) || self.has(token, CALM));
             self.remove(token, CALM);
         }

@@ -2,7 +2,7 @@
 ghost use Rattle.std.specs.Prelude.{◌≡◌, None, IfOk, false};
 
 use crate::board::Board;
-use crate::cells::{DOOR, READABLE};
+use crate::cells::{DOOR, MOST_HTTP_LINKS, MOST_LINKS, READABLE};
 use crate::control::listen;
 use crate::door::RealDoor;
 use crate::file::RealFile;
@@ -53,12 +53,13 @@ impl Hand {
         board: Arc<Board, Global>,
         watch: Arc<Watch, Global>,
         worker: u32,
+        links: usize,
     ) -> io::Result<Hand> {
         let poll = Poll::new(rt)?;
         board.join(worker as usize, Waker::new(poll.registry(), Token(WAKER))?);
         Ok(Hand {
             worker,
-            post: Post::new(alloc, board, watch, worker as usize)?,
+            post: Post::new(alloc, board, watch, worker as usize, links)?,
             registry: Some(poll.registry().try_clone()?),
             poll: Some(poll),
             turnstile: None,
@@ -163,8 +164,8 @@ impl Sockets {
         Ok(())
     }
 
-    // Returns the worker's hand, and makes it if there is none.
-    fn hand<R: Net>(&mut self, rt: &R, worker: u32) -> io::Result<&mut Hand> {
+    // Returns the worker's hand. If there is none, it is made for at most `links` links.
+    fn hand<R: Net>(&mut self, rt: &R, worker: u32, links: usize) -> io::Result<&mut Hand> {
         let mut at = 0usize;
         for hand in self.hands.as_slice() {
             if hand.worker == worker {
@@ -175,7 +176,7 @@ impl Sockets {
         if at >= self.hands.len() {
             let board = Arc::try_clone(&self.board)?;
             let watch = Arc::try_clone(&self.watch)?;
-            let hand = Hand::new(rt, self.alloc, board, watch, worker)?;
+            let hand = Hand::new(rt, self.alloc, board, watch, worker, links)?;
             self.hands.push(hand)?;
         }
         match self.hands.get_mut(at) {
@@ -196,8 +197,10 @@ impl Sockets {
         let (socket, number) = self.listener(rt, listen)?;
         self.board.listen(worker as usize, number);
         let alloc = self.alloc;
-        let hand = self.hand(rt, worker)?;
-        if number > 0 {
+        let is_http = number > 0;
+        let links = if is_http { MOST_HTTP_LINKS } else { MOST_LINKS };
+        let hand = self.hand(rt, worker, links)?;
+        if is_http {
             hand.serve_http(alloc, &socket)?;
         }
         Ok(hand.door(socket, accept)?)
@@ -205,7 +208,7 @@ impl Sockets {
 
     fn rest<R: Net>(&mut self, rt: &R, worker: u32) -> io::Result<RealRest> {
         let alloc = self.alloc;
-        self.hand(rt, worker)?.rest(alloc)
+        self.hand(rt, worker, MOST_LINKS)?.rest(alloc)
     }
 }
 
@@ -303,7 +306,8 @@ impl<'a, R: Net> RealHouse<'a, R> {
         ensures same { self.new ≡ self.old }
         ensures new { IfOk result (λ both. both.0 ≡ record { faults = 0; waits = 0; ends = 0 }) }
     {
-        let link = self.sockets.hand(self.rt, EDGE)?.reach(self.rt, address)?;
+        let hand = self.sockets.hand(self.rt, EDGE, MOST_LINKS)?;
+        let link = hand.reach(self.rt, address)?;
         let rest = self.sockets.rest(self.rt, EDGE)?;
         Ok((link, rest))
     }

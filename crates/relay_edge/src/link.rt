@@ -3,7 +3,7 @@ ghost use Rattle.std.specs.Prelude.{◌≡◌, None};
 ghost use Rattle.relay_outside.specs.Heard.{HearStep};
 ghost use Rattle.relay_outside.specs.Said.{SayStep};
 
-use crate::cells::{CALM, READABLE, TAKEN, WRITABLE};
+use crate::cells::{CALM, READABLE, WRITABLE};
 use crate::life::{Life, STUCK};
 use crate::post::Post;
 use crate::wire::{Flushed, Wire};
@@ -70,7 +70,7 @@ impl RealLink {
         ensures { result ≡ record { faults = 0; waits = 0; ends = 0 } }
     {
         let Guest { stream, address } = guest;
-        post.cells.set(token, TAKEN | READABLE | WRITABLE);
+        post.cells.take(token);
         post.add_link();
         if let Some(seat) = post.seat(token) {
             seat.take(post.alloc, address, post.now());

@@ -45,14 +45,16 @@ pub struct Post {
 }
 
 impl Post {
+    /// Creates the post of a worker of at most `links` links.
     pub fn new(
         alloc: Global,
         board: Arc<Board, Global>,
         watch: Arc<Watch, Global>,
         worker: usize,
+        links: usize,
     ) -> Result<Arc<Post, Global>, AllocError> {
-        let cells = Cells::new(alloc)?;
-        let seats = Arc::new(alloc, Seats::new(alloc)?)?;
+        let cells = Cells::new(alloc, links)?;
+        let seats = Arc::new(alloc, Seats::new(alloc, links)?)?;
         watch.join(worker, Arc::try_clone(&seats)?);
         let post = Post {
             alloc,

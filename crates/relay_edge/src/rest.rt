@@ -319,8 +319,8 @@ impl RealRest {
         }
     }
 
-    // Returns the next wait in milliseconds, at most until kept bytes are due. It is short if the door has left a connection to a worker that
-    // hasn't looked yet, or if the server stops.
+    // Returns the next wait in milliseconds, at most until kept bytes are due. It is short if the door has left
+    // a connection to a worker that hasn't looked yet, or if the server stops.
     fn next_wait(&self) -> u64 {
         let most = match self.post.cells.take_due() {
             Some(due) => self

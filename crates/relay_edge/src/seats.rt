@@ -1,6 +1,6 @@
 //! The state and the activity of a worker's links, as `relay stats` shows them.
 
-use crate::cells::LAST_TOKEN;
+use crate::cells::last_token;
 use crate::client::Client;
 use std::alloc::{AllocError, Global};
 use std::fmt;
@@ -327,9 +327,10 @@ pub struct Seats {
 }
 
 impl Seats {
-    pub fn new(alloc: Global) -> Result<Seats, AllocError> {
+    /// Creates the seats of a worker of at most `links` links.
+    pub fn new(alloc: Global, links: usize) -> Result<Seats, AllocError> {
         let mut list = Vec::new(alloc);
-        for _ in 0..=LAST_TOKEN {
+        for _ in 0..=last_token(links) {
             if list.push(Seat::new(alloc)).is_err() {
                 return Err(AllocError);
             }

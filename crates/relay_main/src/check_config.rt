@@ -7,7 +7,8 @@ use crate::{BAD_INPUT, NO_MEMORY, READ_FAULT, status, tell, tell_fault};
 use key_guard::Grants;
 use relay_base::Status;
 use relay_config::{
-    Config, ConfigFail, Key, OpenRule, PlaceRule, http_workers, read_config, report, sum, sum_of,
+    Config, ConfigFail, Key, OpenRule, PlaceRule, http_room, http_workers, player_links,
+    players_sum, read_config, report, session_links, sum, sum_of,
 };
 use relay_edge::Shown;
 use std::alloc::{AllocError, Global};
@@ -53,6 +54,7 @@ fn range(key: Key) -> &'static str {
         Key::RingItems => "16 to 65536",
         Key::Players => "4 to 256",
         Key::Window => "1000 to 2147483647",
+        Key::HttpLinks => "1 to 1024",
         Key::Names => "1 to 64, and at most 64 with all streams and other names",
         Key::App | Key::Name => "1 to 64 ASCII letters, digits, '.', '_' or '-'",
         Key::Publish | Key::Play => {
@@ -110,6 +112,9 @@ impl Display for Wrong<'_> {
             ConfigFail::Unknown { key } => write!(f, "unknown key {}", shown(key.as_slice())),
             ConfigFail::Missing { key: Key::Stream } => {
                 f.write_str("there is neither a [[stream]] nor an [[open]]")
+            }
+            ConfigFail::Missing { key: Key::Http } => {
+                f.write_str("there is http_links, but no http")
             }
             ConfigFail::Missing { key } => write!(f, "{} is missing", key.name()),
             ConfigFail::Range { key } => write!(f, "{} must be {}", key.name(), range(*key)),
@@ -212,8 +217,18 @@ fn names_of(config: &Config) -> u32 {
 
 /// Returns the number of links of all workers, with that of HTTP players.
 pub fn all_links(config: &Config) -> u32 {
-    let workers = config.workers.saturating_add(http_workers(config));
-    workers.saturating_mul(config.links)
+    let players = http_workers(config).saturating_mul(http_room(config));
+    config
+        .workers
+        .saturating_mul(config.links)
+        .saturating_add(players)
+}
+
+// Returns the most bytes that all links hold at once.
+fn links_sum(config: &Config) -> u64 {
+    let limits = &config.limits;
+    let sessions = sum_of(limits, 0, 0, session_links(config), 0);
+    sessions.saturating_add(players_sum(limits, player_links(config)))
 }
 
 // Returns the summary of a configuration.
@@ -225,8 +240,9 @@ fn show(alloc: Global, config: &Config, sums: &Sums) -> Result<String, AllocErro
     )?;
     if let Some(http) = &config.http {
         let line = format!(in alloc;
-            "would listen on {} for HTTP players: 1 worker more\n",
-            shown(http.as_slice())
+            "would listen on {} for HTTP players: 1 worker more, links {}\n",
+            shown(http.as_slice()),
+            http_room(config)
         )?;
         text.push_str(&line)?;
     }
@@ -293,7 +309,7 @@ pub fn command<R: Eprint + Files<File = File>>(host: &HostRuntime, rt: &R, name:
             let sums = Sums {
                 all: sum(&config),
                 streams: sum_of(limits, config.places.len() as u32, names_of(&config), 0, 0),
-                links: sum_of(limits, 0, 0, all_links(&config), 0),
+                links: links_sum(&config),
             };
             match show(alloc, &config, &sums) {
                 Ok(text) => tell(host, &text),

@@ -89,7 +89,7 @@ module _ (config : Config) (streams : ℕ → Shape) (h k : Histories) where
   -- from what the worker tells at its end
   pub balanced_from : (streams' : ℕ → Shape) (t : Terms) (door : DoorTold) (refused worn : Bool)
       → Settled (granted_from 0 config.places config.opens) t streams' h door refused worn → refused ≡ false → streams' ≡ streams → Later h k
-      → t.limits ≡ config.limits → t.links ≡ config.links → IsBalancedHttp config streams k worn door
+      → t.limits ≡ config.limits → t.links ≡ http_room config → IsBalancedHttp config streams k worn door
   balanced_from streams' t door refused worn s r same l m links =
       let desk = granted_from 0 config.places config.opens in
       record {

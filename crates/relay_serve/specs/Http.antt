@@ -1,6 +1,7 @@
 -- The worker of HTTP players, and its door
 use Rattle.std.specs.Prelude.{◌≡◌, ℕ, Bool, false, List, [], ◌∷◌, Option, None, Some}
 use Rattle.std.specs.List.{range_with_len}
+use Rattle.relay_config.specs.Sum.{http_room}
 use Rattle.relay_config.specs.declared.config.Config.{Config}
 use Rattle.relay_outside.specs.Doors.{DoorTold}
 use Rattle.relay_outside.specs.Houses.{Asked, Shut, shut_door}
@@ -26,12 +27,12 @@ doors_at (Some at) = at ∷ []
 abbrev pub http_doors : Config → List (List ℕ)
 http_doors config = doors_at config.http
 
--- A WORKER OF HTTP PLAYERS: it has the configured limits and as many link places as are configured, and its
--- books are kept
+-- A WORKER OF HTTP PLAYERS: it has the configured limits and as many link places as are configured for them, and
+-- its books are kept
 pub record IsServingHttp (config : Config) {D L : Type 0} (links : L → Option LinkTold) (counts : L → LinkCounts) (doors : D → DoorTold)
     (w : WorkerState Streams D (PassKnown Site Attempt) L) : Type 0 where
   pub limited : w.terms.limits ≡ config.limits
-  pub links_are : w.terms.links ≡ config.links
+  pub links_are : w.terms.links ≡ http_room config
   pub books : HasBooks shared_rules (λ s. told_at s.roots) (λ p. told p.seen) links counts doors (granted_from 0 config.places config.opens) w
 
 -- its door was asked for so: at that address, under the number behind those of the other workers, and to
@@ -53,7 +54,7 @@ module _ (config : Config) (streams : ℕ → Shape) (histories : Histories) (wo
   pub record IsBalancedHttp (door : DoorTold) : Type 0 where
     pub terms : Terms
     pub limited : terms.limits ≡ config.limits
-    pub links_are : terms.links ≡ config.links
+    pub links_are : terms.links ≡ http_room config
     pub settled : Settled (granted_from 0 config.places config.opens) terms streams histories door false worn
 
   -- what a house tells of it

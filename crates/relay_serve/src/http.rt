@@ -16,7 +16,7 @@ ghost use Rattle.stream_registry.specs.SharedState.{shared_rules};
 
 use crate::starting::OpenFail;
 use http_worker::HttpWorker;
-use relay_config::Config;
+use relay_config::{Config, http_room};
 use relay_outside::{Door, House, Rest};
 use std::alloc::Global;
 use stream_registry::{PlaceTable, Shared};
@@ -46,7 +46,8 @@ fn open_at<H: House>(
     let Some(rest) = house.rest(number) else {
         return Err(OpenFail::HouseFault);
     };
-    let Ok(worker) = HttpWorker::new(alloc, config.links, config.limits, port, door, rest) else {
+    let links = http_room(config);
+    let Ok(worker) = HttpWorker::new(alloc, links, config.limits, port, door, rest) else {
         return Err(OpenFail::OutOfMemory);
     };
     Ok(worker)
