@@ -66,6 +66,7 @@ balanced_worn config streams h worn more less worker door b =
       settled = record {
         accounts = s.accounts;
         back_is = s.back_is;
+        telling = s.telling;
         accounted = s.accounted;
         named = s.named;
         apart = s.apart;

@@ -17,6 +17,7 @@ use Rattle.relay_outside.specs.declared.door.Knock.TheVariants as knock
 use Rattle.relay_outside.specs.declared.link.Said.{Said}
 use Rattle.media_recorder.specs.declared.turn.RecTurn.{RecTurn}
 use Rattle.session_owed.specs.Owed.{count_of, out}
+use Rattle.ack_window.specs.Outbound.{new_out}
 use Rattle.session_owed.specs.Standing.{Past}
 use Rattle.session_owed.specs.Talk.{Own, hand_bytes}
 use Rattle.session_owed.specs.Talks.{Talks}
@@ -37,7 +38,7 @@ use Rattle.relay_session.specs.Session.{session}
 use Rattle.relay_session.specs.SeatState.{AllMade, GoOn, IsActive, IsGranted, IsMade, IsNoted, KeptMade, KeptOrMade, LastMade, LeavesFrom, Leaves, Makes, SeatState, active_at, active_then, is_over, known, last_of, left_at, place_of, stays}
 use Rattle.relay_session.specs.SeatVisits.{AllStand, Visit, calls_at, calls_of}
 use Rattle.relay_session.specs.SessionState.{SessionState, StandsBy, end_or_quit, ended_by, gone_but_kept, life_at}
-use Rattle.relay_session.specs.Turns.{Gone}
+use Rattle.relay_session.specs.Turns.{EndedBy, Gone}
 use Rattle.relay_session.specs.declared.core_fields.Core.{Core}
 use Rattle.relay_session.specs.declared.end.End.{End}
 use Rattle.relay_session.specs.declared.end.End.TheVariants as end
@@ -52,20 +53,23 @@ use Rattle.relay_session.specs.declared.turn.Turn.TheVariants as turn
 use Rattle.relay_session.proofs.Acting.{granted_at}
 use Rattle.relay_session.proofs.SeatStanding.{active_more, all_later, all_more, begins_same, others_later}
 use Rattle.relay_worker.specs.Benches.{IsNamed, IsSound, WorkerState}
-use Rattle.relay_worker.specs.Books.{Account, Accounted, HasGone, HasStopped, IsCause, IsEndedBy, IsParting, IsBackAfter, IsWaited, LeavesBy, Lives, Owns, OwesBy, Settled, TiesBy, WaitsOrMade, Works}
+use Rattle.relay_worker.specs.Books.{Account, Accounted, HasGone, HasStopped, IsCause, IsEndedBy, IsParting, IsBackAfter, IsWaited, LeavesBy, Lives, Owns, OwesBy, RunsBy, Settled, TiesBy, WaitsOrMade, Works}
 use Rattle.relay_worker.specs.Rounds.{Admits, AdmitsIf, ClosesAt, ClosesBy, ClosesIf, GoesIf, IsAdmitted, IsGone, IsLeft, IsTurned, Recorded, RecordsAt, RecordsIf, Rounds, TurnsAt, TurnsBy, TurnsIf, Walks, asks_door, begun, has_left}
 use Rattle.relay_worker.specs.Running.{IsReadied}
+use Rattle.relay_worker.specs.Turned.{Asks as WireAsks, Hears as WireHears, Says as WireSays}
+use Rattle.relay_worker.specs.Turned.{Alive, ComesBy, HasRunOut, IsRunning, TakesOne, Wire, alive, wire}
 use Rattle.relay_worker.specs.Sessions.{Closes, IsNewSession, TakesTurn, is_spent, is_worn, lacks_memory, wears_out}
 use Rattle.relay_worker.specs.declared.bench.Bench.{Bench}
 use Rattle.relay_worker.specs.declared.bench.Seated.{Seated}
 use Rattle.relay_worker.specs.declared.bench.Terms.{Terms}
 use Rattle.relay_worker.specs.declared.recorder.Recorder.{Recorder}
 use Rattle.relay_worker.specs.declared.round.Round.{Round}
+use Rattle.relay_worker.proofs.Mapping.{mapped}
 use Rattle.relay_worker.proofs.Moving.{moves_turned}
 use Rattle.relay_worker.proofs.Numbered.{each_none, each_push}
 use Rattle.relay_worker.proofs.Slabs.{gone_cases, put_cases}
 use Rattle.relay_worker.proofs.Sounding.{Single, named_more, single_gone, single_more, single_put}
-use Rattle.relay_worker.proofs.Turning.{Deciding, Tied, leaves}
+use Rattle.relay_worker.proofs.Turning.{Deciding, Firmly, Tied, leaves}
 
 -- ---- what it asks for
 
@@ -350,6 +354,25 @@ is_told_of Decided (Some t) counts e x sent k =
     let p = k.told_is t refl in
     record { fed = subst (Begins x) (sym p.0) k.fed; cause = subst (λ (y : List ℕ). IsCause Decided counts y (length x) e) (sym p.0) k.cause; took = p.1 }
 
+-- whether it told them
+tells_of : Option LinkTold → Bool
+tells_of None = false
+tells_of (Some t) = true
+
+-- so the door tells it
+returned_of : (o : Option LinkTold) (counts : LinkCounts) (gave sent : List ℕ) → tells_of o ≡ true → returned o counts ≡ Some (told_of o counts gave sent)
+unfolding told_of tells_of
+returned_of None counts gave sent e = absurd (let n : false ≡ true = e in cc)
+returned_of (Some t) counts gave sent e = refl
+
+-- a door that tells the links it has back was given none that doesn't tell
+one_telling : (back : Option (List Returned)) (o : Option LinkTold) (counts : LinkCounts) (accounts : List Account) (a : Account) → a.tells ≡ tells_of o
+    → ((list : List Returned) → back ≡ Some list → All (λ (b : Account). b.tells ≡ true) accounts) → (list : List Returned) → with_one back (returned o counts) ≡ Some list → All (λ (b : Account). b.tells ≡ true) (accounts ++ a ∷ [])
+unfolding tells_of
+one_telling None o counts accounts a tells was list is = absurd (let n : None ≡ Some list = is in cc)
+one_telling (Some xs) None counts accounts a tells was list is = absurd (let n : None ≡ Some list = is in cc)
+one_telling (Some xs) (Some t) counts accounts a tells was list is = All-push (λ (b : Account). b.tells ≡ true) accounts a (was xs refl) tells
+
 -- the door has one link more back
 one_back : (back : Option (List Returned)) (o : Option LinkTold) (counts : LinkCounts) (x sent : List ℕ) (accounts : List Account) (a : Account) → a.link ≡ told_of o counts x sent
     → ((list : List Returned) → back ≡ Some list → list ≡ map (λ (b : Account). b.link) accounts) → (list : List Returned) → with_one back (returned o counts) ≡ Some list → list ≡ map (λ (b : Account). b.link) (accounts ++ a ∷ [])
@@ -361,15 +384,48 @@ one_back (Some xs) (Some t) counts x sent accounts a link was list is =
     let same : xs ++ r ∷ [] ≡ list = let n : Some (xs ++ r ∷ []) ≡ Some list = is in cc in
     sym same ∙ (ap (λ (l : List Returned). l ++ r ∷ []) (was xs refl) ∙ (ap (λ (b : Returned). map (λ (c : Account). c.link) accounts ++ b ∷ []) (sym link) ∙ sym (map_push (λ (c : Account). c.link) accounts a)))
 
+-- ---- how it came there
+
+abbrev Comes : (Ask → Grant) → Option End → Core → List Visit → List ℕ → Wire → Type 0
+Comes desk o c visits input l = ComesBy desk c.who c.window c.reader.max o (alive c input visits) l
+
+runs_by : (told : Option LinkTold) (counts : LinkCounts) (desk : Ask → Grant) (o : Option End) (c : Core) (visits : List Visit) (input : List ℕ) → Comes desk o c visits input (wire told counts) → RunsBy told counts desk o c input visits
+runs_by told counts desk None c visits input r = r
+runs_by told counts desk (Some e) c visits input r = tt
+
+runs_living : (told : Option LinkTold) (counts : LinkCounts) (desk : Ask → Grant) (o : Option End) (c : Core) (visits : List Visit) (input : List ℕ) → o ≡ None → RunsBy told counts desk o c input visits
+    → IsRunning desk c.who c.window c.reader.max (alive c input visits) (wire told counts)
+runs_living told counts desk None c visits input n r = r
+runs_living told counts desk (Some e) c visits input n r = absurd (let f : Some e ≡ None = n in cc)
+
+-- by one turn more
+comes_turned : (desk : Ask → Grant) (who window max : ℕ) (v : Alive) (l : Wire) (a : Turn) (w : Alive) (m : Wire) → IsRunning desk who window max v l → TakesOne desk v l a w m → ComesBy desk who window max (ended_by a) w m
+comes_turned desk who window max v l turn.Moved w m r t = record { first = r.first; first_link = r.first_link; fresh = r.fresh; turns = turn.Moved ∷ r.turns; ran = (v, (l, (r.ran, refl, t))) }
+comes_turned desk who window max v l turn.Idle w m r t = record { first = r.first; first_link = r.first_link; fresh = r.fresh; turns = turn.Idle ∷ r.turns; ran = (v, (l, (r.ran, refl, t))) }
+comes_turned desk who window max v l (turn.Ended e) w m r t = record { before = v; before_link = l; running = r; last = t }
+
+-- a turn keeps its name and its limits
+comes_firm : (desk : Ask → Grant) (c d : Core) (o : Option End) (w : Alive) (m : Wire) → Firmly c d → ComesBy desk c.who c.window c.reader.max o w m → ComesBy desk d.who d.window d.reader.max o w m
+comes_firm desk c d o w m f k =
+    subst (λ (n : ℕ). ComesBy desk n d.window d.reader.max o w m) (sym f.who)
+    (subst (λ (n : ℕ). ComesBy desk c.who n d.reader.max o w m) (sym f.window) (subst (λ (n : ℕ). ComesBy desk c.who c.window n o w m) (sym f.max) k))
+
+-- one that lives, and wasn't told to end
+unquit : (desk : Ask → Grant) (o : Option End) (q : Bool) (v : Alive) (l : Wire) (a : Turn) (w : Alive) (m : Wire) → o ≡ None → q ≡ false → EndedBy WireAsks desk WireHears WireSays o q v l a w m → TakesOne desk v l a w m
+unquit desk None false v l a w m n q t = t
+unquit desk None true v l a w m n q t = absurd (let f : true ≡ false = q in cc)
+unquit desk (Some e) q v l a w m n p t = absurd (let f : Some e ≡ None = n in cc)
+
 -- ---- what a session has sent
 
 owes_by : (told : Option LinkTold) (counts : LinkCounts) (desk : Ask → Grant) (o : Option End) (c : Core) (visits : List Visit) (input : List ℕ) → calls_of visits ≡ c.calls → StandsBy o desk c → Tied desk o told counts c input
-    → OwesBy told counts desk o c visits
-owes_by told counts desk None c visits input e s t = (s, e)
-owes_by told counts desk (Some q) c visits input e s t = record {
+    → Comes desk o c visits input (wire told counts) → OwesBy told counts desk o c visits
+owes_by told counts desk None c visits input e s t r = (s, e)
+owes_by told counts desk (Some q) c visits input e s t r = record {
   waited = c.kept;
   gone = record {
     sent = record { ms = s.ms; read = s.read; talks = s.talks; owed = (s.more, s.owes) };
+    ran = record { last = alive c input visits; came = r; gone = refl; waits = refl };
     ending = record { y = t.y; fed = t.fed; cause = t.cause s; told_is = t.told_is };
   };
   left = [];
@@ -442,6 +498,7 @@ module _ {P Q L : Type 0} (rules : P → PortRules) (root : P → Histories) (se
     window = w.window;
     max = w.max;
     owes = w.owes;
+    runs = w.runs;
     calls = calls_on rules root seen x y s.session.seat same g w.calls;
     acts = w.acts;
     own = w.own;
@@ -456,6 +513,7 @@ module _ {P Q L : Type 0} (rules : P → PortRules) (root : P → Histories) (se
     window = w.window;
     max = w.max;
     owes = w.owes;
+    runs = w.runs;
     calls = w.calls;
     acts = w.acts;
     own = w.own;
@@ -474,6 +532,22 @@ module _ {P Q L : Type 0} (rules : P → PortRules) (root : P → Histories) (se
         max = n.max;
         owes = subst (λ (o : Option End). OwesBy (told s.link) (counts s.link) desk o s.session.parts s.session.seat.visits) (sym n.lives)
             (subst (λ (o : Option End). StandsBy o desk s.session.parts) n.lives stands, ap calls_of none ∙ sym (ap (λ (p : Past). p.calls) n.past));
+        runs = subst (λ (o : Option End). RunsBy (told s.link) (counts s.link) desk o s.session.parts s.session.input s.session.seat.visits) (sym n.lives) (record {
+          first = alive s.session.parts s.session.input s.session.seat.visits;
+          first_link = wire (told s.link) (counts s.link);
+          fresh = record {
+            named = refl;
+            window_is = refl;
+            max_is = refl;
+            past = n.past;
+            outbound = n.outbound ∙ ap new_out (sym n.window);
+            outgoing = n.outgoing;
+            blank = (n.input, none, n.nowhere.2);
+            link = l;
+          };
+          turns = [];
+          ran = (refl, refl);
+        });
         calls = subst (λ (v : List Visit). AllStand (rules x).limits (known root seen x s.session.seat) v) (sym none) (record { at_each = λ q. tt });
         acts = n.acts;
         own = record {
@@ -506,11 +580,24 @@ module _ {P Q L : Type 0} (rules : P → PortRules) (root : P → Histories) (se
         let tied : Tied desk s'.session.ended (told s'.link) (counts s'.link) s'.session.parts s'.session.input =
         subst (λ (o : Option End). Tied desk o (told s'.link) (counts s'.link) s'.session.parts s'.session.input) (sym u.ended)
         (l.ties (w.unasked n) (subst (λ (o : Option End). TiesBy o (told s.link) s.session.parts.x s.session.input s.session.parts.sent) n w.ties)) in
+        let before = alive s.session.parts s.session.input s.session.seat.visits in
+        let after = alive s'.session.parts s'.session.input s'.session.seat.visits in
+        let before_link = wire (told s.link) (counts s.link) in
+        let after_link = wire (told s'.link) (counts s'.link) in
+        let step = unquit desk s.session.ended s.session.quit before before_link a after after_link n (w.unasked n)
+        (mapped told counts (λ (z : SeatState Q). z.visits) desk Asks (λ z v place e r z' v' k. k.asked.makes) hears hears_mean says says_mean s.session.ended s.session.quit
+        (life_at s.session x) s.link a (life_at s'.session y) s'.link u.turn) in
+        let came : Comes desk s'.session.ended s'.session.parts s'.session.seat.visits s'.session.input after_link =
+        subst (λ (o : Option End). Comes desk o s'.session.parts s'.session.seat.visits s'.session.input after_link) (sym u.ended)
+        (comes_firm desk s.session.parts s'.session.parts (ended_by a) after after_link l.firm
+        (comes_turned desk s.session.parts.who s.session.parts.window s.session.parts.reader.max before before_link a after after_link
+        (runs_living (told s.link) (counts s.link) desk s.session.ended s.session.parts s.session.seat.visits s.session.input n w.runs) step)) in
         record {
           window = l.firm.window ∙ w.window;
           max = l.firm.max ∙ w.max;
           owes = owes_by (told s'.link) (counts s'.link) desk s'.session.ended s'.session.parts s'.session.seat.visits s'.session.input (sym u.calls)
-              (u.stands stood) tied;
+              (u.stands stood) tied came;
+          runs = runs_by (told s'.link) (counts s'.link) desk s'.session.ended s'.session.parts s'.session.seat.visits s'.session.input came;
           calls = h.calls;
           acts = u.acts stood w.acts;
           own = l.owns w.own;
@@ -563,6 +650,7 @@ module _ {P Q L : Type 0} (rules : P → PortRules) (root : P → Histories) (se
       max = l.max;
       owes = subst (λ (o : Option End). OwesBy (told s'.link) (counts s'.link) desk o s'.session.parts s'.session.seat.visits) (sym is)
           (record { waited = l.waited; gone = l.gone; left = l.calls.left; calls_are = l.calls.calls_are; leaving = l.calls.leaving });
+      runs = subst (λ (o : Option End). RunsBy (told s'.link) (counts s'.link) desk o s'.session.parts s'.session.input s'.session.seat.visits) (sym is) tt;
       calls = l.stand;
       acts = subst (λ (o : Option End). ActsBy o s'.session.parts s'.session.seat) (sym is) l.acts;
       own = l.own;
@@ -572,7 +660,7 @@ module _ {P Q L : Type 0} (rules : P → PortRules) (root : P → Histories) (se
     }
 
     abbrev account_of : End → List ℕ → SessionState Q → L → Account
-    account_of e y now link = record { who = now.parts.who; end = e; link = told_of (told link) (counts link) y now.parts.sent }
+    account_of e y now link = record { who = now.parts.who; end = e; link = told_of (told link) (counts link) y now.parts.sent; tells = tells_of (told link) }
 
     -- it has left, and this is its account
     accounted_of : (y : P) (e : End) (accounts : List Account) (link : L) (now : SessionState Q) → now.seat.spot ≡ None → (l : IsLeaving true y e accounts link now) → Accounted desk t (rules y).limits (root y) (account_of e l.gone.ending.y now link)
@@ -601,6 +689,18 @@ module _ {P Q L : Type 0} (rules : P → PortRules) (root : P → Histories) (se
               (subst (λ (k : ℕ). Begins now.parts.sent (out (session now.parts.who k desk) now.parts.x sent.ms now.parts.calls)) l.window sent.owed);
           cause = subst (λ (m : ℕ). IsCause (by t.limits.window m) link_is.counts link_is.gave (length now.parts.x) e) l.max
               (subst (λ (k : ℕ). IsCause (by k now.parts.reader.max) link_is.counts link_is.gave (length now.parts.x) e) l.window i.cause);
+          ran = λ tells.
+              let r = l.gone.ran in
+              record {
+                last = r.last;
+                link = wire (told link) (counts link);
+                came = subst (λ (m : ℕ). HasRunOut desk now.parts.who t.limits.window m e r.last (wire (told link) (counts link))) l.max
+                    (subst (λ (k : ℕ). HasRunOut desk now.parts.who k now.parts.reader.max e r.last (wire (told link) (counts link))) l.window r.came);
+                fed = ap (λ (g : Gone). g.x) r.gone;
+                called = ap (λ (g : Gone). g.calls) r.gone;
+                waits = r.waits;
+                told = returned_of (told link) (counts link) l.gone.ending.y now.parts.sent tells;
+              };
         }
 
 accounted_on : (desk : Ask → Grant) (t : Terms) (limits limits' : ℕ → Shape) (h h' : Histories) (a : Account) → limits' ≡ limits → GoOn h h' → Accounted desk t limits h a → Accounted desk t limits' h' a
@@ -621,6 +721,7 @@ accounted_on desk t limits limits' h h' a same g w = record {
   left_by = w.left_by;
   owed = w.owed;
   cause = w.cause;
+  ran = w.ran;
 }
 
 -- what is left of the books, where the histories went on
@@ -628,6 +729,7 @@ pub settled_later : (desk : Ask → Grant) (t : Terms) (limits : ℕ → Shape) 
 settled_later desk t limits h h' door refused worn g w = record {
   accounts = w.accounts;
   back_is = w.back_is;
+  telling = w.telling;
   accounted = λ i d le. accounted_on desk t limits limits h h' (get_or w.accounts i d) refl g (w.accounted i d le);
   named = w.named;
   apart = w.apart;
@@ -661,6 +763,7 @@ module _ {P D Q L : Type 0} (rules : P → PortRules) (root : P → Histories) (
         works = record {
           accounts = w.accounts;
           back_is = λ list is. w.back_is list (sym back ∙ is);
+          telling = λ list is. w.telling list (sym back ∙ is);
           accounted = all_on desk t (rules b.port) (rules b'.port) (root b.port) (root b'.port) w.accounts fixed g w.accounted;
           named = subst (λ (n : ℕ). All (λ (a : Account). IsNamed t.number n a.who) w.accounts) (sym had) w.named;
           apart = w.apart;
@@ -687,6 +790,7 @@ module _ {P D Q L : Type 0} (rules : P → PortRules) (root : P → Histories) (
         works = record {
           accounts = w.accounts;
           back_is = λ list is. w.back_is list (sym back ∙ is);
+          telling = λ list is. w.telling list (sym back ∙ is);
           accounted = subst (λ (p : P). All (Accounted desk t (rules p).limits (root p)) w.accounts) (sym port) w.accounted;
           named = λ i d le. subst (λ (m : ℕ). IsNamed t.number m (get_or w.accounts i d).who) (sym had) (named_more t.number b.had (get_or w.accounts i d).who (w.named i d le));
           apart = w.apart;
@@ -728,6 +832,7 @@ module _ {P D Q L : Type 0} (rules : P → PortRules) (root : P → Histories) (
         works = record {
           accounts = w.accounts;
           back_is = λ list is. w.back_is list (sym back ∙ is);
+          telling = λ list is. w.telling list (sym back ∙ is);
           accounted = all_on desk t (rules b.port) (rules b'.port) (root b.port) (root b'.port) w.accounts fixed g w.accounted;
           named = subst (λ (n : ℕ). All (λ (a : Account). IsNamed t.number n a.who) w.accounts) (sym had) w.named;
           apart = w.apart;
@@ -781,6 +886,7 @@ module _ {P D Q L : Type 0} (rules : P → PortRules) (root : P → Histories) (
           works = record {
             accounts = w.accounts;
             back_is = λ list is. w.back_is list (sym back ∙ is);
+            telling = λ list is. w.telling list (sym back ∙ is);
             accounted = all_on desk t (rules b.port) (rules b'.port) (root b.port) (root b'.port) w.accounts fixed g w.accounted;
             named = subst (λ (n : ℕ). All (λ (a : Account). IsNamed t.number n a.who) w.accounts) (sym had) w.named;
             apart = w.apart;
@@ -798,16 +904,17 @@ module _ {P D Q L : Type 0} (rules : P → PortRules) (root : P → Histories) (
         }
 
     -- its link is handed back, and this is its account
-    kept_back : (a : Account) (x sent : List ℕ) → a.who ≡ s.session.parts.who → a.link ≡ told_of (told s.link) (counts s.link) x sent → Accounted desk t (rules b'.port).limits (root b'.port) a → slab_len b'.sessions + 1 ≡ slab_len b.sessions
+    kept_back : (a : Account) (x sent : List ℕ) → a.who ≡ s.session.parts.who → a.link ≡ told_of (told s.link) (counts s.link) x sent → a.tells ≡ tells_of (told s.link) → Accounted desk t (rules b'.port).limits (root b'.port) a → slab_len b'.sessions + 1 ≡ slab_len b.sessions
         → (doors b'.door).back ≡ with_one (doors b.door).back (returned (told s.link) (counts s.link)) → (b'.refused ≡ false → b.refused ≡ false) → All (λ (c : Account). c.who ≢ a.who) k.works.accounts
         → s.session.ended ≡ Some a.end → Kept b'
-    kept_back a x sent who link good len back spared fresh ended =
+    kept_back a x sent who link tells good len back spared fresh ended =
         let w = k.works in
         let name : IsNamed t.number b.had a.who = subst (IsNamed t.number b.had) (sym who) (k.named key s here) in
         record {
           works = record {
             accounts = w.accounts ++ a ∷ [];
             back_is = λ list is. one_back (doors b.door).back (told s.link) (counts s.link) x sent w.accounts a link w.back_is list (sym back ∙ is);
+            telling = λ list is. one_telling (doors b.door).back (told s.link) (counts s.link) w.accounts a tells w.telling list (sym back ∙ is);
             accounted = All-push (Accounted desk t (rules b'.port).limits (root b'.port)) w.accounts a (all_on desk t (rules b.port) (rules b'.port) (root b.port) (root b'.port) w.accounts fixed g w.accounted) good;
             named = subst (λ (n : ℕ). All (λ (c : Account). IsNamed t.number n c.who) (w.accounts ++ a ∷ [])) (sym had) (All-push (λ (c : Account). IsNamed t.number b.had c.who) w.accounts a w.named name);
             apart = all_pairs_push (λ (c d : Account). c.who ≢ d.who) w.accounts a w.apart (λ i d le. fresh i d le);
@@ -832,6 +939,7 @@ module _ {P D Q L : Type 0} (rules : P → PortRules) (root : P → Histories) (
   first_books b d empty had = record {
     accounts = [];
     back_is = λ list is. d.blank list is;
+    telling = λ list is i x le. absurd (omega (arith, le));
     accounted = λ i x le. absurd (omega (arith, le));
     named = λ i x le. absurd (omega (arith, le));
     apart = λ i j x lt le. absurd (omega (arith, le));
@@ -849,6 +957,7 @@ module _ {P D Q L : Type 0} (rules : P → PortRules) (root : P → Histories) (
   settles fits b s none w = record {
     accounts = w.accounts;
     back_is = w.back_is;
+    telling = w.telling;
     accounted = w.accounted;
     named = subst (λ (n : ℕ). All (λ (a : Account). IsNamed t.number n a.who) w.accounts) (sym s.given) w.named;
     apart = w.apart;
@@ -926,8 +1035,8 @@ module _ {P D Q L : Type 0} (rules : P → PortRules) (root : P → Histories) (
         (leaving_of rules root seen told counts desk t fits count wants busies adds kin branches b.port b'.port e w.accounts s answer now n c (w.lives key s here)) in
         let away = nowhere now.seat.spot (c.spot ∙ left_nowhere answer (place_of s.session.seat.spot) left) in
         elim i.back [
-          | inl h ↦ kept_back b b' key s here i.gone c.fixed c.roots (ap (λ (x : Bench P D Q L). x.had) h.1) (ap (λ (x : Bench P D Q L). x.worn) h.1) k (record { who = now.parts.who; end = e; link = told_of (told s.link) (counts s.link) l.gone.ending.y now.parts.sent }) l.gone.ending.y now.parts.sent
-              (ap (λ (g : Gone). g.who) (ap gone_but_kept c.parts)) refl (accounted_of rules root seen told counts desk t fits count wants busies adds kin branches b'.port e w.accounts s.link now away l) i.count (ap (λ (x : DoorTold). x.back) h.0)
+          | inl h ↦ kept_back b b' key s here i.gone c.fixed c.roots (ap (λ (x : Bench P D Q L). x.had) h.1) (ap (λ (x : Bench P D Q L). x.worn) h.1) k (record { who = now.parts.who; end = e; link = told_of (told s.link) (counts s.link) l.gone.ending.y now.parts.sent; tells = tells_of (told s.link) }) l.gone.ending.y now.parts.sent
+              (ap (λ (g : Gone). g.who) (ap gone_but_kept c.parts)) refl refl (accounted_of rules root seen told counts desk t fits count wants busies adds kin branches b'.port e w.accounts s.link now away l) i.count (ap (λ (x : DoorTold). x.back) h.0)
               (λ r. sym (ap (λ (x : Bench P D Q L). x.refused) h.1) ∙ r) l.fresh n
           | inr h ↦ kept_dropped b b' key s here i.gone c.fixed c.roots (ap (λ (x : Bench P D Q L). x.had) h.1) (ap (λ (x : Bench P D Q L). x.worn) h.1) k (ap (λ (x : DoorTold). x.back) h.0) (ap (λ (x : Bench P D Q L). x.refused) h.1)
         ]

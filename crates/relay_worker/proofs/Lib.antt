@@ -1,6 +1,7 @@
 pub mod Booking
 pub mod Coming
 pub mod Crossing
+pub mod Mapping
 pub mod Moving
 pub mod Numbered
 pub mod Publishing

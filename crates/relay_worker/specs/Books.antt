@@ -1,5 +1,5 @@
 -- WHAT A WORKER'S BOOKS SAY: of each link that was handed back, and of each session that is there
-use Rattle.std.specs.Prelude.{◌≡◌, ◌≢◌, ◌⊎◌, ◌<◌, ◌+◌, ℕ, Bool, false, List, [], ◌∷◌, ◌++◌, length, drop, map, Option, Some, None, All, AllPairs}
+use Rattle.std.specs.Prelude.{◌≡◌, ◌≢◌, ◌⊎◌, ◌<◌, ◌+◌, ℕ, Bool, true, false, List, [], ◌∷◌, ◌++◌, length, drop, map, Option, Some, None, All, AllPairs}
 use Rattle.slab.specs.Slab.{get, slab_len}
 use Rattle.chunk_reader.specs.Sound.{IsRead}
 use Rattle.chunk_wire.specs.declared.message.Message.{Message}
@@ -32,6 +32,7 @@ use Rattle.relay_session.specs.declared.end.End.{End}
 use Rattle.relay_session.specs.declared.end.End.TheVariants as end
 use Rattle.relay_worker.specs.Benches.{IsNamed, WorkerState, who_of}
 use Rattle.relay_worker.specs.Running.{EachAt}
+use Rattle.relay_worker.specs.Turned.{CameByTurns, IsRunning, RanOut, alive, wire}
 use Rattle.relay_worker.specs.declared.bench.Bench.{Bench}
 use Rattle.relay_worker.specs.declared.bench.Seated.{Seated}
 use Rattle.relay_worker.specs.declared.bench.Terms.{Terms}
@@ -101,11 +102,13 @@ WaitsOrMade waited kept calls = ((calls ≡ []) × (kept ≡ waited)) ⊎ (IsWai
 
 -- ---- a link that was handed back
 
--- the name of its session, why that has ended, and what the link told then
+-- the name of its session, why that has ended, and what the link gave and took, with its counts. Whether it
+-- told these itself
 pub record Account : Type 0 where
   pub who : ℕ
   pub end : End
   pub link : Returned
+  pub tells : Bool
 
 -- ITS SESSION was fed the first bytes that the link gave. Its calls bear its name and stand in the histories
 -- of their streams, each once and in their order, answered by the rules. At each of them it asked for nothing
@@ -131,6 +134,8 @@ pub record Accounted (desk : Ask → Grant) (t : Terms) (limits : ℕ → Shape)
   pub left_by : LeavesBy waited left
   pub owed : Begins a.link.took (out (session a.who t.limits.window desk) x ms calls)
   pub cause : IsCause (IsDecided a.who t.limits.window desk ms calls t.limits.max_message) a.link.counts a.link.gave (length x) a.end
+  -- it came there by turns, from a new session to the end
+  pub ran : a.tells ≡ true → CameByTurns desk a.who t.limits.window t.limits.max_message a.end x calls waited a.link
 
 -- LINKS THAT WERE OUT AT A TIME: so many had come back when one did whose session has this name. By its name
 -- it came after `who - who_of t.number 0` others, and no more of them, and it, were out than the worker has link places
@@ -147,9 +152,10 @@ pub record HasSent (desk : Ask → Grant) (waited : Option Entry) (g : Gone) : T
   pub talks : Talks (session g.who g.window desk) (count_of (session g.who g.window desk) g.x) ms g.calls waited
   pub owed : Begins g.sent (out (session g.who g.window desk) g.x ms g.calls)
 
--- of one that has ended so that is all, and its link told the cause
+-- of one that has ended so that is all, its link told the cause, and it came there by turns
 pub record HasGone (told : Option LinkTold) (counts : LinkCounts) (desk : Ask → Grant) (e : End) (waited : Option Entry) (g : Gone) : Type 0 where
   pub sent : HasSent desk waited g
+  pub ran : RanOut desk e waited g (wire told counts)
   pub ending : IsEndedBy (IsDecided g.who g.window desk sent.ms g.calls g.max) e told counts g.x g.sent
 
 -- and a call that waits is made when it is closed
@@ -159,6 +165,11 @@ pub record HasStopped (told : Option LinkTold) (counts : LinkCounts) (desk : Ask
   pub left : List Own
   pub calls_are : calls_of visits ≡ c.calls ++ left
   pub leaving : WaitsOrMade waited c.kept left
+
+-- one that lives came there by turns
+abbrev pub RunsBy : Option LinkTold → LinkCounts → (Ask → Grant) → Option End → Core → List ℕ → List Visit → Type 0
+RunsBy told counts desk None c input visits = IsRunning desk c.who c.window c.reader.max (alive c input visits) (wire told counts)
+RunsBy told counts desk (Some e) c input visits = Unit {0}
 
 -- one that lives has made these calls and no other
 abbrev pub OwesBy : Option LinkTold → LinkCounts → (Ask → Grant) → Option End → Core → List Visit → Type 0
@@ -173,6 +184,7 @@ module _ {P Q L : Type 0} (rules : P → PortRules) (root : P → Histories) (se
     pub window : s.session.parts.window ≡ t.limits.window
     pub max : s.session.parts.reader.max ≡ t.limits.max_message
     pub owes : OwesBy (told s.link) (counts s.link) desk s.session.ended s.session.parts s.session.seat.visits
+    pub runs : RunsBy (told s.link) (counts s.link) desk s.session.ended s.session.parts s.session.input s.session.seat.visits
     pub calls : AllStand (rules port).limits (known root seen port s.session.seat) s.session.seat.visits
     pub acts : ActsBy s.session.ended s.session.parts s.session.seat
     pub own : Owns s.session.parts.who s.session.seat.visits s.session.parts.kept
@@ -191,6 +203,7 @@ module _ {P D Q L : Type 0} (rules : P → PortRules) (root : P → Histories) (
   pub record Works (t : Terms) (b : Bench P D Q L) : Type 0 where
     pub accounts : List Account
     pub back_is : (list : List Returned) → (doors b.door).back ≡ Some list → list ≡ map (λ a. a.link) accounts
+    pub telling : (list : List Returned) → (doors b.door).back ≡ Some list → All (λ a. a.tells ≡ true) accounts
     pub accounted : All (Accounted desk t (rules b.port).limits (root b.port)) accounts
     pub named : All (λ a. IsNamed t.number b.had a.who) accounts
     pub apart : AllPairs (λ a c. a.who ≢ c.who) accounts
@@ -218,6 +231,7 @@ pub record Settled (desk : Ask → Grant) (t : Terms) (limits : ℕ → Shape) (
     (door : DoorTold) (refused worn : Bool) : Type 0 where
   pub accounts : List Account
   pub back_is : (list : List Returned) → door.back ≡ Some list → list ≡ map (λ a. a.link) accounts
+  pub telling : (list : List Returned) → door.back ≡ Some list → All (λ a. a.tells ≡ true) accounts
   pub accounted : All (Accounted desk t limits histories) accounts
   pub named : All (λ a. IsNamed t.number door.given a.who) accounts
   pub apart : AllPairs (λ a c. a.who ≢ c.who) accounts

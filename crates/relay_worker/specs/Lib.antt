@@ -4,4 +4,5 @@ pub mod Sessions
 pub mod Rounds
 pub mod Coming
 pub mod Running
+pub mod Turned
 pub mod Books
