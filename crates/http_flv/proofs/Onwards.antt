@@ -20,12 +20,12 @@ use Rattle.http_flv.specs.declared.stage.Stage.{Stage}
 use Rattle.http_flv.specs.declared.stage.Stage.TheVariants as stage
 use Rattle.http_flv.specs.declared.turn.HttpTurn.{HttpTurn}
 
-module _ {P Q : Type 0} (fits : P → ℕ → Q → Type 0) (rules : P → PortRules) (root : P → Histories) (seen : Q → List Step) (count : Q → ℕ) (wants : Entry → Type 0) (busies : P → ℕ) where
+module _ {P Q : Type 0} (fits : P → ℕ → Q → Type 0) (rules : P → PortRules) (root : P → Histories) (seen : Q → List Step) (count : Q → ℕ) (wants : Entry → Type 0) (busies : P → ℕ)
+    (Asks : P → SeatState Q → ℕ → Entry → Made → P → SeatState Q → Type 0)
+    (tells : (p : P) (s : SeatState Q) (place : ℕ) (e : Entry) (r : Made) (q : P) (t : SeatState Q)
+        → Asks p s place e r q t → Asked fits rules root seen count wants busies p s place e r q t) where
   abbrev On : Life P (SeatState Q) → Life P (SeatState Q) → Type 0
   On v w = GoesOn fits rules root seen busies v.port v.seat w.port w.seat
-
-  abbrev Asks : P → SeatState Q → ℕ → Entry → Made → P → SeatState Q → Type 0
-  Asks = Asked fits rules root seen count wants busies
 
   pub on_refl : (v : Life P (SeatState Q)) → On v v
   on_refl v = record {
@@ -48,7 +48,9 @@ module _ {P Q : Type 0} (fits : P → ℕ → Q → Type 0) (rules : P → PortR
   }
 
   on_asked : (v w : Life P (SeatState Q)) (place : ℕ) (e : Entry) (r : Made) → Asks v.port v.seat place e r w.port w.seat → On v w
-  on_asked v w place e r a = record { knows = a.knows; stands = a.stands; roots = a.roots; fixed = a.fixed; later = a.later; passes = a.passes }
+  on_asked v w place e r a =
+      let k = tells v.port v.seat place e r w.port w.seat a in
+      record { knows = k.knows; stands = k.stands; roots = k.roots; fixed = k.fixed; later = k.later; passes = k.passes }
 
   on_ended : (e : HttpEnd) (v : Life P (SeatState Q)) (a : HttpTurn) (w : Life P (SeatState Q)) → IsEnded e v a w → On v w
   on_ended e v a w i =
