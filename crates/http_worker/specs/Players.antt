@@ -80,8 +80,8 @@ module _ {P Q : Type 0} (fits : P → ℕ → Q → Type 0) (rules : P → PortR
   -- ONE TURN of a player with its link, by the turn's own steps. One that has ended does nothing
   pub record TakesTurn {L : Type 0} (desk : Ask → Grant) (counts : L → LinkCounts) (hears : L → ℕ → Came → L → Type 0)
       (says : L → List ℕ → Said → L → Type 0) (port : P) (s : Seated P L Q) (answer : HttpTurn) (port' : P) (s' : Seated P L Q) : Type 0 where
-    pub turn : EndedBy (AskedAlone fits rules root seen count wants busies adds kin branches) desk hears says s.player.ended (life_at s.player port) s.link answer
-        (life_at s'.player port') s'.link
+    pub turn : EndedBy (AskedAlone fits rules root seen count wants busies adds kin branches) desk hears says
+        s.player.ended (life_at s.player port) s.link answer (life_at s'.player port') s'.link
     pub ended : s'.player.ended ≡ ended_by answer
     pub lasts : lasting_of s'.player.parts ≡ lasting_of s.player.parts
     pub goes_on : GoesOn fits rules root seen busies port s.player.seat port' s'.player.seat
