@@ -294,8 +294,8 @@ module _ {L : Type 0} (hears : L → ℕ → Came → L → Type 0) (told : L �
   calm_at : (l m : L) → m ≡ l → IsCalm (counts l) (counts m)
   calm_at l m e = subst (λ (x : L). IsCalm (counts l) (counts x)) (sym e) (calm_here (counts l))
 
-  empty_ways : (b : Bool) (v w : Life) (moved : Bool) (a : Result Bool ClientEnd) (l m : L) → v.parts.reader.max ≡ max → length v.input ≤ 4096 → is_nil v.input ≡ b
-      → EmptyBy hears b v l moved a w m → Taken max v w a (told l) (told m) (counts l) (counts m)
+  empty_ways : (b : Bool) (v w : Life) (moved : Bool) (a : Result Bool ClientEnd) (l m : L) → v.parts.reader.max ≡ max → length v.input ≤ 4096
+      → is_nil v.input ≡ b → EmptyBy hears b v l moved a w m → Taken max v w a (told l) (told m) (counts l) (counts m)
   empty_ways true v w moved a l m mx le n f = came_ways f.0 v w moved a l m mx n f.1.0 f.1.1
   empty_ways false v w moved a l m mx le n f = here_ways max v w moved a (told l) (told m) (counts l) (counts m) mx le f.0 (ap told f.1) (calm_at l m f.1)
 

@@ -1,14 +1,21 @@
 -- Only proofs and private functions use it.
 -- HOW AN EDGE COMES TO ITS END: by turns, one after another, and then by closes
-use Rattle.std.specs.Prelude.{◌≡◌, ◌⊎◌, true, ℕ, List, Bool, Option, None, is_some}
+use Rattle.std.specs.Prelude.{◌≡◌, ◌⊎◌, true, ℕ, List, length, slice_get, Bool, Option, None, Some, is_some}
+use Rattle.turn_gate.specs.Known.{PassKnown}
 use Rattle.turn_gate.specs.declared.view.Branch.{Branch}
 use Rattle.relay_outside.specs.Heard.{Came}
 use Rattle.relay_outside.specs.declared.link.Said.{Said}
 use Rattle.rtmp_client.specs.ClientState.{ClientState}
 use Rattle.stream_model.specs.declared.calls.Entry.{Entry}
+use Rattle.stream_registry.specs.Gates.{told, told_at}
 use Rattle.stream_registry.specs.Names.{PortRules}
+use Rattle.stream_registry.specs.Pasts.{Attempt}
+use Rattle.stream_registry.specs.Roots.{gates, kin_at}
+use Rattle.stream_registry.specs.SharedState.{Streams, shared_rules}
 use Rattle.stream_registry.specs.Splits.{Kin}
 use Rattle.stream_registry.specs.Told.{Histories, Step}
+use Rattle.stream_registry.specs.Wants.{IsTake}
+use Rattle.stream_registry.specs.declared.place_table.Site.{Site}
 use Rattle.relay_session.specs.Alone.{GrowsFrom, LeavesSplit}
 use Rattle.relay_session.specs.Places.{AskedAlone}
 use Rattle.relay_session.specs.SeatState.{LeavesFrom, known, left_at, place_of}
@@ -75,7 +82,7 @@ module _ {P Q : Type 0} (fits : P → ℕ → Q → Type 0) (rules : P → PortR
       pub turns : Walks (λ n. TurnOn) times v w
 
     -- A NEW EDGE PULLED with this port and this link: by turns to its end, and by closes away from its place
-    pub record HasRun (port : P) (link : L) (port' : P) (link' : L) : Type 0 where
+    pub record PulledAlone (port : P) (link : L) (port' : P) (link' : L) : Type 0 where
       pub client : ClientState
       pub new : IsNew client
       pub made : EdgeState Q
@@ -90,4 +97,10 @@ module _ {P Q : Type 0} (fits : P → ℕ → Q → Type 0) (rules : P → PortR
 
     -- or nothing was done with them
     abbrev pub RunsAlone : P → L → P → L → Type 0
-    RunsAlone port link port' link' = ((port' ≡ port) × (link' ≡ link)) ⊎ HasRun port link port' link'
+    RunsAlone port link port' link' = ((port' ≡ port) × (link' ≡ link)) ⊎ PulledAlone port link port' link'
+
+-- the same at a port that shares its places
+abbrev pub SharedAlone : {L : Type 0} → (L → ℕ → Came → L → Type 0) → (L → List ℕ → Said → L → Type 0) → Streams → L → Streams → L → Type 0
+SharedAlone = RunsAlone (λ (s : Streams) (place : ℕ) (p : PassKnown Site Attempt). slice_get (gates s.roots) place ≡ Some p.gate) shared_rules
+    (λ s. told_at s.roots) (λ p. told p.seen) (λ p. length p.seen) (λ e. IsTake e.call) (λ s. s.busies) (λ h xs i. Unit {0})
+    (λ s. kin_at s.roots) (λ p. p.kin)
