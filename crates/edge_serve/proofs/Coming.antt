@@ -1,5 +1,5 @@
 -- Turns and closes, one after another
-use Rattle.std.proofs.Common.{◌≡◌, ℕ, suc, List, refl}
+use Rattle.std.proofs.Common.{ℕ, suc, List, refl}
 use Rattle.turn_gate.specs.declared.view.Branch.{Branch}
 use Rattle.relay_outside.specs.Heard.{Came}
 use Rattle.relay_outside.specs.declared.link.Said.{Said}

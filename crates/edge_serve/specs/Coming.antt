@@ -1,6 +1,6 @@
 -- Only proofs and private functions use it.
 -- HOW AN EDGE COMES TO ITS END: by turns, one after another, and then by closes
-use Rattle.std.specs.Prelude.{◌≡◌, ◌⊎◌, true, ℕ, List, length, slice_get, Bool, Option, None, Some, is_some}
+use Rattle.std.specs.Prelude.{◌≡◌, ◌⊎◌, true, ℕ, List, length, slice_get, None, Some, is_some}
 use Rattle.turn_gate.specs.Known.{PassKnown}
 use Rattle.turn_gate.specs.declared.view.Branch.{Branch}
 use Rattle.relay_outside.specs.Heard.{Came}

@@ -1,23 +1,20 @@
 -- What runs in a replay, and a turn of each of its parts.
-use Rattle.std.specs.Prelude.{◌≡◌, ◌<◌, ℕ, zero, suc, Bool, true, false, List, [], ◌++◌, length, slice_get, slice_set, Option, None, Some}
+use Rattle.std.specs.Prelude.{◌≡◌, ◌<◌, ℕ, zero, suc, Bool, true, false, List, ◌++◌, length, slice_get, slice_set, Option, None, Some}
 use Rattle.av_unit.specs.declared.item.Item.{Item}
 use Rattle.command_dialog.specs.declared.types.Ask.{Ask}
 use Rattle.command_dialog.specs.declared.types.Grant.{Grant}
 use Rattle.relay_outside.specs.MemLinks.{MemHears, MemSays}
 use Rattle.stream_model.specs.declared.calls.Entry.{Entry}
 use Rattle.stream_registry.specs.Books.{SoleState, SeenState, FitsSole, journal_at, sole_rules}
-use Rattle.stream_registry.specs.Splits.{Kin}
-use Rattle.stream_registry.specs.Told.{Histories, Step}
-use Rattle.turn_gate.specs.declared.view.Branch.{Branch}
+use Rattle.stream_registry.specs.Told.{Histories}
 use Rattle.relay_session.specs.Acting.{Acting, ActsBy}
 use Rattle.relay_session.specs.Alone.{GrowsFrom}
-use Rattle.relay_session.specs.SeatState.{GoOn, IsElsewhere, LeaveFails, LeavesFrom, SeatState, StandsAt, known, left_at, place_of}
+use Rattle.relay_session.specs.SeatState.{GoOn, IsElsewhere, LeaveFails, LeavesFrom, StandsAt, known, left_at, place_of}
 use Rattle.relay_session.specs.SessionState.{BeginsOwed, IsWhole, SessionState, StandsFor, end_or_quit, ended_by, lasting_of, life_at}
 use Rattle.relay_session.specs.Turns.{EndedBy}
 use Rattle.relay_session.specs.declared.end.End.{End}
 use Rattle.relay_session.specs.declared.end.End.TheVariants as end
 use Rattle.relay_session.specs.declared.seat_answers.Leaving.{Leaving}
-use Rattle.relay_session.specs.declared.seat_answers.Made.{Made}
 use Rattle.relay_session.specs.declared.turn.Turn.{Turn}
 use Rattle.relay_session.specs.declared.turn.Turn.TheVariants.{Moved, Idle, Ended}
 use Rattle.flv_tags.specs.Text.{flv_text}
