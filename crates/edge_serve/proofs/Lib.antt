@@ -1,3 +1,4 @@
+pub mod Coming
 pub mod Walking
 pub mod Turned
 pub mod Leaving

@@ -1,5 +1,5 @@
 -- An edge that was made, turned until it ended, and closed
-use Rattle.std.proofs.Common.{◌≡◌, ◌<◌, ℕ, Bool, true, false, List, [], ◌++◌, length, drop, Option, Some, None, refl, sym, ap, ◌∙◌, subst, append-nil}
+use Rattle.std.proofs.Common.{◌≡◌, ◌<◌, ℕ, Bool, true, false, List, [], ◌++◌, length, drop, Option, Some, None, refl, sym, ap, ◌∙◌, subst, append-nil, arith}
 use Rattle.relay_outside.specs.Told.{LinkCounts}
 use Rattle.chunk_reader.specs.Laws.{SameReading}
 use Rattle.chunk_reader.specs.Reads.{Reads}
@@ -53,6 +53,7 @@ new_drives k max who place start s c new input asked mx same lives name there =
       passed = passed_as [] (s.client.parts.y ++ s.client.input) [] s.client.parts.sent start.told start.told
           (sym (ap (λ (x : List ℕ). x ++ s.client.input) y ∙ none)) (sym sent) (passed_same start.told start.told refl);
       calm = calm_here start.counts;
+      few = omega (arith, ap length none);
       gave = ap (λ (x : ClientState). x.parts.gave) same ∙ ap (λ (p : Past). p.gave) new.past;
     }
 
@@ -202,6 +203,7 @@ module _ (same_reading : (max : ℕ) (b : List ℕ) (ms ns : List (ℕ × Messag
         link = record {
           y = q.y;
           rest = d.rest;
+          few = d.few;
           ms = owing.ms;
           read = owing.read;
           took = q.sent;
@@ -229,6 +231,7 @@ pub nothing_played : (k : Asked) (max : ℕ) (o : Origin) → HasPlayed k max o 
 nothing_played k max o = record {
   y = [];
   rest = [];
+  few = omega arith;
   ms = [];
   read = record { s = _; r = []; reads = reads_nothing max };
   took = [];

@@ -1,6 +1,6 @@
 -- A turn of an edge, over what its link tells
-use Rattle.std.proofs.Common.{◌≡◌, inl, inr, ℕ, ◌<◌, Bool, true, false, List, [], ◌∷◌, ◌++◌, length, Option, Some, None, Result, Ok, Err, refl, sym, ap, ◌∙◌}
-use Rattle.std.proofs.Common.{subst}
+use Rattle.std.proofs.Common.{◌≡◌, inl, inr, ℕ, ◌<◌, ◌≤◌, Bool, true, false, List, [], ◌∷◌, ◌++◌, length, Option, Some, None, Result, Ok, Err}
+use Rattle.std.proofs.Common.{refl, sym, ap, ◌∙◌, subst}
 use Rattle.std.proofs.lemmas.Bool.{false≢true}
 use Rattle.relay_outside.specs.Heard.{Came, HearStep}
 use Rattle.relay_outside.specs.Said.{SayStep}
@@ -133,6 +133,7 @@ module _ {P Q L : Type 0} (asks : P → SeatState Q → ℕ → Entry → Made �
     passed = subst (λ (x : L). Passed (t.client.parts.y ++ t.client.input) t.client.parts.sent start.told (told x)) (sym i.link)
         (subst (λ (c : ClientState). Passed (c.parts.y ++ c.input) c.parts.sent start.told (told l)) (sym i.client) d.passed);
     calm = subst (λ (x : L). IsCalm start.counts (counts x)) (sym i.link) d.calm;
+    few = subst (λ (c : ClientState). length c.input ≤ 4096) (sym i.client) d.few;
     gave = ap (λ (c : ClientState). c.parts.gave) i.client ∙ d.gave;
   }
 
@@ -144,6 +145,7 @@ module _ {P Q L : Type 0} (asks : P → SeatState Q → ℕ → Entry → Made �
     ended = n;
     lasts = i.lasts ∙ d.lasts;
     rest = t.client.input;
+    few = subst (λ (c : ClientState). length c.input ≤ 4096) (sym i.client) d.few;
     passed = subst (λ (x : L). Passed (t.client.parts.y ++ t.client.input) t.client.parts.sent start.told (told x)) (sym i.link)
         (subst (λ (c : ClientState). Passed (c.parts.y ++ c.input) c.parts.sent start.told (told l)) (sym i.client) d.passed);
     cause = cause;
@@ -200,6 +202,7 @@ module _ {P Q L : Type 0} (asks : P → SeatState Q → ℕ → Entry → Made �
   record HasRun (c : ClientState) (m : L) : Type 0 where
     pub passed : Passed (c.parts.y ++ c.input) c.parts.sent start.told (told m)
     pub calm : IsCalm start.counts (counts m)
+    pub few : length c.input ≤ 4096
     pub gave : c.parts.gave ≡ []
 
   ran : (moved : Bool) (u w : ClientState) (l m : L) → Passed (u.parts.y ++ u.input) u.parts.sent start.told (told l) → IsCalm start.counts (counts l)
@@ -209,6 +212,7 @@ module _ {P Q L : Type 0} (asks : P → SeatState Q → ℕ → Entry → Made �
         (sym g.ways.sent_is)
         (passed_then (u.parts.y ++ u.input) g.b u.parts.sent g.s start.told (told l) (told m) p g.passed);
     calm = calm_then start.counts (counts l) (counts m) c g.ways.calm;
+    few = g.ways.few;
     gave = g.ways.gave_is ∙ v;
   }
 
@@ -219,16 +223,17 @@ module _ {P Q L : Type 0} (asks : P → SeatState Q → ℕ → Entry → Made �
         (ap (λ (x : List ℕ). c.parts.y ++ x) (sym i.input) ∙ ap (λ (q : ClientCore). q.y ++ j.input) (sym i.parts))
         (ap (λ (q : ClientCore). q.sent) (sym i.parts)) h.passed;
     calm = h.calm;
+    few = subst (λ (b : List ℕ). length b ≤ 4096) (sym i.input) h.few;
     gave = ap (λ (q : ClientCore). q.gave) i.parts ∙ h.gave;
   }
 
   run_drives : (s : EdgeState Q) (m : L) → s.ended ≡ None → lasting_of s.parts s.client ≡ made_for k max who place → HasRun s.client m
       → Drives k max who place start (at_link m) s
-  run_drives s m e lasts h = record { lives = e; lasts = lasts; passed = h.passed; calm = h.calm; gave = h.gave }
+  run_drives s m e lasts h = record { lives = e; lasts = lasts; passed = h.passed; calm = h.calm; few = h.few; gave = h.gave }
 
   run_starves : (s : EdgeState Q) (m : L) → s.ended ≡ Some edge.OutOfMemory → lasting_of s.parts s.client ≡ made_for k max who place → HasRun s.client m
       → HasDriven k max who place start (at_link m) edge.OutOfMemory s
-  run_starves s m e lasts h = record { ended = e; lasts = lasts; rest = s.client.input; passed = h.passed; cause = tt; waits = tt; gave = h.gave }
+  run_starves s m e lasts h = record { ended = e; lasts = lasts; rest = s.client.input; few = h.few; passed = h.passed; cause = tt; waits = tt; gave = h.gave }
 
   -- by what the turn was answered: it moved or didn't
   taken_by : (g : Option Gift) (b a : EdgeTurn) (c : Core) (t : EdgeState Q) (m : L) → (Drives k max who place start (at_link m) t → Now b m t)
@@ -263,6 +268,7 @@ module _ {P Q L : Type 0} (asks : P → SeatState Q → ℕ → Entry → Made �
         ended = edge_end;
         lasts = lasts;
         rest = q.rest;
+        few = q.few;
         passed = subst (λ (x : ClientState). Passed (x.parts.y ++ q.rest) x.parts.sent start.told (told m)) (sym same) passed;
         cause = subst (λ (o : Option ClientEnd). EdgeCause (end_as (Some f)) o who t.parts.calls max (length t.client.parts.y)
             (t.client.parts.y ++ q.rest) start.counts (counts m)) (sym how)
@@ -304,7 +310,7 @@ module _ {P Q L : Type 0} (asks : P → SeatState Q → ℕ → Entry → Made �
       let p = f.0 in
       let u = p.turned in
       pulled_by p.answer u.comes s.client p.between a s t l m u.answered u.ended p.told e stands (lasts ∙ d.lasts) d.passed d.calm d.gave
-      (turn_went hears told counts hears_mean max says says_mean p.answer s.client p.between l m lives mx u)
+      (turn_went hears told counts hears_mean max says says_mean p.answer s.client p.between l m lives mx d.few u)
   turn_by (g ∷ rest) x y a s t l m w f lives mx bear e stands lasts d =
       let c = f.0 in
       called c.came g rest a s t l m (bear g rest w) (record { client = c.client; link = f.1; lasts = lasts }) e c.became d

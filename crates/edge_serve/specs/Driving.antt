@@ -43,6 +43,7 @@ pub record Drives {Q : Type 0} (k : Asked) (max who place : ℕ) (start now : Or
   pub lasts : lasting_of s.parts s.client ≡ made_for k max who place
   pub passed : Passed (s.client.parts.y ++ s.client.input) s.client.parts.sent start.told now.told
   pub calm : IsCalm start.counts now.counts
+  pub few : length s.client.input ≤ 4096
   -- nobody gives it anything
   pub gave : s.client.parts.gave ≡ []
 
@@ -60,6 +61,7 @@ pub record HasDriven {Q : Type 0} (k : Asked) (max who place : ℕ) (start now :
   pub ended : s.ended ≡ Some e
   pub lasts : lasting_of s.parts s.client ≡ made_for k max who place
   pub rest : List ℕ
+  pub few : length rest ≤ 4096
   pub passed : Passed (s.client.parts.y ++ rest) s.client.parts.sent start.told now.told
   pub cause : EdgeCause e s.client.ended who s.parts.calls max (length s.client.parts.y) (s.client.parts.y ++ rest) start.counts now.counts
   pub waits : WaitsBy e s.parts.kept

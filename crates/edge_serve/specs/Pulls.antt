@@ -1,5 +1,5 @@
 -- HOW AN EDGE HAS PULLED, and why it has ended
-use Rattle.std.specs.Prelude.{◌≡◌, ◌^◌, ◌+◌, ℕ, false, List, [], ◌∷◌, ◌++◌, length, drop, Option, Some, None}
+use Rattle.std.specs.Prelude.{◌≡◌, ◌≤◌, ◌^◌, ◌+◌, ℕ, false, List, [], ◌∷◌, ◌++◌, length, drop, Option, Some, None}
 use Rattle.chunk_reader.specs.Sound.{IsRead}
 use Rattle.chunk_wire.specs.declared.message.Message.{Message}
 use Rattle.client_command.specs.Traffic.{IsCalm, Passed}
@@ -50,9 +50,15 @@ origin told counts = record { told = told; counts = counts }
 abbrev pub Decided : ℕ → ℕ → List ℕ → ClientEnd → Type 0
 Decided max fed all e = (ms : List (ℕ × Message)) × Decides max ms all fed e
 
+-- its peer has closed: the link has ended, without a fault, and all that it gave was fed
+pub record HasClosed (fed : ℕ) (all : List ℕ) (n n' : LinkCounts) : Type 0 where
+  pub rose : Rose n.ends n'.ends
+  pub faults : n'.faults ≡ n.faults
+  pub all_fed : length all ≡ fed
+
 -- WHY ITS CLIENT HAS, where the link gave all these bytes, so many of which were fed
 abbrev pub ClientCause : ClientEnd → ℕ → ℕ → List ℕ → LinkCounts → LinkCounts → Type 0
-ClientCause client.PeerClosed max fed all n n' = Rose n.ends n'.ends × (n'.faults ≡ n.faults)
+ClientCause client.PeerClosed max fed all n n' = HasClosed fed all n n'
 ClientCause client.LinkFault max fed all n n' = Rose n.faults n'.faults × (n'.ends ≡ n.ends)
 ClientCause (client.BadVersion at) max fed all n n' = Decided max fed all (client.BadVersion at) × IsCalm n n'
 ClientCause (client.BadChunk cause at) max fed all n n' = Decided max fed all (client.BadChunk cause at) × IsCalm n n'
@@ -109,11 +115,13 @@ LeftBy edge.Closed who calls left = ⊥
 -- ---- the whole
 
 -- THIS STREAM WAS PLAYED OVER THE LINK, with messages of at most so many bytes: the link took a beginning of
--- what a client owes that plays it, for the first of the bytes that the link gave
+-- what a client owes that plays it, for the first of the bytes that the link gave. These are all but what it
+-- takes from the link at once
 pub record HasPlayed (k : Asked) (max : ℕ) (old new : Origin) : Type 0 where
   -- what its client was fed of what the link gave, and the messages that this reads as
   pub y : List ℕ
   pub rest : List ℕ
+  pub few : length rest ≤ 4096
   pub ms : List (ℕ × Message)
   pub read : IsRead max (drop hand_bytes y) ms
   -- what the link took

@@ -5,6 +5,7 @@ ghost use Rattle.origin_pull.specs.EdgeState.{StandsFor, ended_by};
 ghost use Rattle.origin_pull.specs.Keeping.{AreHere, IsAt};
 ghost use Rattle.relay_session.specs.SeatState.{StandsAt};
 ghost use Rattle.stream_registry.specs.Names.{places};
+ghost use Rattle.edge_serve.specs.Coming.{ByCloses, ByTurns, TakesTurn, at_port, on_link};
 ghost use Rattle.edge_serve.specs.Driving.{DrivenBy, Drives, HasDriven, HasLeft};
 ghost use Rattle.edge_serve.specs.Pulls.{Origin, origin};
 
@@ -32,6 +33,8 @@ fn turn_once<P: StreamPort, L: Link>(
     ensures stands { StandsFor edge.new }
     ensures fixed { P.rules port.new ≡ P.rules port.old }
     ensures known { StandsAt P.rules P.root P.seen port.old edge.old.seat → StandsAt P.rules P.root P.seen port.new edge.new.seat }
+    ensures alone { TakesTurn P.fits P.rules P.root P.seen P.count P.wants P.busies P.adds P.kin P.branches L.hears L.says
+        (on_link edge.old port.old link.old) result (on_link edge.new port.new link.new) }
     ensures goes { (k : Asked) (max who place : ℕ) (start : Origin)
         → Drives k max who place start (origin (L.told link.old) (L.counts link.old)) edge.old
         → DrivenBy result k max who place start (origin (L.told link.new) (L.counts link.new)) edge.new }
@@ -45,8 +48,8 @@ fn tell_moved<R: Rest>(rest: &mut R) {
     rest.moved();
 }
 
-/// Turns an edge until it has ended, with a pause after each turn in which nothing moved. Its link is told when
-/// the stream is played, and when a broadcast begins and ends.
+/// Turns an edge until it has ended, with a pause after each turn in which nothing moved. It does nothing else
+/// at the port. Its link is told when the stream is played, and when a broadcast begins and ends.
 pub(crate) fn drive<W: Wait, P: StreamPort, L: Link, R: Rest>(
     rt: &W,
     alloc: Global,
@@ -65,6 +68,8 @@ pub(crate) fn drive<W: Wait, P: StreamPort, L: Link, R: Rest>(
     ensures stands { StandsFor edge.new }
     ensures fixed { P.rules port.new ≡ P.rules port.old }
     ensures known { StandsAt P.rules P.root P.seen port.old edge.old.seat → StandsAt P.rules P.root P.seen port.new edge.new.seat }
+    ensures turns { ByTurns P.fits P.rules P.root P.seen P.count P.wants P.busies P.adds P.kin P.branches L.hears L.says
+        (on_link edge.old port.old link.old) (on_link edge.new port.new link.new) }
     ensures driven { (k : Asked) (max who place : ℕ) (start : Origin)
         → Drives k max who place start (origin (L.told link.old) (L.counts link.old)) edge.old
         → HasDriven k max who place start (origin (L.told link.new) (L.counts link.new)) result edge.new }
@@ -98,6 +103,8 @@ pub(crate) fn leave<W: Wait, P: StreamPort, R: Rest>(
     ensures known { StandsAt P.rules P.root P.seen port.old edge.old.seat → StandsAt P.rules P.root P.seen port.new edge.new.seat }
     ensures client { edge.new.client ≡ edge.old.client }
     ensures here { AreHere edge.old.parts.place edge.new.seat.visits }
+    ensures closes { ByCloses P.fits P.rules P.root P.seen P.count P.wants P.busies P.adds P.kin P.branches
+        (at_port edge.old port.old) (at_port edge.new port.new) }
     ensures left { HasLeft edge.old.parts.who edge.old.parts.kept edge.old.seat.active edge.old.seat.visits result edge.new.seat.visits }
 {
     for _ in rt.forever() {

@@ -4,6 +4,7 @@ ghost use Rattle.client_command.specs.Words.{AreShort};
 ghost use Rattle.origin_pull.specs.EdgeState.{IsNew, StandsFor};
 ghost use Rattle.stream_registry.specs.Gates.{told_at};
 ghost use Rattle.stream_registry.specs.SharedState.{shared_rules};
+ghost use Rattle.edge_serve.specs.Coming.{SharedAlone};
 ghost use Rattle.edge_serve.specs.Driving.{CanPull, IsMade, IsPulled, end_then};
 ghost use Rattle.edge_serve.specs.Line.{edge_line};
 ghost use Rattle.edge_serve.specs.Pulls.{origin};
@@ -102,8 +103,8 @@ fn line_of(alloc: Global, end: EdgeEnd, client: &Option<ClientEnd>) -> (EdgeEnd,
     }
 }
 
-/// Pulls the stream until that is over, and leaves. An edge for which there was no memory, or none for its
-/// line, has ended for want of memory.
+/// Pulls the stream until that is over, and leaves. It makes no call but those of its edge. An edge for which
+/// there was no memory, or none for its line, has ended for want of memory.
 pub(crate) fn pull<W: Wait, L: Link, R: Rest>(
     rt: &W,
     alloc: Global,
@@ -113,8 +114,10 @@ pub(crate) fn pull<W: Wait, L: Link, R: Rest>(
     mut rest: R,
 ) -> Pulled<L>
     requires { CanPull stream.address.now stream.app.now stream.name.now stream.longest (shared_rules port) }
-    ensures { IsPulled (pull_of stream.entry.address.now stream.entry.app.now stream.entry.name.now) stream.entry.longest (shared_rules port) (shared_rules result.port)
-        (told_at result.port.roots) result.end result.line.items (origin (L.told link) (L.counts link)) (origin (L.told result.link) (L.counts result.link)) }
+    ensures alone { SharedAlone L.hears L.says port link result.port result.link }
+    ensures pulled { IsPulled (pull_of stream.entry.address.now stream.entry.app.now stream.entry.name.now) stream.entry.longest
+        (shared_rules port) (shared_rules result.port) (told_at result.port.roots) result.end result.line.items
+        (origin (L.told link) (L.counts link)) (origin (L.told result.link) (L.counts result.link)) }
 {
     one_reading();
     let Ok(client) = new_client(alloc, stream) else {

@@ -1,6 +1,7 @@
 pub mod Standing
 pub mod Sounding
 pub mod Rounds
+pub mod Moving
 pub mod Onwards
 pub mod Causing
 pub mod Lasting

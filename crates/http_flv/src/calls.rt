@@ -3,7 +3,7 @@ ghost use Rattle.stream_registry.specs.Names.{places};
 ghost use Rattle.std.specs.Prelude.{◌≡◌, ◌||◌, length, None, Some};
 ghost use Rattle.command_dialog.specs.declared.types.Ask.{Ask};
 ghost use Rattle.command_dialog.specs.declared.types.Grant.{Grant};
-ghost use Rattle.relay_session.specs.Places.{Asked};
+ghost use Rattle.relay_session.specs.Places.{AskedAlone};
 ghost use Rattle.relay_session.specs.Turns.{is_not_yet};
 ghost use Rattle.http_flv.specs.Keeping.{IsAt, IsSound, StandsBefore, waiting};
 ghost use Rattle.http_flv.specs.Turns.{IsTried, Leaves, LeavesTried, Lives, LivesTried, TakeAsked, answer, life, takes};
@@ -78,7 +78,7 @@ pub(crate) fn make<P: StreamPort>(
     ensures sound { LivesTried body.new.core result }
     ensures stands { (desk : Ask → Grant) → StandsBefore desk (waiting body.old.core entry) → LeavesTried desk body.new.core result }
     ensures fixed { P.rules port.new ≡ P.rules port.old }
-    ensures tried { IsTried (Asked P.fits P.rules P.root P.seen P.count P.wants P.busies)
+    ensures tried { IsTried (AskedAlone P.fits P.rules P.root P.seen P.count P.wants P.busies P.adds P.kin P.branches)
         (life (waiting body.old.core entry) port.old body.old.seat) entry result (life body.new.core port.new body.new.seat) }
 {
     let Stage::Joining { place } = body.core.stage else {
@@ -121,7 +121,7 @@ pub(crate) fn take<P: StreamPort>(
     ensures at { IsAt (P.fits port.new) (places (P.rules port.new)) body.new.core body.new.seat }
     ensures sound { Lives body.new.core result }
     ensures stands { (desk : Ask → Grant) → StandsBefore desk body.old.core → Leaves desk body.new.core result }
-    ensures taken { TakeAsked (Asked P.fits P.rules P.root P.seen P.count P.wants P.busies)
+    ensures taken { TakeAsked (AskedAlone P.fits P.rules P.root P.seen P.count P.wants P.busies P.adds P.kin P.branches)
         (life body.old.core port.old body.old.seat) place player moved result (life body.new.core port.new body.new.seat) }
 {
     let want = Want {

@@ -2,9 +2,10 @@ ghost use Rattle.stream_registry.specs.Names.{places};
 ghost use Rattle.std.specs.Prelude.{◌≡◌, ◌≤◌, ℕ, [], length, None, Some};
 ghost use Rattle.command_dialog.specs.declared.types.Ask.{Ask};
 ghost use Rattle.command_dialog.specs.declared.types.Grant.{Grant};
+ghost use Rattle.relay_session.specs.Alone.{GrowsFrom, LeavesSplit};
 ghost use Rattle.relay_session.specs.Onward.{GoesOn};
-ghost use Rattle.relay_session.specs.Places.{Asked, IsOffered};
-ghost use Rattle.relay_session.specs.SeatState.{GoOn, HasFit, IsElsewhere, LeaveFails, LeaveTries, LeavesFrom, StandsAt, left_at, place_of};
+ghost use Rattle.relay_session.specs.Places.{AskedAlone, IsOffered};
+ghost use Rattle.relay_session.specs.SeatState.{GoOn, HasFit, IsElsewhere, LeaveFails, LeaveTries, LeavesFrom, StandsAt, known, left_at, place_of};
 ghost use Rattle.http_flv.specs.Causes.{Did, MayBe};
 ghost use Rattle.http_flv.specs.Keeping.{IsAt};
 ghost use Rattle.http_flv.specs.PlayerState.{OwesBy, PlayerState, StandsFor, end_or_closed, ended_by, held_of, lasting_of, life_at, most_held};
@@ -92,8 +93,8 @@ impl<P: StreamPort> HttpPlayer<P> {
         requires at { IsAt (P.fits port.old) (places (P.rules port.old)) self.old.parts self.old.seat }
         requires offered { IsOffered (D.grants desk.now) (places (P.rules port.old)) }
         ensures at { IsAt (P.fits port.new) (places (P.rules port.new)) self.new.parts self.new.seat }
-        ensures turn { EndedBy (Asked P.fits P.rules P.root P.seen P.count P.wants P.busies) (D.grants desk.now) L.hears L.says self.old.ended
-            (life_at self.old port.old) link.old result (life_at self.new port.new) link.new }
+        ensures turn { EndedBy (AskedAlone P.fits P.rules P.root P.seen P.count P.wants P.busies P.adds P.kin P.branches) (D.grants desk.now)
+            L.hears L.says self.old.ended (life_at self.old port.old) link.old result (life_at self.new port.new) link.new }
         ensures ended { self.new.ended ≡ ended_by result }
         ensures lasts { lasting_of self.new.parts ≡ lasting_of self.old.parts }
         ensures goes_on { GoesOn P.fits P.rules P.root P.seen P.busies port.old self.old.seat port.new self.new.seat }
@@ -131,6 +132,10 @@ impl<P: StreamPort> HttpPlayer<P> {
         ensures busies { P.busies port.old ≤ P.busies port.new }
         ensures others { (q : ℕ) → IsElsewhere self.old.seat.spot q → P.root port.new q ≡ P.root port.old q }
         ensures passes { (q : ℕ) (p : P.Pass) → P.fits port.old q p → P.fits port.new q p }
+        ensures adds { GrowsFrom P.adds (P.rules port.old).limits (P.root port.old) (known P.root P.seen port.old self.old.seat) (place_of self.old.seat.spot)
+            self.old.seat.visits self.new.seat.visits (P.root port.new) (known P.root P.seen port.new self.new.seat) }
+        ensures splits { LeavesSplit (place_of self.old.seat.spot) P.branches (P.kin port.old) self.old.seat.spot self.old.seat.visits
+            self.new.seat.visits (P.kin port.new) self.new.seat.spot }
         ensures ended { self.new.ended ≡ Some (end_or_closed self.old.ended) }
         ensures parts { self.new.parts ≡ record self.old.parts { kept = self.new.parts.kept } }
     {

@@ -3,7 +3,7 @@ ghost use Rattle.stream_registry.specs.Names.{places};
 ghost use Rattle.std.specs.Prelude.{◌≡◌, ◌≤◌, [], length, take, None};
 ghost use Rattle.command_dialog.specs.declared.types.Ask.{Ask};
 ghost use Rattle.command_dialog.specs.declared.types.Grant.{Grant};
-ghost use Rattle.relay_session.specs.Places.{Asked, IsOffered};
+ghost use Rattle.relay_session.specs.Places.{AskedAlone, IsOffered};
 ghost use Rattle.http_flv.specs.Keeping.{IsAt, IsSound, StandsBefore};
 ghost use Rattle.http_flv.specs.Turns.{HeardBy, Input, JoinedBy, KeptOn, Leaves, Lives, ReadBy, Sent, Taken, life, takes, told};
 ghost use Rattle.http_flv.specs.declared.stage.Stage.TheVariants.{Reading};
@@ -74,7 +74,7 @@ fn take_on<P: StreamPort>(body: &mut Body<P>, port: &mut P, alloc: Global, moved
     ensures at { IsAt (P.fits port.new) (places (P.rules port.new)) body.new.core body.new.seat }
     ensures sound { Lives body.new.core result }
     ensures stands { (desk : Ask → Grant) → StandsBefore desk body.old.core → Leaves desk body.new.core result }
-    ensures turn { Taken (Asked P.fits P.rules P.root P.seen P.count P.wants P.busies)
+    ensures turn { Taken (AskedAlone P.fits P.rules P.root P.seen P.count P.wants P.busies P.adds P.kin P.branches)
         (life body.old.core port.old body.old.seat) moved result (life body.new.core port.new body.new.seat) }
 {
     match next_take(&body.core) {
@@ -90,7 +90,7 @@ fn join_on<P: StreamPort>(body: &mut Body<P>, port: &mut P, alloc: Global) -> Ht
     ensures at { IsAt (P.fits port.new) (places (P.rules port.new)) body.new.core body.new.seat }
     ensures sound { Lives body.new.core result }
     ensures stands { (desk : Ask → Grant) → StandsBefore desk body.old.core → Leaves desk body.new.core result }
-    ensures turn { JoinedBy (Asked P.fits P.rules P.root P.seen P.count P.wants P.busies) body.old.core.kept
+    ensures turn { JoinedBy (AskedAlone P.fits P.rules P.root P.seen P.count P.wants P.busies P.adds P.kin P.branches) body.old.core.kept
         (life body.old.core port.old body.old.seat) result (life body.new.core port.new body.new.seat) }
 {
     match body.core.kept.take() {
@@ -118,7 +118,7 @@ fn hear_on<P: StreamPort, D: Desk>(
     ensures at { IsAt (P.fits port.new) (places (P.rules port.new)) body.new.core body.new.seat }
     ensures sound { Lives body.new.core result }
     ensures stands { StandsBefore (D.grants desk.now) body.old.core → Leaves (D.grants desk.now) body.new.core result }
-    ensures turn { HeardBy (Asked P.fits P.rules P.root P.seen P.count P.wants P.busies) (D.grants desk.now) bytes.now
+    ensures turn { HeardBy (AskedAlone P.fits P.rules P.root P.seen P.count P.wants P.busies P.adds P.kin P.branches) (D.grants desk.now) bytes.now
         (life body.old.core port.old body.old.seat) result (life body.new.core port.new body.new.seat) }
 {
     match read_bytes(&mut body.core, alloc, desk, bytes) {
@@ -142,8 +142,8 @@ fn read_on<P: StreamPort, D: Desk>(
     ensures at { IsAt (P.fits port.new) (places (P.rules port.new)) body.new.core body.new.seat }
     ensures sound { Lives body.new.core result }
     ensures stands { StandsBefore (D.grants desk.now) body.old.core → Leaves (D.grants desk.now) body.new.core result }
-    ensures turn { ReadBy (Asked P.fits P.rules P.root P.seen P.count P.wants P.busies) (D.grants desk.now) body.old.core.stage bytes.now
-        (life body.old.core port.old body.old.seat) result (life body.new.core port.new body.new.seat) }
+    ensures turn { ReadBy (AskedAlone P.fits P.rules P.root P.seen P.count P.wants P.busies P.adds P.kin P.branches) (D.grants desk.now)
+        body.old.core.stage bytes.now (life body.old.core port.old body.old.seat) result (life body.new.core port.new body.new.seat) }
 {
     match body.core.stage {
         Stage::Reading => hear_on(body, port, desk, alloc, bytes),
@@ -169,7 +169,7 @@ fn input_on<P: StreamPort, D: Desk, L: Link>(
     ensures at { IsAt (P.fits port.new) (places (P.rules port.new)) body.new.core body.new.seat }
     ensures sound { Lives body.new.core result }
     ensures stands { StandsBefore (D.grants desk.now) body.old.core → Leaves (D.grants desk.now) body.new.core result }
-    ensures turn { Input (Asked P.fits P.rules P.root P.seen P.count P.wants P.busies) (D.grants desk.now) L.hears
+    ensures turn { Input (AskedAlone P.fits P.rules P.root P.seen P.count P.wants P.busies P.adds P.kin P.branches) (D.grants desk.now) L.hears
         (life body.old.core port.old body.old.seat) link.old moved result (life body.new.core port.new body.new.seat) link.new }
 {
     let mut room = [0u8; RECEIVE_MOST];
@@ -197,8 +197,8 @@ fn send_on<P: StreamPort, D: Desk, L: Link>(
     ensures at { IsAt (P.fits port.new) (places (P.rules port.new)) body.new.core body.new.seat }
     ensures sound { Lives body.new.core result }
     ensures stands { StandsBefore (D.grants desk.now) body.old.core → Leaves (D.grants desk.now) body.new.core result }
-    ensures turn { Sent (Asked P.fits P.rules P.root P.seen P.count P.wants P.busies) (D.grants desk.now) L.hears L.says
-        (life body.old.core port.old body.old.seat) link.old moved result (life body.new.core port.new body.new.seat) link.new }
+    ensures turn { Sent (AskedAlone P.fits P.rules P.root P.seen P.count P.wants P.busies P.adds P.kin P.branches) (D.grants desk.now)
+        L.hears L.says (life body.old.core port.old body.old.seat) link.old moved result (life body.new.core port.new body.new.seat) link.new }
 {
     if body.core.out.is_empty() {
         return input_on(body, port, link, desk, alloc, moved);
@@ -231,8 +231,8 @@ pub(crate) fn kept_on<P: StreamPort, D: Desk, L: Link>(
     ensures at { IsAt (P.fits port.new) (places (P.rules port.new)) body.new.core body.new.seat }
     ensures sound { Lives body.new.core result }
     ensures stands { StandsBefore (D.grants desk.now) body.old.core → Leaves (D.grants desk.now) body.new.core result }
-    ensures turn { KeptOn (Asked P.fits P.rules P.root P.seen P.count P.wants P.busies) (D.grants desk.now) L.hears L.says body.old.core.kept
-        (life body.old.core port.old body.old.seat) link.old result (life body.new.core port.new body.new.seat) link.new }
+    ensures turn { KeptOn (AskedAlone P.fits P.rules P.root P.seen P.count P.wants P.busies P.adds P.kin P.branches) (D.grants desk.now)
+        L.hears L.says body.old.core.kept (life body.old.core port.old body.old.seat) link.old result (life body.new.core port.new body.new.seat) link.new }
 {
     match body.core.kept.take() {
         None => send_on(body, port, link, desk, alloc, false),

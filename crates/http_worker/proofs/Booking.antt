@@ -19,7 +19,9 @@ use Rattle.session_owed.specs.Talk.{Own}
 use Rattle.stream_model.specs.declared.calls.Entry.{Entry}
 use Rattle.stream_model.specs.declared.calls.Shape.{Shape}
 use Rattle.stream_registry.specs.Names.{PortRules}
+use Rattle.stream_registry.specs.Splits.{Kin}
 use Rattle.stream_registry.specs.Told.{Step, Histories}
+use Rattle.turn_gate.specs.declared.view.Branch.{Branch}
 use Rattle.relay_session.specs.Acting.{HasGrant}
 use Rattle.relay_session.specs.SeatState.{GoOn, LeavesFrom, SeatState, known, left_at, place_of}
 use Rattle.relay_session.specs.SeatVisits.{AllStand, Visit, calls_of}
@@ -221,13 +223,14 @@ module _ {P Q L : Type 0} (rules : P → PortRules) (root : P → Histories) (se
       → LivesBy (told link) (counts link) desk o c visits → HasStopped (told link) (counts link) desk e c visits
   stopped_of o e link c visits is k = subst (λ (q : Option HttpEnd). LivesBy (told link) (counts link) desk q c visits) is k
 
-  module _ (fits : P → ℕ → Q → Type 0) (count : Q → ℕ) (wants : Entry → Type 0) (busies : P → ℕ) where
+  module _ (fits : P → ℕ → Q → Type 0) (count : Q → ℕ) (wants : Entry → Type 0) (busies : P → ℕ)
+      (adds : List Step → List Step → List Step → Type 0) (kin : P → Kin) (branches : Q → List Branch) where
     module _ (hears : L → ℕ → Came → L → Type 0) (hears_mean : (l : L) (room : ℕ) (answer : Came) (m : L) → 0 < room → hears l room answer m
         → HearStep room (told l) (told m) (counts l) (counts m) answer)
         (says : L → List ℕ → Said → L → Type 0) (says_mean : (l : L) (piece : List ℕ) (answer : Said) (m : L) → 0 < length piece → says l piece answer m
         → SayStep piece (told l) (told m) (counts l) (counts m) answer) where
       lives_turned : (x y : P) (accounts : List Account) (s s' : Seated P L Q) (a : HttpTurn) → s.player.ended ≡ None
-          → TakesTurn fits rules root seen count wants busies desk counts hears says x s a y s' → Here x accounts s → Here y accounts s'
+          → TakesTurn fits rules root seen count wants busies adds kin branches desk counts hears says x s a y s' → Here x accounts s → Here y accounts s'
       lives_turned x y accounts s s' a n u w =
           let live = live_of s.player.ended s.link s.player.parts s.player.seat.visits n w.by in
           let alive : Alive rules root seen told counts desk s.link s.player.parts x s.player.seat = record {
@@ -239,7 +242,7 @@ module _ {P Q L : Type 0} (rules : P → PortRules) (root : P → Histories) (se
           let c = s'.player.parts in
           let left : LeftBy rules root seen told counts desk s'.player.ended s'.link c y s'.player.seat =
           subst (λ (o : Option HttpEnd). LeftBy rules root seen told counts desk o s'.link c y s'.player.seat) (sym u.ended)
-          (turned rules root seen told counts desk fits count wants busies hears hears_mean says says_mean s.player.ended (life_at s.player x) s.link a
+          (turned rules root seen told counts desk fits count wants busies adds kin branches hears hears_mean says says_mean s.player.ended (life_at s.player x) s.link a
           (life_at s'.player y) s'.link n u.turn alive) in
           let h = left_holds s'.player.ended s'.link c y s'.player.seat left in
           let stands = u.stands (subst (λ (o : Option HttpEnd). StandsBy o desk s.player.parts) (sym n) live.stands) in
@@ -255,7 +258,7 @@ module _ {P Q L : Type 0} (rules : P → PortRules) (root : P → Histories) (se
     -- ---- its close
 
     abbrev Close : P → PlayerState Q → Leaving → P → PlayerState Q → Type 0
-    Close = Closes fits rules root seen count wants busies
+    Close = Closes fits rules root seen count wants busies adds kin branches
 
     holds_closed : (o : Option ℕ) (x y : P) (s s' : PlayerState Q) (answer : Leaving) → place_of s.seat.spot ≡ o → Close x s answer y s'
         → Holds rules root seen x s.seat → Holds rules root seen y s'.seat
@@ -644,13 +647,14 @@ module _ {P D Q L : Type 0} (rules : P → PortRules) (root : P → Histories) (
 
   -- ---- turns and closes
 
-  module _ (fits : P → ℕ → Q → Type 0) (count : Q → ℕ) (wants : Entry → Type 0) (busies : P → ℕ) where
+  module _ (fits : P → ℕ → Q → Type 0) (count : Q → ℕ) (wants : Entry → Type 0) (busies : P → ℕ)
+      (adds : List Step → List Step → List Step → Type 0) (kin : P → Kin) (branches : Q → List Branch) where
     module _ (hears : L → ℕ → Came → L → Type 0) (hears_mean : (l : L) (room : ℕ) (answer : Came) (m : L) → 0 < room → hears l room answer m
         → HearStep room (told l) (told m) (counts l) (counts m) answer)
         (says : L → List ℕ → Said → L → Type 0) (says_mean : (l : L) (piece : List ℕ) (answer : Said) (m : L) → 0 < length piece → says l piece answer m
         → SayStep piece (told l) (told m) (counts l) (counts m) answer) (refused : P → ℕ) (ready : L → Bool → Type 0) where
       abbrev Turned : P → Seated P L Q → HttpTurn → P → Seated P L Q → Type 0
-      Turned = TakesTurn fits rules root seen count wants busies desk counts hears says
+      Turned = TakesTurn fits rules root seen count wants busies adds kin branches desk counts hears says
 
       kept_turned : (key : ℕ) (s : Seated P L Q) (b b' : Bench P D Q L) → get b.players key ≡ Some s → s.player.ended ≡ None
           → IsTurned Turned refused key s b b' → Kept b → Kept b'
@@ -659,7 +663,7 @@ module _ {P D Q L : Type 0} (rules : P → PortRules) (root : P → Histories) (
           (λ r. or_first b.refused _ (sym (ap (λ (x : Bench P D Q L). x.refused) i.same) ∙ r))
           (λ r. or_first b.worn _ (sym (ap (λ (x : Bench P D Q L). x.worn) i.same) ∙ r)) i.turn.goes_on.fixed i.turn.goes_on.roots
           (ap (λ (l : Lasting). l.who) i.turn.lasts) k
-          (lives_turned rules root seen told counts desk t fits count wants busies hears hears_mean says says_mean b.port b'.port k.works.accounts s i.now
+          (lives_turned rules root seen told counts desk t fits count wants busies adds kin branches hears hears_mean says says_mean b.port b'.port k.works.accounts s i.now
           i.answer n i.turn (k.works.lives key s here))
           (λ r. subst (λ (o : Option HttpEnd). o ≢ Some end.OutOfMemory) (sym i.turn.ended)
           (unspent_by i.answer (or_last b.refused _ (sym (ap (λ (x : Bench P D Q L). x.refused) i.same) ∙ r))))
@@ -681,20 +685,20 @@ module _ {P D Q L : Type 0} (rules : P → PortRules) (root : P → Histories) (
       kept_turns_at key b b' i k = kept_turns_if (get b.players key) key b b' refl i k
 
     abbrev Ends : P → PlayerState Q → Leaving → P → PlayerState Q → Type 0
-    Ends = Closes fits rules root seen count wants busies
+    Ends = Closes fits rules root seen count wants busies adds kin branches
 
     kept_gone : (key : ℕ) (s : Seated P L Q) (e : HttpEnd) (answer : Leaving) (now : PlayerState Q) (b b' : Bench P D Q L) → get b.players key ≡ Some s
         → s.player.ended ≡ Some e → has_left answer ≡ true → Ends b.port s.player answer b'.port now
         → IsGone told counts doors key s b b' → Kept b → Kept b'
     kept_gone key s e answer now b b' here n left c i k =
         let w = k.works in
-        let l = subst (λ (x : Bool). IsLeaving rules root seen told counts desk t fits count wants busies x b'.port e w.accounts s.link now) left
-        (leaving_of rules root seen told counts desk t fits count wants busies b.port b'.port e w.accounts s answer now n c (w.lives key s here)) in
+        let l = subst (λ (x : Bool). IsLeaving rules root seen told counts desk t fits count wants busies adds kin branches x b'.port e w.accounts s.link now) left
+        (leaving_of rules root seen told counts desk t fits count wants busies adds kin branches b.port b'.port e w.accounts s answer now n c (w.lives key s here)) in
         let away = nowhere now.seat.spot (c.spot ∙ left_nowhere answer (place_of s.player.seat.spot) left) in
         elim i.back [
           | inl h ↦ kept_back b b' key s here i.gone c.fixed c.roots (ap (λ (x : Bench P D Q L). x.had) h.1) (ap (λ (x : Bench P D Q L). x.worn) h.1) k
               (record { who = now.parts.who; end = e; link = told_of (told s.link) (counts s.link) l.gave now.parts.sent }) l.gave now.parts.sent
-              (ap (λ (q : Core). q.who) c.parts) refl (accounted_of rules root seen told counts desk t fits count wants busies b'.port e w.accounts s.link
+              (ap (λ (q : Core). q.who) c.parts) refl (accounted_of rules root seen told counts desk t fits count wants busies adds kin branches b'.port e w.accounts s.link
               now away l) i.count (ap (λ (x : DoorTold). x.back) h.0)
               (λ r. sym (ap (λ (x : Bench P D Q L). x.refused) h.1) ∙ r) l.fresh n
           | inr h ↦ kept_dropped b b' key s here i.gone c.fixed c.roots (ap (λ (x : Bench P D Q L). x.had) h.1) (ap (λ (x : Bench P D Q L). x.worn) h.1) k
@@ -706,14 +710,14 @@ module _ {P D Q L : Type 0} (rules : P → PortRules) (root : P → Histories) (
         → IsLeft told counts doors key s now b b' → Kept b → Kept b'
     kept_left key s e answer now b b' here n stays c i k =
         let w = k.works in
-        let l = subst (λ (x : Bool). IsLeaving rules root seen told counts desk t fits count wants busies x b'.port e w.accounts s.link now) stays
-        (leaving_of rules root seen told counts desk t fits count wants busies b.port b'.port e w.accounts s answer now n c (w.lives key s here)) in
+        let l = subst (λ (x : Bool). IsLeaving rules root seen told counts desk t fits count wants busies adds kin branches x b'.port e w.accounts s.link now) stays
+        (leaving_of rules root seen told counts desk t fits count wants busies adds kin branches b.port b'.port e w.accounts s answer now n c (w.lives key s here)) in
         let ended : now.ended ≡ Some e = c.ended ∙ ap (λ (o : Option HttpEnd). Some (end_or_closed o)) n in
         kept_put b b' key s (record s { player = now; over = true }) here i.there i.count (ap (λ (x : Bench P D Q L). (doors x.door).back) i.same)
         (ap (λ (x : Bench P D Q L). x.had) i.same)
         (λ r. sym (ap (λ (x : Bench P D Q L). x.refused) i.same) ∙ r) (λ r. sym (ap (λ (x : Bench P D Q L). x.worn) i.same) ∙ r) c.fixed c.roots
         (ap (λ (q : Core). q.who) c.parts) k
-        (lives_left rules root seen told counts desk t fits count wants busies b'.port e w.accounts (record s { player = now; over = true }) ended l)
+        (lives_left rules root seen told counts desk t fits count wants busies adds kin branches b'.port e w.accounts (record s { player = now; over = true }) ended l)
         (λ r. subst (λ (o : Option HttpEnd). o ≢ Some end.OutOfMemory) (n ∙ sym ended) (w.unspent (sym (ap (λ (x : Bench P D Q L). x.refused) i.same) ∙ r)
         key s here))
         (λ r. subst (λ (o : Option HttpEnd). o ≢ Some end.Worn) (n ∙ sym ended) (w.unfilled (sym (ap (λ (x : Bench P D Q L). x.worn) i.same) ∙ r) key s here))

@@ -1,4 +1,5 @@
 pub mod Booking
+pub mod Coming
 pub mod Crossing
 pub mod Slabs
 pub mod Sounding

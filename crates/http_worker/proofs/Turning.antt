@@ -15,14 +15,16 @@ use Rattle.stream_model.specs.declared.calls.Entry.{Entry}
 use Rattle.stream_model.specs.declared.replies.Reply.{Reply}
 use Rattle.stream_model.specs.declared.replies.Reply.TheVariants as reply
 use Rattle.stream_registry.specs.Names.{PortRules}
+use Rattle.stream_registry.specs.Splits.{Kin}
 use Rattle.stream_registry.specs.Told.{Step, Histories}
-use Rattle.relay_session.specs.Places.{Asked}
+use Rattle.turn_gate.specs.declared.view.Branch.{Branch}
+use Rattle.relay_session.specs.Places.{AskedAlone}
 use Rattle.relay_session.specs.SeatState.{SeatState}
 use Rattle.relay_session.specs.Turns.{is_nil}
 use Rattle.relay_session.specs.declared.seat_answers.Made.{Made}
 use Rattle.relay_session.specs.declared.seat_answers.Made.TheVariants as made
 use Rattle.relay_worker.specs.Books.{Owns}
-use Rattle.relay_worker.proofs.Booking.{Holds, on_asked}
+use Rattle.relay_worker.proofs.Booking.{Holds, on_alone}
 use Rattle.relay_worker.proofs.Turning.{owns_made, owns_same, rose_some, some_nil, take_less}
 use Rattle.http_request.specs.Heads.{IsRead}
 use Rattle.http_flv.specs.Keeping.{after_join, join_entry, take_entry}
@@ -314,14 +316,15 @@ module _ {P Q L : Type 0} (rules : P → PortRules) (root : P → Histories) (se
   left_to : (l : L) (a : HttpTurn) (w : Life P (SeatState Q)) (m : L) → m ≡ l → Left a l w → Left a m w
   left_to l a w m is k = subst (λ (n : L). Left a n w) (sym is) k
 
-  module _ (fits : P → ℕ → Q → Type 0) (count : Q → ℕ) (wants : Entry → Type 0) (busies : P → ℕ) where
+  module _ (fits : P → ℕ → Q → Type 0) (count : Q → ℕ) (wants : Entry → Type 0) (busies : P → ℕ)
+      (adds : List Step → List Step → List Step → Type 0) (kin : P → Kin) (branches : Q → List Branch) where
     abbrev Asking : P → SeatState Q → ℕ → Entry → Made → P → SeatState Q → Type 0
-    Asking = Asked fits rules root seen count wants busies
+    Asking = AskedAlone fits rules root seen count wants busies adds kin branches
 
     -- the seat after a call
     held_on : (v w : Life P (SeatState Q)) (place : ℕ) (e : Entry) (r : Made) → Asking v.port v.seat place e r w.port w.seat
         → Holds rules root seen v.port v.seat → Holds rules root seen w.port w.seat
-    held_on v w place e r k = on_asked rules root seen fits count wants busies v.port v.seat place e r w.port w.seat k
+    held_on v w place e r k = on_alone rules root seen fits count wants busies adds kin branches v.port v.seat place e r w.port w.seat k
 
     -- the same player where no call was made
     unmade : (v w : Life P (SeatState Q)) (place : ℕ) (e : Entry) (r : Made) (l : L) → Asking v.port v.seat place e r w.port w.seat
@@ -346,7 +349,7 @@ module _ {P Q L : Type 0} (rules : P → PortRules) (root : P → Histories) (se
       ties = a.ties;
       holds = held_on v w place (take_entry v.parts.who (length v.parts.x) player) (made.Answer r) k a.holds;
       owns = owns_made v.parts.who v.parts.who v.seat.visits w.seat.visits v.parts.kept v.parts.kept place
-          (take_entry v.parts.who (length v.parts.x) player) r refl k.makes
+          (take_entry v.parts.who (length v.parts.x) player) r refl k.asked.makes
           (playing_none desk v.parts.stage at player v.parts.who v.parts.x v.parts.later v.parts.calls v.parts.kept is a.asks) refl a.owns;
     }
 
@@ -361,11 +364,11 @@ module _ {P Q L : Type 0} (rules : P → PortRules) (root : P → Histories) (se
         (over_still end.OutOfMemory l (noted v.parts (take_entry v.parts.who (length v.parts.x) player) r) w.parts w.port w.port w.seat w.seat t.0 refl refl
         (over_of end.OutOfMemory l (noted v.parts (take_entry v.parts.who (length v.parts.x) player) r) w.port w.seat tt
         (took v w place at player r l is k alive)))
-    take_made v w place at player moved (made.Busy f) a l is k t alive = lives_so moved l a w t.1 (unmade v w place _ (made.Busy f) l k k.makes.1 t.0 alive)
+    take_made v w place at player moved (made.Busy f) a l is k t alive = lives_so moved l a w t.1 (unmade v w place _ (made.Busy f) l k k.asked.makes.1 t.0 alive)
     take_made v w place at player moved (made.Worn f) a l is k t alive = ends_so end.Worn l a w t.1 (over_of end.Worn l w.parts w.port w.seat tt
-        (unmade v w place _ (made.Worn f) l k k.makes.1 t.0 alive))
+        (unmade v w place _ (made.Worn f) l k k.asked.makes.1 t.0 alive))
     take_made v w place at player moved (made.OutOfMemory f) a l is k t alive =
-        ends_so end.OutOfMemory l a w t.1 (over_of end.OutOfMemory l w.parts w.port w.seat tt (unmade v w place _ (made.OutOfMemory f) l k k.makes.1 t.0 alive))
+        ends_so end.OutOfMemory l a w t.1 (over_of end.OutOfMemory l w.parts w.port w.seat tt (unmade v w place _ (made.OutOfMemory f) l k k.asked.makes.1 t.0 alive))
 
     taken_by : (o : Option (ℕ × ℕ)) (v : Life P (SeatState Q)) (moved : Bool) (a : HttpTurn) (w : Life P (SeatState Q)) (l : L) → takes v.parts ≡ o
         → TakenBy Asking o v moved a w → Lives l v → Left a l w
@@ -388,7 +391,7 @@ module _ {P Q L : Type 0} (rules : P → PortRules) (root : P → Histories) (se
         let is : e ≡ entry = some_is e entry (sym kept ∙ waits.1.1.1) in
         let one = one_call v.parts.calls e entry r waits.1.1.0 is in
         let holds = held_on v w place e (made.Answer r) k a.holds in
-        let owns = owns_made v.parts.who v.parts.who v.seat.visits w.seat.visits v.parts.kept None place e r refl k.makes refl (a.owns.waits e kept) a.owns in (
+        let owns = owns_made v.parts.who v.parts.who v.seat.visits w.seat.visits v.parts.kept None place e r refl k.asked.makes refl (a.owns.waits e kept) a.owns in (
           record {
             asks = asks_joined desk place v.parts.who v.parts.x v.parts.later waits.0 (v.parts.calls ++ (e, r) ∷ []) r waits.1.0 one;
             ties = a.ties;
@@ -417,13 +420,13 @@ module _ {P Q L : Type 0} (rules : P → PortRules) (root : P → Histories) (se
         subst (λ (q : Result Bool HttpEnd). Tried q l w) (sym t.0)
         (over_still end.OutOfMemory l (unheard v.parts e r) w.parts w.port w.port w.seat w.seat t.1 refl refl (join_heard v w place e r l kept at k a).1)
     join_made v w place e (made.Busy f) result l kept at k t a = subst (λ (q : Result Bool HttpEnd). Tried q l w) (sym t.0)
-        (unmade v w place e (made.Busy f) l k k.makes.1 t.1 a)
+        (unmade v w place e (made.Busy f) l k k.asked.makes.1 t.1 a)
     join_made v w place e (made.Worn f) result l kept at k t a =
         subst (λ (q : Result Bool HttpEnd). Tried q l w) (sym t.0) (over_of end.Worn l w.parts w.port w.seat tt
-        (unmade v w place e (made.Worn f) l k k.makes.1 t.1 a))
+        (unmade v w place e (made.Worn f) l k k.asked.makes.1 t.1 a))
     join_made v w place e (made.OutOfMemory f) result l kept at k t a =
         subst (λ (q : Result Bool HttpEnd). Tried q l w) (sym t.0) (over_of end.OutOfMemory l w.parts w.port w.seat tt
-        (unmade v w place e (made.OutOfMemory f) l k k.makes.1 t.1 a))
+        (unmade v w place e (made.OutOfMemory f) l k k.asked.makes.1 t.1 a))
 
     tried : (v w : Life P (SeatState Q)) (e : Entry) (result : Result Bool HttpEnd) (l : L) → v.parts.kept ≡ Some e → IsTried Asking v e result w
         → Lives l v → Tried result l w

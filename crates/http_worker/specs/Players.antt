@@ -7,10 +7,13 @@ use Rattle.command_dialog.specs.declared.types.Ask.{Ask}
 use Rattle.command_dialog.specs.declared.types.Grant.{Grant}
 use Rattle.stream_model.specs.declared.calls.Entry.{Entry}
 use Rattle.stream_registry.specs.Names.{PortRules}
+use Rattle.stream_registry.specs.Splits.{Kin}
 use Rattle.stream_registry.specs.Told.{Step, Histories}
+use Rattle.turn_gate.specs.declared.view.Branch.{Branch}
+use Rattle.relay_session.specs.Alone.{GrowsFrom, LeavesSplit}
 use Rattle.relay_session.specs.Onward.{GoesOn}
-use Rattle.relay_session.specs.Places.{Asked}
-use Rattle.relay_session.specs.SeatState.{GoOn, HasFit, IsElsewhere, LeaveFails, LeaveTries, LeavesFrom, StandsAt, left_at, place_of}
+use Rattle.relay_session.specs.Places.{AskedAlone}
+use Rattle.relay_session.specs.SeatState.{GoOn, HasFit, IsElsewhere, LeaveFails, LeaveTries, LeavesFrom, StandsAt, known, left_at, place_of}
 use Rattle.relay_session.specs.SeatVisits.{calls_of}
 use Rattle.relay_session.specs.declared.seat_answers.Leaving.{Leaving}
 use Rattle.http_flv.specs.Causes.{Did, MayBe}
@@ -72,12 +75,13 @@ pub record IsNewPlayer {Q : Type 0} (t : Terms) (had : ℕ) (s : PlayerState Q) 
   pub stands : (desk : Ask → Grant) → StandsFor desk s
 
 module _ {P Q : Type 0} (fits : P → ℕ → Q → Type 0) (rules : P → PortRules) (root : P → Histories) (seen : Q → List Step)
-    (count : Q → ℕ) (wants : Entry → Type 0) (busies : P → ℕ) where
+    (count : Q → ℕ) (wants : Entry → Type 0) (busies : P → ℕ)
+    (adds : List Step → List Step → List Step → Type 0) (kin : P → Kin) (branches : Q → List Branch) where
   -- ONE TURN of a player with its link, by the turn's own steps. One that has ended does nothing
   pub record TakesTurn {L : Type 0} (desk : Ask → Grant) (counts : L → LinkCounts) (hears : L → ℕ → Came → L → Type 0)
       (says : L → List ℕ → Said → L → Type 0) (port : P) (s : Seated P L Q) (answer : HttpTurn) (port' : P) (s' : Seated P L Q) : Type 0 where
-    pub turn : EndedBy (Asked fits rules root seen count wants busies) desk hears says s.player.ended (life_at s.player port) s.link answer
-        (life_at s'.player port') s'.link
+    pub turn : EndedBy (AskedAlone fits rules root seen count wants busies adds kin branches) desk hears says
+        s.player.ended (life_at s.player port) s.link answer (life_at s'.player port') s'.link
     pub ended : s'.player.ended ≡ ended_by answer
     pub lasts : lasting_of s'.player.parts ≡ lasting_of s.player.parts
     pub goes_on : GoesOn fits rules root seen busies port s.player.seat port' s'.player.seat
@@ -94,6 +98,9 @@ module _ {P Q : Type 0} (fits : P → ℕ → Q → Type 0) (rules : P → PortR
         answer s'.parts.kept s'.seat.active s'.seat.visits
     pub fails : LeaveFails (fits port') count wants (place_of s.seat.spot) s.parts.who s.parts.fed s.parts.kept (busies port) (busies port') answer
     pub tries : LeaveTries (busies port) (busies port') answer
+    pub grows : GrowsFrom adds (rules port).limits (root port) (known root seen port s.seat) (place_of s.seat.spot) s.seat.visits s'.seat.visits
+        (root port') (known root seen port' s'.seat)
+    pub splits : LeavesSplit (place_of s.seat.spot) branches (kin port) s.seat.spot s.seat.visits s'.seat.visits (kin port') s'.seat.spot
     pub stands : StandsAt rules root seen port s.seat → StandsAt rules root seen port' s'.seat
     pub roots : GoOn (root port) (root port')
     pub fixed : rules port' ≡ rules port

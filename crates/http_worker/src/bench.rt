@@ -74,8 +74,8 @@ impl<P: StreamPort, L: Link> Seated<P, L> {
         ensures over { self.new.over ≡ is_some self.new.player.ended }
         ensures ahead { GoesAhead P.fits P.rules P.root port.old port.new }
         ensures due { self.new.due ≡ leaves_due (P.busies port.old) (P.busies port.new) result self.new.player }
-        ensures turn { TakesTurn P.fits P.rules P.root P.seen P.count P.wants P.busies (G.grants desk.now) L.counts L.hears L.says
-            port.old self.old result port.new self.new }
+        ensures turn { TakesTurn P.fits P.rules P.root P.seen P.count P.wants P.busies P.adds P.kin P.branches
+            (G.grants desk.now) L.counts L.hears L.says port.old self.old result port.new self.new }
     {
         let pushes = pushes_at(rest, self.stream);
         let busies = port.busies();
@@ -110,7 +110,8 @@ impl<P: StreamPort, L: Link> Seated<P, L> {
         ensures over { is_some self.new.player.ended ≡ true }
         ensures who { self.new.player.parts.who ≡ self.old.player.parts.who }
         ensures ahead { GoesAhead P.fits P.rules P.root port.old port.new }
-        ensures closes { Closes P.fits P.rules P.root P.seen P.count P.wants P.busies port.old self.old.player result port.new self.new.player }
+        ensures closes { Closes P.fits P.rules P.root P.seen P.count P.wants P.busies P.adds P.kin P.branches
+            port.old self.old.player result port.new self.new.player }
     {
         self.player.close(port)
     }
@@ -295,8 +296,8 @@ impl<P: StreamPort, D: Door> Bench<P, D> {
         requires offered { IsOffered (G.grants desk.now) (places (P.rules self.old.port)) }
         ensures sound { IsSound P.fits P.rules D.told terms.now self.new }
         ensures ahead { GoesAhead P.fits P.rules P.root self.old.port self.new.port }
-        ensures turns { TurnsAt (TakesTurn P.fits P.rules P.root P.seen P.count P.wants P.busies (G.grants desk.now)
-            D.Link.counts D.Link.hears D.Link.says) P.busies D.Link.ready key self.old self.new }
+        ensures turns { TurnsAt (TakesTurn P.fits P.rules P.root P.seen P.count P.wants P.busies P.adds P.kin P.branches
+            (G.grants desk.now) D.Link.counts D.Link.hears D.Link.says) P.busies D.Link.ready key self.old self.new }
     {
         let _ = terms;
         let Some(seated) = self.players.get(key) else {
@@ -323,7 +324,8 @@ impl<P: StreamPort, D: Door> Bench<P, D> {
         requires sound { IsSound P.fits P.rules D.told terms.now self.old }
         ensures sound { IsSound P.fits P.rules D.told terms.now self.new }
         ensures ahead { GoesAhead P.fits P.rules P.root self.old.port self.new.port }
-        ensures closes { ClosesAt D.Link.told D.Link.counts D.told (Closes P.fits P.rules P.root P.seen P.count P.wants P.busies) key self.old self.new }
+        ensures closes { ClosesAt D.Link.told D.Link.counts D.told
+            (Closes P.fits P.rules P.root P.seen P.count P.wants P.busies P.adds P.kin P.branches) key self.old self.new }
     {
         let Some(seated) = self.players.get(key) else {
             return;
@@ -377,8 +379,8 @@ impl<P: StreamPort, D: Door> Bench<P, D> {
         requires offered { IsOffered (G.grants desk.now) (places (P.rules self.old.port)) }
         ensures sound { IsSound P.fits P.rules D.told terms.now self.new }
         ensures ahead { GoesAhead P.fits P.rules P.root self.old.port self.new.port }
-        ensures turns { WalksAll (TurnsAt (TakesTurn P.fits P.rules P.root P.seen P.count P.wants P.busies (G.grants desk.now)
-            D.Link.counts D.Link.hears D.Link.says) P.busies D.Link.ready) self.old self.new }
+        ensures turns { WalksAll (TurnsAt (TakesTurn P.fits P.rules P.root P.seen P.count P.wants P.busies P.adds P.kin P.branches
+            (G.grants desk.now) D.Link.counts D.Link.hears D.Link.says) P.busies D.Link.ready) self.old self.new }
     {
         for key in 0..self.players.capacity() {
             self.turn_at(alloc, rest, desk, terms, key);
@@ -390,7 +392,8 @@ impl<P: StreamPort, D: Door> Bench<P, D> {
         requires sound { IsSound P.fits P.rules D.told terms.now self.old }
         ensures sound { IsSound P.fits P.rules D.told terms.now self.new }
         ensures ahead { GoesAhead P.fits P.rules P.root self.old.port self.new.port }
-        ensures closes { WalksAll (ClosesAt D.Link.told D.Link.counts D.told (Closes P.fits P.rules P.root P.seen P.count P.wants P.busies)) self.old self.new }
+        ensures closes { WalksAll (ClosesAt D.Link.told D.Link.counts D.told
+            (Closes P.fits P.rules P.root P.seen P.count P.wants P.busies P.adds P.kin P.branches)) self.old self.new }
     {
         for key in 0..self.players.capacity() {
             self.close_at(terms, key);

@@ -11,6 +11,7 @@ ghost use Rattle.stream_registry.specs.Names.{places};
 ghost use Rattle.relay_session.specs.Places.{IsOffered};
 ghost use Rattle.http_worker.specs.Benches.{IsSound};
 ghost use Rattle.http_worker.specs.Books.{HasBooks, Settled};
+ghost use Rattle.http_worker.specs.Coming.{ByRounds};
 ghost use Rattle.http_worker.specs.Players.{Closes, TakesTurn};
 ghost use Rattle.http_worker.specs.Rounds.{Rounds};
 ghost use Rattle.http_worker.specs.Running.{HasRun, KeepsOn};
@@ -121,9 +122,9 @@ impl<P: StreamPort, D: Door, R: Rest> HttpWorker<P, D, R> {
     pub fn round<G: Desk>(&mut self, desk: &G) -> Round
         requires offered { IsOffered (G.grants desk.now) (places (P.rules self.old.bench.port)) }
         ensures rounds { Rounds D.Link.told D.Link.counts D.told
-            (TakesTurn P.fits P.rules P.root P.seen P.count P.wants P.busies (G.grants desk.now) D.Link.counts D.Link.hears D.Link.says)
-            P.busies D.Link.ready
-            (Closes P.fits P.rules P.root P.seen P.count P.wants P.busies) self.old result self.new }
+            (TakesTurn P.fits P.rules P.root P.seen P.count P.wants P.busies P.adds P.kin P.branches
+            (G.grants desk.now) D.Link.counts D.Link.hears D.Link.says) P.busies D.Link.ready
+            (Closes P.fits P.rules P.root P.seen P.count P.wants P.busies P.adds P.kin P.branches) self.old result self.new }
         ensures keeps { KeepsOn P.fits P.rules P.root self.old self.new }
         ensures books { HasBooks P.rules P.root P.seen D.Link.told D.Link.counts D.told (G.grants desk.now) self.old
             → HasBooks P.rules P.root P.seen D.Link.told D.Link.counts D.told (G.grants desk.now) self.new }
@@ -138,9 +139,13 @@ impl<P: StreamPort, D: Door, R: Rest> HttpWorker<P, D, R> {
         self.bench.round(&self.terms)
     }
 
-    /// Rounds until the door has closed and no player lives, with a pause after each round in which nothing moved.
+    /// Runs rounds until the door has closed and no player lives, with a pause after each round in which
+    /// nothing moved. The worker comes there by rounds, and does nothing between them. So it makes no call at
+    /// a stream but in a turn or a close of a player.
     pub fn run<W: Wait, G: Desk>(&mut self, rt: &W, desk: &G)
         requires offered { IsOffered (G.grants desk.now) (places (P.rules self.old.bench.port)) }
+        ensures rounds { ByRounds P.fits P.rules P.root P.seen P.count P.wants P.busies P.adds P.kin P.branches
+            D.Link.told D.Link.counts D.Link.hears D.Link.says D.Link.ready D.told (G.grants desk.now) self.old self.new }
         ensures keeps { KeepsOn P.fits P.rules P.root self.old self.new }
         ensures run { HasRun D.told self.new }
         ensures books { HasBooks P.rules P.root P.seen D.Link.told D.Link.counts D.told (G.grants desk.now) self.old

@@ -224,8 +224,8 @@ may_waits Moved m n x y w = tt
 may_waits Idle m n x y w = inr w
 may_waits (Ended e) m n x y w = tt
 
-module _ {P Q : Type 0} (fits : P → ℕ → Q → Type 0) (rules : P → PortRules) (root : P → Histories) (seen : Q → List Step) (count : Q → ℕ) (wants : Entry
-    → Type 0) (busies : P → ℕ) where
+module _ {P Q : Type 0} (fits : P → ℕ → Q → Type 0) (rules : P → PortRules) (root : P → Histories) (seen : Q → List Step)
+    (busies : P → ℕ) where
   pub on_here : (p : P) (s : SeatState Q) → GoesOn fits rules root seen busies p s p s
   on_here p s = record {
     knows = go_on_same (known root seen p s) (known root seen p s) (λ q. refl);
@@ -236,9 +236,13 @@ module _ {P Q : Type 0} (fits : P → ℕ → Q → Type 0) (rules : P → PortR
     passes = λ q x f. f;
   }
 
+module _ {P Q : Type 0} (fits : P → ℕ → Q → Type 0) (rules : P → PortRules) (root : P → Histories) (seen : Q → List Step) (count : Q → ℕ) (wants : Entry
+    → Type 0) (busies : P → ℕ) (Asks : P → SeatState Q → ℕ → Entry → Made → P → SeatState Q → Type 0)
+    (tells : (p : P) (s : SeatState Q) (place : ℕ) (e : Entry) (r : Made) (q : P) (t : SeatState Q)
+        → Asks p s place e r q t → Asked fits rules root seen count wants busies p s place e r q t) where
   pub on_called : (v w : Life P (SeatState Q)) (e : Entry) (rest : List Entry) (a : EdgeTurn)
-      → Called (Asked fits rules root seen count wants busies) v e rest a w → GoesOn fits rules root seen busies v.port v.seat w.port w.seat
-  on_called v w e rest a t = let x = t.asked in record {
+      → Called Asks v e rest a w → GoesOn fits rules root seen busies v.port v.seat w.port w.seat
+  on_called v w e rest a t = let x = tells v.port v.seat v.parts.place e t.came w.port w.seat t.asked in record {
     knows = x.knows;
     stands = x.stands;
     roots = x.roots;
@@ -247,9 +251,6 @@ module _ {P Q : Type 0} (fits : P → ℕ → Q → Type 0) (rules : P → PortR
     passes =
         x.passes;
   }
-
-  abbrev Asks : P → SeatState Q → ℕ → Entry → Made → P → SeatState Q → Type 0
-  Asks = Asked fits rules root seen count wants busies
 
   -- what a turn with a call leaves
   pub record Left (c : Core) (k : ClientState) (p : P) (s : SeatState Q) (a : EdgeTurn) (d : Core) (j : ClientState) (q : P) (t : SeatState Q) : Type 0 where
@@ -269,7 +270,7 @@ module _ {P Q : Type 0} (fits : P → ℕ → Q → Type 0) (rules : P → PortR
       record {
         sound = called_lives Asks v u e (waiting b) a (order_some c b o e i w) sound h;
         did = called_did Asks v u e (waiting b) a h;
-        may = λ x y. called_may Asks busies (λ p s place e f q t a. a.fails) v u e (waiting b) a x y h;
+        may = λ x y. called_may Asks busies (λ p s place e f q t x. (tells p s place e (made.Busy f) q t x).fails) v u e (waiting b) a x y h;
         lasts = called_lasts Asks v u e (waiting b) a h;
         on = on_called v u e (waiting b) a h;
       }

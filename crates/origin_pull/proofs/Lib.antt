@@ -5,6 +5,7 @@ pub mod Short
 pub mod Walking
 pub mod Turning
 pub mod Calling
+pub mod Moving
 pub mod Staying
 pub mod Standing
 pub mod Granting

@@ -1,7 +1,7 @@
 //! The calls of an edge at its place.
 ghost use Rattle.stream_registry.specs.Names.{places};
 ghost use Rattle.std.specs.Prelude.{◌≡◌, ◌++◌, ◌∷◌, [], None, Some};
-ghost use Rattle.relay_session.specs.Places.{Asked};
+ghost use Rattle.relay_session.specs.Places.{AskedAlone};
 ghost use Rattle.origin_calls.specs.Calls.{entry_of};
 ghost use Rattle.origin_pull.specs.Keeping.{IsAt, listed, waiting};
 ghost use Rattle.origin_pull.specs.Turns.{Called, after, after_begin, is_begin, life};
@@ -120,7 +120,7 @@ pub(crate) fn make<P: StreamPort>(body: &mut Body<P>, port: &mut P, entry: Entry
     requires at { IsAt (P.fits port.old) (places (P.rules port.old)) body.old.core body.old.seat }
     requires free { body.old.core.kept ≡ None }
     ensures at { IsAt (P.fits port.new) (places (P.rules port.new)) body.new.core body.new.seat }
-    ensures called { Called (Asked P.fits P.rules P.root P.seen P.count P.wants P.busies)
+    ensures called { Called (AskedAlone P.fits P.rules P.root P.seen P.count P.wants P.busies P.adds P.kin P.branches)
         (life body.old.core body.old.client port.old body.old.seat) entry (waiting body.old.core) result
         (life body.new.core body.new.client port.new body.new.seat) }
 {

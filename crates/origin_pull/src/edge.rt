@@ -1,8 +1,9 @@
 ghost use Rattle.stream_registry.specs.Names.{places};
 ghost use Rattle.std.specs.Prelude.{◌≡◌, ◌≤◌, ℕ, [], None, Some};
+ghost use Rattle.relay_session.specs.Alone.{GrowsFrom, LeavesSplit};
 ghost use Rattle.relay_session.specs.Onward.{GoesOn};
-ghost use Rattle.relay_session.specs.Places.{Asked};
-ghost use Rattle.relay_session.specs.SeatState.{GoOn, HasFit, IsElsewhere, LeaveFails, LeaveTries, LeavesFrom, StandsAt, left_at, place_of};
+ghost use Rattle.relay_session.specs.Places.{AskedAlone};
+ghost use Rattle.relay_session.specs.SeatState.{GoOn, HasFit, IsElsewhere, LeaveFails, LeaveTries, LeavesFrom, StandsAt, known, left_at, place_of};
 ghost use Rattle.relay_session.specs.declared.seat_answers.Active.TheVariants as active;
 ghost use Rattle.rtmp_client.specs.Bounds.{IsWithin};
 ghost use Rattle.rtmp_client.specs.ClientState.{has_started};
@@ -99,8 +100,8 @@ impl<P: StreamPort> Edge<P> {
     pub fn turn<L: Link>(&mut self, alloc: Global, port: &mut P, link: &mut L) -> EdgeTurn
         requires at { IsAt (P.fits port.old) (places (P.rules port.old)) self.old.parts self.old.seat }
         ensures at { IsAt (P.fits port.new) (places (P.rules port.new)) self.new.parts self.new.seat }
-        ensures turn { EndedBy (Asked P.fits P.rules P.root P.seen P.count P.wants P.busies) (ClientTurns L.hears L.says) self.old.ended
-            (life_at self.old port.old) link.old result (life_at self.new port.new) link.new }
+        ensures turn { EndedBy (AskedAlone P.fits P.rules P.root P.seen P.count P.wants P.busies P.adds P.kin P.branches)
+            (ClientTurns L.hears L.says) self.old.ended (life_at self.old port.old) link.old result (life_at self.new port.new) link.new }
         ensures ended { self.new.ended ≡ ended_by result }
         ensures stands { StandsFor self.new }
         ensures lasts { lasting_of self.new.parts self.new.client ≡ lasting_of self.old.parts self.old.client }
@@ -166,6 +167,10 @@ impl<P: StreamPort> Edge<P> {
         ensures busies { P.busies port.old ≤ P.busies port.new }
         ensures others { (q : ℕ) → IsElsewhere self.old.seat.spot q → P.root port.new q ≡ P.root port.old q }
         ensures passes { (q : ℕ) (p : P.Pass) → P.fits port.old q p → P.fits port.new q p }
+        ensures adds { GrowsFrom P.adds (P.rules port.old).limits (P.root port.old) (known P.root P.seen port.old self.old.seat) (place_of self.old.seat.spot)
+            self.old.seat.visits self.new.seat.visits (P.root port.new) (known P.root P.seen port.new self.new.seat) }
+        ensures splits { LeavesSplit (place_of self.old.seat.spot) P.branches (P.kin port.old) self.old.seat.spot self.old.seat.visits
+            self.new.seat.visits (P.kin port.new) self.new.seat.spot }
         ensures ended { self.new.ended ≡ Some (end_or_closed self.old.ended) }
         ensures stands { StandsFor self.new }
         ensures parts { self.new.parts ≡ record self.old.parts { kept = self.new.parts.kept } }

@@ -2,7 +2,7 @@
 ghost use Rattle.stream_registry.specs.Names.{places};
 ghost use Rattle.std.specs.Prelude.{◌≡◌};
 ghost use Rattle.relay_session.specs.Onward.{GoesOn};
-ghost use Rattle.relay_session.specs.Places.{Asked};
+ghost use Rattle.relay_session.specs.Places.{AskedAlone};
 ghost use Rattle.origin_pull.specs.Causes.{Did, MayBe};
 ghost use Rattle.origin_pull.specs.EdgeState.{LivesOn, lasting_of};
 ghost use Rattle.origin_pull.specs.Keeping.{IsAt, IsSound};
@@ -27,7 +27,7 @@ pub(crate) fn turn_on<P: StreamPort, L: Link>(
     requires sound { IsSound body.old.core body.old.client }
     ensures at { IsAt (P.fits port.new) (places (P.rules port.new)) body.new.core body.new.seat }
     ensures sound { LivesOn body.new.core body.new.client result }
-    ensures turn { Turn (Asked P.fits P.rules P.root P.seen P.count P.wants P.busies) (ClientTurns L.hears L.says)
+    ensures turn { Turn (AskedAlone P.fits P.rules P.root P.seen P.count P.wants P.busies P.adds P.kin P.branches) (ClientTurns L.hears L.says)
         (life body.old.core body.old.client port.old body.old.seat) link.old result (life body.new.core body.new.client port.new body.new.seat) link.new }
     ensures goes_on { GoesOn P.fits P.rules P.root P.seen P.busies port.old body.old.seat port.new body.new.seat }
     ensures lasts { lasting_of body.new.core body.new.client ≡ lasting_of body.old.core body.old.client }

@@ -1,4 +1,6 @@
 pub mod Counting
 pub mod Passing
 pub mod Turning
+pub mod Guests
 pub mod Working
+pub mod HttpWorking

@@ -44,14 +44,14 @@ use Rattle.passes_law.proofs.Passing.{left_keeps, none_keeps}
 use Rattle.passes_law.proofs.Turning.{keeps_ended, recorder_keeps}
 
 -- what each step keeps, a walk keeps
-walked : {B : Type 0} (step : ℕ → B → B → Type 0) (R : B → B → Type 0) → ((b : B) → R b b) → ((a b c : B) → R a b → R b c → R a c)
+pub walked : {B : Type 0} (step : ℕ → B → B → Type 0) (R : B → B → Type 0) → ((b : B) → R b b) → ((a b c : B) → R a b → R b c → R a c)
     → ((key : ℕ) (b c : B) → step key b c → R b c)
     → (n : ℕ) (b c : B) → Walks step n b c → R b c
 walked step R same next one zero b c w = subst (R b) (sym w) (same b)
 walked step R same next one (suc n) b c w = next b w.0 c (walked step R same next one n b w.0 w.1.0) (one n w.0 c w.1.1)
 
 -- it has left, so it is nowhere
-left_none : {Q : Type 0} (r : Leaving) (place : Option ℕ) (spot : Option (ℕ × Q)) → has_left r ≡ true → place_of spot ≡ left_at r place → spot ≡ None
+pub left_none : {Q : Type 0} (r : Leaving) (place : Option ℕ) (spot : Option (ℕ × Q)) → has_left r ≡ true → place_of spot ≡ left_at r place → spot ≡ None
 left_none leaving.Done place None h e = refl
 left_none leaving.Done place (Some p) h e = absurd (cc)
 left_none leaving.Worn place None h e = refl
@@ -60,7 +60,7 @@ left_none leaving.Busy place spot h e = absurd (cc)
 left_none leaving.OutOfMemory place spot h e = absurd (cc)
 
 -- a slab without values has none at any key
-none_at : {T : Type 0} (slots : List (Option T)) (key : ℕ) → count_by is_some slots ≡ 0 → slice_index_or slots key None ≡ None
+pub none_at : {T : Type 0} (slots : List (Option T)) (key : ℕ) → count_by is_some slots ≡ 0 → slice_index_or slots key None ≡ None
 none_at [] key e = refl
 none_at (None ∷ slots) zero e = refl
 none_at (None ∷ slots) (suc key) e = none_at slots key (omega (arith, e))

@@ -34,9 +34,10 @@ use Rattle.relay_session.specs.declared.end.End.{End}
 use Rattle.relay_session.specs.declared.turn.Turn.{Turn as TurnAnswer}
 use Rattle.relay_session.specs.declared.turn.Turn.TheVariants.{Moved, Idle, Ended}
 use Rattle.relay_replay.specs.Guests.{ConnState}
-use Rattle.relay_replay.specs.Cast.{AfterTurn, IsClosed, SessionTurn, SoleAdds, SoleAsks, known_in}
+use Rattle.relay_replay.specs.Cast.{AfterTurn, IsClosed, SessionTurn, known_in}
 use Rattle.relay_replay.specs.Served.{StandsIf}
 use Rattle.relay_replay.specs.Whole.{Follows, IsFedBy, IsMadeBy}
+use Rattle.relay_replay.specs.Streams.{SoleAdds, SoleAsks}
 use Rattle.relay_replay.proofs.Following.{Bears, Done, FedAfter, Grown, Makes, Named, grown_same, limits_same, makes_none, makes_then, own_same, turn_done}
 use Rattle.relay_replay.proofs.Serving.{closed_acts}
 use Rattle.relay_replay.proofs.Taking.{turn_took}

@@ -1,3 +1,4 @@
+use Rattle.relay_replay.specs.Streams.{SoleAsks}
 -- What a turn of a session does to the streams' histories and to its link
 use Rattle.std.proofs.Common.{inl, inr, ◌≡◌, ◌≢◌, ◌||◌, not, ℕ, nat_eq, if◌then◌else◌, Bool, true, false, List, [], ◌∷◌, ◌++◌, length, reverse, take, drop, All}
 use Rattle.std.proofs.Common.{Option, Some, None, refl, sym, ap, ◌∙◌, subst, arith, append_assoc, append-nil, length-append}
@@ -39,7 +40,6 @@ use Rattle.relay_session.specs.declared.seat_answers.Made.TheVariants as made
 use Rattle.relay_session.specs.declared.turn.Turn.{Turn}
 use Rattle.relay_session.specs.declared.turn.Turn.TheVariants.{Moved, Idle, Ended}
 use Rattle.relay_session.proofs.SeatStanding.{begins_same, begins_trans, calls_here}
-use Rattle.relay_replay.specs.Cast.{SoleAsks}
 
 -- ---- the calls of a name
 

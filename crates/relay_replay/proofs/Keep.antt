@@ -38,11 +38,12 @@ use Rattle.relay_replay.specs.declared.guest.Guest.{Guest}
 use Rattle.relay_replay.specs.declared.guest.Guest.TheVariants as guest
 use Rattle.relay_replay.specs.declared.guest.Answered.{Answered}
 use Rattle.relay_replay.specs.declared.guest.Answered.TheVariants as answered
-use Rattle.relay_replay.specs.Cast.{RecState, CastState, AfterTurn, AnsweredBy, AnsweredTurn, EdgeAnsweredBy, GuestTurn, PlayerAnsweredBy, SoleAsks, Times}
+use Rattle.relay_replay.specs.Cast.{RecState, CastState, AfterTurn, AnsweredBy, AnsweredTurn, EdgeAnsweredBy, GuestTurn, PlayerAnsweredBy, Times}
 use Rattle.relay_replay.specs.Cast.{Turned, Each, is_moved}
 use Rattle.relay_replay.specs.Cast.{told_edge, told_http, told_turn}
-use Rattle.relay_replay.specs.Turning.{AfterEdgeTurn, AfterHttpTurn, Asks, EdgeTurned, PlayerTurned}
+use Rattle.relay_replay.specs.Turning.{AfterEdgeTurn, AfterHttpTurn, EdgeTurned, PlayerTurned}
 use Rattle.relay_replay.specs.Scenes.{EdgeReady, Fits, IsPortOf, PlayerReady, ReadyBy, ReadyGuest, Sits, name_of, open_name}
+use Rattle.relay_replay.specs.Streams.{SoleAsks}
 
 -- ---- the desk grants places that are there
 
@@ -237,7 +238,7 @@ player_turned_by (Some e) desk port c port' d h t = absurd (cc)
 
 pub player_turned : (desk : Ask → Grant) (port between port' : SoleState) (c d : PlayState) (mid : PlayerState SeenState) (a : HttpTurn) (told : Answered)
     → told ≡ told_http a → is_some c.ended ≡ false
-    → http_turns.EndedBy Asks desk MemHears MemSays c.player.ended (player.life_at c.player port) c.link a (player.life_at mid between) d.link
+    → http_turns.EndedBy SoleAsks desk MemHears MemSays c.player.ended (player.life_at c.player port) c.link a (player.life_at mid between) d.link
     → (player.StandsFor desk c.player → player.StandsFor desk mid) → (player.StandsFor desk mid → player.OwesBy mid.ended desk mid.parts)
     → player.lasting_of mid.parts ≡ player.lasting_of c.player.parts
     → AfterHttpTurn a mid between d.player d.ended port' → PlayerAnsweredBy told c.ended desk port c port' d
@@ -253,7 +254,7 @@ edge_turned_by (Some e) port c port' d h t = absurd (cc)
 
 pub edge_turned : (port between port' : SoleState) (c d : PullState) (mid : EdgeState SeenState) (a : EdgeTurn) (told : Answered)
     → told ≡ told_edge a → is_some c.ended ≡ false
-    → edge_turns.EndedBy Asks (edge_turns.ClientTurns MemHears MemSays) c.edge.ended (edge.life_at c.edge port) c.link a (edge.life_at mid between) d.link
+    → edge_turns.EndedBy SoleAsks (edge_turns.ClientTurns MemHears MemSays) c.edge.ended (edge.life_at c.edge port) c.link a (edge.life_at mid between) d.link
     → edge.StandsFor mid → edge.lasting_of mid.parts mid.client ≡ edge.lasting_of c.edge.parts c.edge.client
     → AfterEdgeTurn a mid between d.edge d.ended port' → EdgeAnsweredBy told c.ended port c port' d
 edge_turned port between port' c d mid a told is lives turn stands lasts leads =

@@ -47,12 +47,13 @@ use Rattle.relay_replay.specs.declared.guest.Answered.TheVariants as answered
 use Rattle.relay_replay.specs.declared.guest.Guest.{Guest}
 use Rattle.relay_replay.specs.declared.guest.Guest.TheVariants as guest
 use Rattle.relay_replay.specs.Turning.{AfterEdgeTurn, AfterHttpTurn, EdgeTurnBy, PlayerTurn}
-use Rattle.relay_replay.specs.Cast.{AfterTurn, AnsweredTurn, CastState, GuestTurn, Each, IsClosed, RecTurnOf, Round, SessionTurn, SettledBy, SoleAsks}
+use Rattle.relay_replay.specs.Cast.{AfterTurn, AnsweredTurn, CastState, GuestTurn, Each, IsClosed, RecTurnOf, Round, SessionTurn, SettledBy}
 use Rattle.relay_replay.specs.Cast.{Times, TurnOf}
 use Rattle.relay_replay.specs.Plays.{IsNewEdge, IsNewPlayer, IsNewSession, Plays, ToldBy, told_guest, told_link, told_of}
 use Rattle.relay_replay.specs.Scenes.{Acts, CastBy, Does, IsOpen, SceneState, SettledIn, desk_of, is_acting, stand_of}
 use Rattle.relay_replay.specs.Served.{AreServed, EdgeServed, GuestServed, IsServed, PlayerServed, PlayerStandsIf, ServedIf, ServedIn, StandsIf}
 use Rattle.relay_replay.specs.Stand.{Stand, after, allows, is_setting}
+use Rattle.relay_replay.specs.Streams.{SoleAsks}
 use Rattle.relay_replay.proofs.Taking.{turn_took}
 use Rattle.relay_replay.proofs.TakingMore.{edge_took, player_took}
 

@@ -1,3 +1,4 @@
+use Rattle.relay_replay.specs.Streams.{SoleAsks}
 -- What a link in memory took is what its player, or its edge's client, sent
 use Rattle.std.proofs.Common.{inl, inr, ◌≡◌, ℕ, Bool, true, false, List, ◌∷◌, [], ◌++◌, take, Option, Some, None, Result, Ok, Err, sym, ap, ◌∙◌}
 use Rattle.relay_outside.specs.Heard.{Came, CameBytes, CameEnd, CameNotYet, CameFailed}
@@ -32,7 +33,6 @@ use Rattle.origin_pull.specs.Turns as edge
 use Rattle.origin_pull.specs.declared.core_fields.Core.{Core as EdgeCore}
 use Rattle.origin_pull.specs.declared.end.EdgeEnd.{EdgeEnd}
 use Rattle.origin_pull.specs.declared.turn.EdgeTurn.{EdgeTurn}
-use Rattle.relay_replay.specs.Turning.{Asks}
 use Rattle.relay_replay.proofs.Taking.{heard_same, said_took}
 
 -- ---- a player
@@ -157,8 +157,8 @@ module _ {P S : Type 0} (asks : P → S → ℕ → Entry → Made → P → S �
 -- AFTER A TURN the link took what the player sent, if it had before
 pub player_took : (desk : Ask → Grant) (o : Option HttpEnd) (v : Life SoleState (SeatState SeenState)) (l : MemLinkState) (a : HttpTurn)
     (w : Life SoleState (SeatState SeenState)) (m : MemLinkState)
-    → EndedBy Asks desk MemHears MemSays o v l a w m → l.sent ≡ v.parts.sent → m.sent ≡ w.parts.sent
-player_took desk o v l a w m t h = walk_took Asks desk o v l a w m t h
+    → EndedBy SoleAsks desk MemHears MemSays o v l a w m → l.sent ≡ v.parts.sent → m.sent ≡ w.parts.sent
+player_took desk o v l a w m t h = walk_took SoleAsks desk o v l a w m t h
 
 -- ---- a client
 
@@ -228,7 +228,7 @@ told_sent client_turn.Idle c b a d j t = ap (λ (x : ClientCore). x.sent) t.0.pa
 told_sent client_turn.Ended c b a d j t = ap (λ (x : ClientState). x.parts.sent) t.1
 
 by_took : (ws : List Entry) (v w : edge.Life SoleState (SeatState SeenState)) (l m : MemLinkState) (a : EdgeTurn)
-    → edge.TurnBy Asks (edge.ClientTurns MemHears MemSays) ws v l a w m → ClientTook v.client.parts l → ClientTook w.client.parts m
+    → edge.TurnBy SoleAsks (edge.ClientTurns MemHears MemSays) ws v l a w m → ClientTook v.client.parts l → ClientTook w.client.parts m
 by_took [] v w l m a t h =
     client_link v.client.ended (life_of v.client) (life_of t.0.between) l m t.0.turned.comes t.0.turned.made h
     ∙ sym (told_sent t.0.answer v.parts t.0.between a w.parts w.client t.0.told)
@@ -237,7 +237,7 @@ by_took (e ∷ rest) v w l m a t h = ap (λ (x : MemLinkState). x.sent) t.1 ∙ 
 -- AFTER A TURN the link took what the edge's client sent, if it had before
 pub edge_took : (o : Option EdgeEnd) (v : edge.Life SoleState (SeatState SeenState)) (l : MemLinkState) (a : EdgeTurn)
     (w : edge.Life SoleState (SeatState SeenState)) (m : MemLinkState)
-    → edge.EndedBy Asks (edge.ClientTurns MemHears MemSays) o v l a w m → l.sent ≡ v.client.parts.sent → m.sent ≡ w.client.parts.sent
+    → edge.EndedBy SoleAsks (edge.ClientTurns MemHears MemSays) o v l a w m → l.sent ≡ v.client.parts.sent → m.sent ≡ w.client.parts.sent
 edge_took (Some e) v l a w m t h = ap (λ (x : MemLinkState). x.sent) t.2 ∙ h
     ∙ sym (ap (λ (x : edge.Life SoleState (SeatState SeenState)). x.client.parts.sent) t.1)
 edge_took None v l a w m t h = by_took (waiting v.parts) v w l m a t h

@@ -1,24 +1,20 @@
 -- What runs in a replay, and a turn of each of its parts.
-use Rattle.std.specs.Prelude.{◌≡◌, ◌<◌, ℕ, zero, suc, Bool, true, false, List, [], ◌++◌, length, slice_get, slice_set, Option, None, Some}
+use Rattle.std.specs.Prelude.{◌≡◌, ◌<◌, ℕ, zero, suc, Bool, true, false, List, ◌++◌, length, slice_get, slice_set, Option, None, Some}
 use Rattle.av_unit.specs.declared.item.Item.{Item}
 use Rattle.command_dialog.specs.declared.types.Ask.{Ask}
 use Rattle.command_dialog.specs.declared.types.Grant.{Grant}
 use Rattle.relay_outside.specs.MemLinks.{MemHears, MemSays}
 use Rattle.stream_model.specs.declared.calls.Entry.{Entry}
 use Rattle.stream_registry.specs.Books.{SoleState, SeenState, FitsSole, journal_at, sole_rules}
-use Rattle.stream_registry.specs.Splits.{Kin}
-use Rattle.stream_registry.specs.Told.{Histories, Step}
-use Rattle.turn_gate.specs.declared.view.Branch.{Branch}
+use Rattle.stream_registry.specs.Told.{Histories}
 use Rattle.relay_session.specs.Acting.{Acting, ActsBy}
 use Rattle.relay_session.specs.Alone.{GrowsFrom}
-use Rattle.relay_session.specs.Places.{AskedAlone}
-use Rattle.relay_session.specs.SeatState.{GoOn, IsElsewhere, LeaveFails, LeavesFrom, SeatState, StandsAt, known, left_at, place_of}
+use Rattle.relay_session.specs.SeatState.{GoOn, IsElsewhere, LeaveFails, LeavesFrom, StandsAt, known, left_at, place_of}
 use Rattle.relay_session.specs.SessionState.{BeginsOwed, IsWhole, SessionState, StandsFor, end_or_quit, ended_by, lasting_of, life_at}
 use Rattle.relay_session.specs.Turns.{EndedBy}
 use Rattle.relay_session.specs.declared.end.End.{End}
 use Rattle.relay_session.specs.declared.end.End.TheVariants as end
 use Rattle.relay_session.specs.declared.seat_answers.Leaving.{Leaving}
-use Rattle.relay_session.specs.declared.seat_answers.Made.{Made}
 use Rattle.relay_session.specs.declared.turn.Turn.{Turn}
 use Rattle.relay_session.specs.declared.turn.Turn.TheVariants.{Moved, Idle, Ended}
 use Rattle.flv_tags.specs.Text.{flv_text}
@@ -38,6 +34,7 @@ use Rattle.relay_replay.specs.declared.recording.Writer.{Writer}
 use Rattle.relay_replay.specs.declared.recording.Writer.TheVariants as writer
 use Rattle.relay_replay.specs.Files.{FileState, FileTakes}
 use Rattle.relay_replay.specs.Guests.{ConnState, PlayState, PullState}
+use Rattle.relay_replay.specs.Streams.{SoleAdds, SoleAsks, no_branches, no_kin}
 use Rattle.relay_replay.specs.Turning.{EdgeTurnBy, PlayerTurn}
 use Rattle.relay_replay.specs.declared.guest.Guest.{Guest}
 use Rattle.relay_replay.specs.declared.guest.Guest.TheVariants as guest
@@ -81,25 +78,6 @@ pub record CastState : Type 0 where
   -- sessions, players over HTTP and edges
   pub sessions : List Guest
   pub recorders : List RecState
-
--- ---- what the streams say of a call
-
--- calls are put behind what was there, and no other is
-abbrev pub SoleAdds : List Step → List Step → List Step → Type 0
-SoleAdds = λ (h steps i : List Step). i ≡ h ++ steps
-
--- no pass is split off
-abbrev pub no_kin : SoleState → Kin
-no_kin = λ (port : SoleState) (q : ℕ). []
-
-abbrev pub no_branches : SeenState → List Branch
-no_branches = λ (p : SeenState). []
-
--- one call of a session at these streams
-abbrev pub SoleAsks : SoleState → SeatState SeenState → ℕ → Entry → Made → SoleState → SeatState SeenState → Type 0
-SoleAsks = AskedAlone FitsSole (λ (s : SoleState). sole_rules s.rules) (λ s. journal_at s.books) (λ (p : SeenState). p.seen) (λ p. length p.seen)
-    (λ (_ : Entry). Unit {0}) (λ _. 0)
-    SoleAdds no_kin no_branches
 
 -- ---- a session's turn
 

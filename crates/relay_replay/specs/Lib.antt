@@ -1,5 +1,6 @@
 pub mod Files
 pub mod Guests
+pub mod Streams
 pub mod Turning
 pub mod Stand
 pub mod Cast

@@ -5,10 +5,10 @@ use Rattle.command_dialog.specs.declared.types.Grant.{Grant}
 use Rattle.relay_outside.specs.MemLinks.{MemHears, MemSays}
 use Rattle.stream_model.specs.declared.calls.Entry.{Entry}
 use Rattle.stream_registry.specs.Books.{SoleState, SeenState, FitsSole, journal_at, sole_rules}
-use Rattle.relay_session.specs.Places.{Asked}
-use Rattle.relay_session.specs.SeatState.{GoOn, IsElsewhere, LeaveFails, LeavesFrom, SeatState, StandsAt, left_at, place_of}
+use Rattle.stream_registry.specs.Told.{Histories}
+use Rattle.relay_session.specs.Alone.{GrowsFrom}
+use Rattle.relay_session.specs.SeatState.{GoOn, IsElsewhere, LeaveFails, LeavesFrom, SeatState, StandsAt, known, left_at, place_of}
 use Rattle.relay_session.specs.declared.seat_answers.Leaving.{Leaving}
-use Rattle.relay_session.specs.declared.seat_answers.Made.{Made}
 use Rattle.http_flv.specs.PlayerState as http
 use Rattle.http_flv.specs.PlayerState.{PlayerState}
 use Rattle.http_flv.specs.Turns as http_turns
@@ -24,18 +24,19 @@ use Rattle.origin_pull.specs.declared.end.EdgeEnd.TheVariants as edge_end
 use Rattle.origin_pull.specs.declared.turn.EdgeTurn.{EdgeTurn}
 use Rattle.origin_pull.specs.declared.turn.EdgeTurn.TheVariants as edge_turn
 use Rattle.relay_replay.specs.Guests.{PlayState, PullState}
+use Rattle.relay_replay.specs.Streams.{SoleAdds, SoleAsks}
 
 -- a seat's calls stand in the histories
 abbrev pub SeatStands : SoleState → SeatState SeenState → Type 0
 SeatStands port s = StandsAt (λ (p : SoleState). sole_rules p.rules) (λ p. journal_at p.books) (λ (p : SeenState). p.seen) port s
 
--- a call at these streams
-abbrev pub Asks : SoleState → SeatState SeenState → ℕ → Entry → Made → SoleState → SeatState SeenState → Type 0
-Asks = Asked FitsSole (λ (s : SoleState). sole_rules s.rules) (λ s. journal_at s.books) (λ (p : SeenState). p.seen) (λ p. length p.seen)
-    (λ (_ : Entry). Unit {0}) (λ _. 0)
+-- what its pass has seen of its place, and all of the others
+abbrev pub known_by : SoleState → SeatState SeenState → Histories
+known_by port s = known (λ (p : SoleState). journal_at p.books) (λ (p : SeenState). p.seen) port s
 
 -- A SEAT WAS LEFT, named so at so many bytes of input: its last calls were made. Where its calls stood in the
--- histories they do so after it, and no history has more but that of the place where it was
+-- histories they do so after it. These calls came to the history of the place where it was, and no other came
+-- to any
 pub record IsLeft (port : SoleState) (who fed : ℕ) (kept : Option Entry) (s : SeatState SeenState) (port' : SoleState) (kept' : Option Entry)
     (s' : SeatState SeenState) : Type 0 where
   pub leaving : Leaving
@@ -46,6 +47,8 @@ pub record IsLeft (port : SoleState) (who fed : ℕ) (kept : Option Entry) (s : 
   pub away : place_of s'.spot ≡ None
   pub roots : GoOn (journal_at port.books) (journal_at port'.books)
   pub others : (q : ℕ) → IsElsewhere s.spot q → journal_at port'.books q ≡ journal_at port.books q
+  pub grows : GrowsFrom SoleAdds (sole_rules port.rules).limits (journal_at port.books) (known_by port s) (place_of s.spot) s.visits s'.visits
+      (journal_at port'.books) (known_by port' s')
   pub stands : SeatStands port s → SeatStands port' s'
   pub fixed : sole_rules port'.rules ≡ sole_rules port.rules
 
@@ -71,7 +74,7 @@ pub record PlayerTurned (desk : Ask → Grant) (port : SoleState) (c : PlayState
   pub answer : HttpTurn
   pub between : SoleState
   pub mid : PlayerState SeenState
-  pub turn : http_turns.EndedBy Asks desk MemHears MemSays c.player.ended (http.life_at c.player port) c.link answer (http.life_at mid between) d.link
+  pub turn : http_turns.EndedBy SoleAsks desk MemHears MemSays c.player.ended (http.life_at c.player port) c.link answer (http.life_at mid between) d.link
   pub stands : http.StandsFor desk c.player → http.StandsFor desk mid
   pub owed : http.StandsFor desk mid → http.OwesBy mid.ended desk mid.parts
   pub lasts : http.lasting_of mid.parts ≡ http.lasting_of c.player.parts
@@ -104,7 +107,7 @@ pub record EdgeTurned (port : SoleState) (c : PullState) (port' : SoleState) (d 
   pub answer : EdgeTurn
   pub between : SoleState
   pub mid : EdgeState SeenState
-  pub turn : edge_turns.EndedBy Asks (edge_turns.ClientTurns MemHears MemSays) c.edge.ended (edge.life_at c.edge port) c.link answer
+  pub turn : edge_turns.EndedBy SoleAsks (edge_turns.ClientTurns MemHears MemSays) c.edge.ended (edge.life_at c.edge port) c.link answer
       (edge.life_at mid between) d.link
   pub stands : edge.StandsFor mid
   pub lasts : edge.lasting_of mid.parts mid.client ≡ edge.lasting_of c.edge.parts c.edge.client

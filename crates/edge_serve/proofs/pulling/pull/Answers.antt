@@ -1,4 +1,4 @@
-use Rattle.std.proofs.Common.{◌≡◌, ◌<◌, ◌∙◌, None, refl, sym, ap, subst, arith}
+use Rattle.std.proofs.Common.{◌≡◌, ◌<◌, ◌∙◌, inl, inr, None, refl, sym, ap, subst, arith}
 use Rattle.origin_pull.specs.declared.end.EdgeEnd.{EdgeEnd}
 use Rattle.stream_registry.specs.Gates.{told, told_at}
 use Rattle.stream_registry.specs.Names.{PortRules, places}
@@ -12,8 +12,11 @@ use Rattle.edge_serve.proofs.Pulled.{has_pulled, new_at, new_drives, new_stands,
 use Rattle.edge_serve.proofs.pulling.pull.Goals as goal
 
 -- there was no memory for a client
-pub returns-in_default : goal.returns-in_default
-returns-in_default g c =
+pub returns-in_default-clause-alone : goal.returns-in_default-clause-alone
+returns-in_default-clause-alone g c = inl (refl, refl)
+
+pub returns-in_default-clause-pulled : goal.returns-in_default-clause-pulled
+returns-in_default-clause-pulled g c =
     record { fixed = refl; played = nothing_played _ _ _; client = None; line_is = λ n. absurd (n refl); pulled = λ n. absurd (n refl) }
 
 pub drive-end-requires-clause-at : goal.drive-end-requires-clause-at
@@ -22,8 +25,26 @@ drive-end-requires-clause-at g c =
     let there : c.new_edge-edge.result.parts.place < places (shared_rules c.args.port) = omega (arith, m.place, c.requires.there) in
     new_at _ _ c.new_edge-edge.result m.seat m.calls there
 
-pub returns : goal.returns
-returns g c =
+pub returns-clause-alone : goal.returns-clause-alone
+returns-clause-alone g c =
+    let d = c.drive-end in
+    let w = c.leave-worn in
+    inr (record {
+      client = c.in-Ok.client;
+      new = c.in-Ok.ensures.new;
+      made = c.new_edge-edge.result;
+      is_made = c.new_edge-edge.ensures.made;
+      over = d.new.edge;
+      between = d.new.port;
+      turns = d.ensures.turns;
+      ended = d.ensures.ended;
+      gone = w.new.edge;
+      closes = w.ensures.closes;
+      away = w.ensures.away;
+    })
+
+pub returns-clause-pulled : goal.returns-clause-pulled
+returns-clause-pulled g c =
     let L = g.L.Link in
     let k = pull_of c.args.stream.address.now c.args.stream.app.now c.args.stream.name.now in
     let max = c.args.stream.longest in

@@ -15,21 +15,25 @@ returns-in-Answer-clause-called g c =
     record {
       came = made.Answer c.in-Answer.reply;
       asked = record {
-        spot = e.spot;
-        active = e.active;
-        makes = e.makes;
-        calls = e.calls;
-        noted = e.noted;
-        fails = e.fails;
-        tries = e.tries;
-        knows =
-            e.knows;
-        stands = e.stands;
-        roots = e.roots;
-        others = e.others;
-        fixed = e.fixed;
-        later = e.busies;
-        passes = e.passes;
+        asked = record {
+          spot = e.spot;
+          active = e.active;
+          makes = e.makes;
+          calls = e.calls;
+          noted = e.noted;
+          fails = e.fails;
+          tries = e.tries;
+          knows = e.knows;
+          stands = e.stands;
+          roots = e.roots;
+          others = e.others;
+          fixed = e.fixed;
+          later = e.busies;
+          passes = e.passes;
+        };
+        fit = e.fit;
+        grows = e.adds;
+        splits = e.splits;
       };
       became = (
         answered_parts b.core c.note.new.core c.args.entry _ c.in-Answer.reply c.requires.free c.note.ensures c.of-asked.ensures,

@@ -1,5 +1,5 @@
 use Rattle.std.proofs.Common.{◌≡◌, sym, ap, ◌∙◌, subst, rules, Some, None}
-use Rattle.relay_session.specs.Places.{Asked}
+use Rattle.relay_session.specs.Places.{AskedAlone}
 use Rattle.origin_pull.specs.Causes.{Did}
 use Rattle.stream_registry.specs.Names.{places}
 use Rattle.origin_pull.specs.EdgeState.{Lasting, lasting_of}
@@ -17,7 +17,8 @@ returns-in-Some-clause-sound g c =
     let b = c.args.body.now in
     let n = c.next_call in
     let m = c.make in
-    let r = called_leaves P.fits P.rules P.root P.seen P.count P.wants P.busies b.core n.new.core m.new.body.core b.client m.new.body.client
+    let r = called_leaves P.fits P.rules P.root P.seen P.count P.wants P.busies
+    (AskedAlone P.fits P.rules P.root P.seen P.count P.wants P.busies P.adds P.kin P.branches) (λ p s place e r q t a. a.asked) b.core n.new.core m.new.body.core b.client m.new.body.client
     c.args.port.now m.new.port b.seat m.new.body.seat n.result c.in-Some.entry m.result (search rules) n.ensures.order n.ensures.rest c.requires.sound
     m.ensures.called in
     r.sound
@@ -28,7 +29,8 @@ returns-in-Some-clause-did g c =
     let b = c.args.body.now in
     let n = c.next_call in
     let m = c.make in
-    let r = called_leaves P.fits P.rules P.root P.seen P.count P.wants P.busies b.core n.new.core m.new.body.core b.client m.new.body.client
+    let r = called_leaves P.fits P.rules P.root P.seen P.count P.wants P.busies
+    (AskedAlone P.fits P.rules P.root P.seen P.count P.wants P.busies P.adds P.kin P.branches) (λ p s place e r q t a. a.asked) b.core n.new.core m.new.body.core b.client m.new.body.client
     c.args.port.now m.new.port b.seat m.new.body.seat n.result c.in-Some.entry m.result (search rules) n.ensures.order n.ensures.rest c.requires.sound
     m.ensures.called in
     r.did
@@ -39,7 +41,8 @@ returns-in-Some-clause-lasts g c =
     let b = c.args.body.now in
     let n = c.next_call in
     let m = c.make in
-    let r = called_leaves P.fits P.rules P.root P.seen P.count P.wants P.busies b.core n.new.core m.new.body.core b.client m.new.body.client
+    let r = called_leaves P.fits P.rules P.root P.seen P.count P.wants P.busies
+    (AskedAlone P.fits P.rules P.root P.seen P.count P.wants P.busies P.adds P.kin P.branches) (λ p s place e r q t a. a.asked) b.core n.new.core m.new.body.core b.client m.new.body.client
     c.args.port.now m.new.port b.seat m.new.body.seat n.result c.in-Some.entry m.result (search rules) n.ensures.order n.ensures.rest c.requires.sound
     m.ensures.called in
     r.lasts
@@ -50,7 +53,8 @@ returns-in-Some-clause-goes_on g c =
     let b = c.args.body.now in
     let n = c.next_call in
     let m = c.make in
-    let r = called_leaves P.fits P.rules P.root P.seen P.count P.wants P.busies b.core n.new.core m.new.body.core b.client m.new.body.client
+    let r = called_leaves P.fits P.rules P.root P.seen P.count P.wants P.busies
+    (AskedAlone P.fits P.rules P.root P.seen P.count P.wants P.busies P.adds P.kin P.branches) (λ p s place e r q t a. a.asked) b.core n.new.core m.new.body.core b.client m.new.body.client
     c.args.port.now m.new.port b.seat m.new.body.seat n.result c.in-Some.entry m.result (search rules) n.ensures.order n.ensures.rest c.requires.sound
     m.ensures.called in
     r.on
@@ -62,7 +66,8 @@ returns-in-Some-clause-may_be g c =
     let n = c.next_call in
     let m = c.make in
     let L = g.L.Link in
-    let r = called_leaves P.fits P.rules P.root P.seen P.count P.wants P.busies b.core n.new.core m.new.body.core b.client m.new.body.client
+    let r = called_leaves P.fits P.rules P.root P.seen P.count P.wants P.busies
+    (AskedAlone P.fits P.rules P.root P.seen P.count P.wants P.busies P.adds P.kin P.branches) (λ p s place e r q t a. a.asked) b.core n.new.core m.new.body.core b.client m.new.body.client
     c.args.port.now m.new.port b.seat m.new.body.seat n.result c.in-Some.entry m.result (search rules) n.ensures.order n.ensures.rest c.requires.sound
     m.ensures.called in
     r.may (L.counts c.args.link.now) (L.counts c.args.link.now)
@@ -74,7 +79,8 @@ returns-in-Some-clause-turn g c =
     let n = c.next_call in
     let m = c.make in
     let L = g.L.Link in
-    called_turn P.fits P.rules P.root P.seen P.count P.wants P.busies (ClientTurns L.hears L.says) b.core n.new.core m.new.body.core b.client
+    called_turn P.fits P.rules P.root P.seen P.count P.wants P.busies
+    (AskedAlone P.fits P.rules P.root P.seen P.count P.wants P.busies P.adds P.kin P.branches) (λ p s place e r q t a. a.asked) (ClientTurns L.hears L.says) b.core n.new.core m.new.body.core b.client
     m.new.body.client c.args.port.now m.new.port b.seat m.new.body.seat c.args.link.now n.result c.in-Some.entry m.result (search rules)
     n.ensures.order n.ensures.rest m.ensures.called
 
@@ -87,7 +93,7 @@ returns-in-None-clause-turn g c =
     let p = c.pull in
     let free = free_of b.core n.new.core n.result (search rules) n.ensures.order n.ensures.rest (n.ensures.none (search rules)) in
     let same : n.new.core ≡ b.core = same_free b.core n.new.core n.ensures.rest (n.ensures.none (search rules)) free in
-    turn_pulled (Asked P.fits P.rules P.root P.seen P.count P.wants P.busies) (ClientTurns L.hears L.says) b.core p.new.core b.client p.new.client
+    turn_pulled (AskedAlone P.fits P.rules P.root P.seen P.count P.wants P.busies P.adds P.kin P.branches) (ClientTurns L.hears L.says) b.core p.new.core b.client p.new.client
     c.args.port.now b.seat c.args.link.now p.new.link p.result (free_waits b.core free)
     (subst (λ (x : Core). Pulls (ClientTurns L.hears L.says) x b.client c.args.link.now p.result p.new.core p.new.client p.new.link) same p.ensures.pulls)
 
@@ -118,7 +124,7 @@ returns-in-None-clause-may_be g c =
 
 pub returns-in-None-clause-goes_on : goal.returns-in-None-clause-goes_on
 returns-in-None-clause-goes_on g c = let P = g.P.StreamPort in
-    on_here P.fits P.rules P.root P.seen P.count P.wants P.busies c.args.port.now c.args.body.now.seat
+    on_here P.fits P.rules P.root P.seen P.busies c.args.port.now c.args.body.now.seat
 
 pub returns-in-None-clause-at : goal.returns-in-None-clause-at
 returns-in-None-clause-at g c =

@@ -10,5 +10,5 @@ invariant-loop-key g l = record {
   sound : IsSound g.P.StreamPort.fits g.P.StreamPort.rules g.D.Door.told l.terms l.self;
   ahead : GoesAhead g.P.StreamPort.fits g.P.StreamPort.rules g.P.StreamPort.root l.fn.self.port l.self.port;
   walk : Walks (ClosesAt g.D.Link.Link.told g.D.Link.Link.counts g.D.Door.told (Closes g.P.StreamPort.fits g.P.StreamPort.rules g.P.StreamPort.root
-      g.P.StreamPort.seen g.P.StreamPort.count g.P.StreamPort.wants g.P.StreamPort.busies)) l.key l.fn.self l.self;
+      g.P.StreamPort.seen g.P.StreamPort.count g.P.StreamPort.wants g.P.StreamPort.busies g.P.StreamPort.adds g.P.StreamPort.kin g.P.StreamPort.branches)) l.key l.fn.self l.self;
 }

@@ -15,7 +15,7 @@ returns-then-not-seated-clause-closes g c =
     let s = c.in-Some.seated.now in
     closes_lives g.D.Link.Link.told g.D.Link.Link.counts g.D.Door.told
     (Closes g.P.StreamPort.fits g.P.StreamPort.rules g.P.StreamPort.root g.P.StreamPort.seen g.P.StreamPort.count g.P.StreamPort.wants
-    g.P.StreamPort.busies) c.args.key s b (sym c.in-Some.ensures)
+    g.P.StreamPort.busies g.P.StreamPort.adds g.P.StreamPort.kin g.P.StreamPort.branches) c.args.key s b (sym c.in-Some.ensures)
     (lives_if s.player.ended s.over (c.requires.sound.seated c.args.key s (sym c.in-Some.ensures)).over c.if-not-seated.true)
 
 pub close-answer-requires-clause-fit : goal.close-answer-requires-clause-fit
@@ -56,7 +56,7 @@ returns-then-has_left-clause-closes g c =
     let gone = is_gone g.D.Link.Link.told g.D.Link.Link.counts g.D.Door.told c.args.key u b b' c.try_remove.new.self n.link r.updates r.len h.players
     (ap (λ x. x.link) e.link) h.back in
     let closes = Closes g.P.StreamPort.fits g.P.StreamPort.rules g.P.StreamPort.root g.P.StreamPort.seen g.P.StreamPort.count g.P.StreamPort.wants
-    g.P.StreamPort.busies in
+    g.P.StreamPort.busies g.P.StreamPort.adds g.P.StreamPort.kin g.P.StreamPort.branches in
     closes_over g.D.Link.Link.told g.D.Link.Link.counts g.D.Door.told closes c.args.key u b b' (sym r.value)
     (ended_at (get b.players c.args.key) s u c.in-Some.ensures r.value (c.requires.sound.seated c.args.key s (sym c.in-Some.ensures)).over
     c.if-not-seated.false)
@@ -97,7 +97,7 @@ returns-clause-closes g c =
     let over = over_same (get b.players c.args.key) s u n c.in-Some.ensures r.value c.if-not-seated.false e.link in
     closes_over g.D.Link.Link.told g.D.Link.Link.counts g.D.Door.told
     (Closes g.P.StreamPort.fits g.P.StreamPort.rules g.P.StreamPort.root g.P.StreamPort.seen g.P.StreamPort.count g.P.StreamPort.wants
-    g.P.StreamPort.busies) c.args.key u b _ (sym r.value)
+    g.P.StreamPort.busies g.P.StreamPort.adds g.P.StreamPort.kin g.P.StreamPort.branches) c.args.key u b _ (sym r.value)
     (ended_at (get b.players c.args.key) s u c.in-Some.ensures r.value (c.requires.sound.seated c.args.key s (sym c.in-Some.ensures)).over
     c.if-not-seated.false)
     (record {

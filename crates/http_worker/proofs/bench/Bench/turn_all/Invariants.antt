@@ -13,6 +13,6 @@ invariant-loop-key g l = record {
   ahead : GoesAhead g.P.StreamPort.fits g.P.StreamPort.rules g.P.StreamPort.root l.fn.self.port l.self.port;
   offered : IsOffered (g.G.Desk.grants l.desk) (places (g.P.StreamPort.rules l.self.port));
   walk : Walks (TurnsAt (TakesTurn g.P.StreamPort.fits g.P.StreamPort.rules g.P.StreamPort.root g.P.StreamPort.seen g.P.StreamPort.count
-      g.P.StreamPort.wants g.P.StreamPort.busies (g.G.Desk.grants l.desk) g.D.Link.Link.counts g.D.Link.Link.hears g.D.Link.Link.says)
+      g.P.StreamPort.wants g.P.StreamPort.busies g.P.StreamPort.adds g.P.StreamPort.kin g.P.StreamPort.branches (g.G.Desk.grants l.desk) g.D.Link.Link.counts g.D.Link.Link.hears g.D.Link.Link.says)
       g.P.StreamPort.busies g.D.Link.Link.ready) l.key l.fn.self l.self;
 }

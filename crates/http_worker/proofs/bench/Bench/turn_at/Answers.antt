@@ -10,7 +10,7 @@ use Rattle.http_worker.proofs.bench.Bench.turn_at.Goals as goal
 pub returns-then-seated-clause-turns : goal.returns-then-seated-clause-turns
 returns-then-seated-clause-turns g c =
     let takes = TakesTurn g.P.StreamPort.fits g.P.StreamPort.rules g.P.StreamPort.root g.P.StreamPort.seen g.P.StreamPort.count g.P.StreamPort.wants
-    g.P.StreamPort.busies (g.G.Desk.grants c.args.desk.now) g.D.Link.Link.counts g.D.Link.Link.hears g.D.Link.Link.says in
+    g.P.StreamPort.busies g.P.StreamPort.adds g.P.StreamPort.kin g.P.StreamPort.branches (g.G.Desk.grants c.args.desk.now) g.D.Link.Link.counts g.D.Link.Link.hears g.D.Link.Link.says in
     let b = c.args.self.now in
     let s = c.in-Some.seated.now in
     let at = sym c.in-Some.ensures in
@@ -47,7 +47,7 @@ returns-clause-sound g c =
 pub returns-clause-turns : goal.returns-clause-turns
 returns-clause-turns g c =
     let takes = TakesTurn g.P.StreamPort.fits g.P.StreamPort.rules g.P.StreamPort.root g.P.StreamPort.seen g.P.StreamPort.count g.P.StreamPort.wants
-    g.P.StreamPort.busies (g.G.Desk.grants c.args.desk.now) g.D.Link.Link.counts g.D.Link.Link.hears g.D.Link.Link.says in
+    g.P.StreamPort.busies g.P.StreamPort.adds g.P.StreamPort.kin g.P.StreamPort.branches (g.G.Desk.grants c.args.desk.now) g.D.Link.Link.counts g.D.Link.Link.hears g.D.Link.Link.says in
     let b = c.args.self.now in
     let s = c.in-Some.seated.now in
     let u = c.in-Some-get_mut.seated.now in

@@ -43,6 +43,6 @@ returns-clause-books g c works =
     let sound = subst (λ v. IsSound fits rules g.D.Door.told v.terms v.bench) c.self.view_is c.self.invariant in
     subst (λ t. Works rules root g.P.StreamPort.seen g.D.Link.Link.told g.D.Link.Link.counts g.D.Door.told desk t c.close_all.new.self) (sym r.terms)
     (round_works rules root g.P.StreamPort.seen g.D.Link.Link.told g.D.Link.Link.counts g.D.Door.told desk w.terms fits g.P.StreamPort.count
-    g.P.StreamPort.wants g.P.StreamPort.busies
+    g.P.StreamPort.wants g.P.StreamPort.busies g.P.StreamPort.adds g.P.StreamPort.kin g.P.StreamPort.branches
     g.D.Link.Link.hears c.link_law.ensures.heard g.D.Link.Link.says c.link_law.ensures.said
     g.P.StreamPort.busies g.D.Link.Link.ready fits w _ c.round.result refl sound r works)
