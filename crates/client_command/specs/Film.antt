@@ -9,6 +9,10 @@ use Rattle.client_owed.specs.declared.types.Gave.{Gave}
 use Rattle.client_owed.specs.declared.types.Given.{Given}
 use Rattle.client_owed.specs.declared.types.Given.TheVariants.{Send, Finish}
 
+-- how many bytes of a film are asked for at a time, and so wait to be read, at most
+abbrev pub most_ahead : ℕ
+most_ahead = 16384
+
 -- the tag that was given, if it was one
 abbrev pub sends_in : Given → List Tag
 sends_in (Send t) = t ∷ []
