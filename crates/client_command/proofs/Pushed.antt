@@ -5,8 +5,9 @@ use Rattle.chunk_reader.specs.ReaderKnown.{ReaderKnown}
 use Rattle.chunk_reader.specs.Sound.{IsRead}
 use Rattle.chunk_wire.specs.declared.message.Message.{Message}
 use Rattle.flv_tags.specs.declared.tag.Tag.{Tag}
+use Rattle.flv_tags.specs.Reads.{IsFile}
 use Rattle.flv_tags.specs.Written.{IsWritable}
-use Rattle.segment_command.specs.Films.{IsFirst, WasRead}
+use Rattle.segment_command.specs.Films.{WasRead}
 use Rattle.session_owed.specs.Talk.{hand_bytes}
 use Rattle.client_owed.specs.declared.types.Asked.{Asked}
 use Rattle.client_owed.specs.declared.types.Gave.{Gave}
@@ -28,7 +29,7 @@ use Rattle.rtmp_client.specs.declared.end.ClientEnd.TheVariants as end
 use Rattle.rtmp_client.specs.declared.end.ClientTurn.TheVariants.{Ended as TurnEnded}
 use Rattle.client_command.specs.Closing.{IsRefusal, Tells, client_how, how_by, how_of}
 use Rattle.client_command.specs.Ends.{How, Whole, ByClient, ByFilm, BySource, ByMemory, no_refusal}
-use Rattle.client_command.specs.Film.{AreFirst, IsWhole, sends_in, tags_given}
+use Rattle.client_command.specs.Film.{AreWhole, IsNear, IsUpTo, IsWhole, sends_in, tags_given}
 use Rattle.client_command.specs.Giving.{Gives, HasGiven, IsOpen, IsReading, NextStops, PushStops, ReadsNext, came_of}
 use Rattle.client_command.specs.Pushes.{HasPushed, PushBy, PushOutcome, PushSeen, push_seen}
 use Rattle.client_command.specs.Runs.{AreFriendly, Causes, HasRun}
@@ -40,7 +41,7 @@ use Rattle.client_command.specs.declared.stop.Stop.{Stop}
 use Rattle.client_command.specs.declared.stop.Stop.TheVariants.{Client, Refused, Source, Sink, Memory}
 use Rattle.client_command.proofs.Passing.{calm_here}
 use Rattle.client_command.proofs.Turns.{by_client_end, new_runs, no_run, run_here}
-use Rattle.client_command.proofs.Filming.{first_of, prepend_none}
+use Rattle.client_command.proofs.Filming.{near_whole, prepend_none, up_to_all}
 
 -- ---- one that publishes is told nothing
 
@@ -142,6 +143,7 @@ pub tag_given : (k : Asked) (c d : ClientState) (f h : Film) (t : Tag) (old : Pu
 tag_given k c d f h t old left left' faults faults' told counts v r live p u = record {
   runs = runs_given k c d (given.Send t) old.told told old.counts counts live p u v.runs;
   tags = gave_all c d (given.Send t) p ∙ ap (λ (l : List Tag). l ++ t ∷ []) v.tags ∙ sym r.1;
+  whole = inl r.3;
   read = r.0;
   faults = r.2 ∙ v.faults;
 }
@@ -156,7 +158,6 @@ end_given k c d f h old left left' faults faults' told counts w v r live p u =
       read = r.0.0;
       was_read = r.0.1;
       whole = subst (λ (l : List Tag). IsWhole r.0.0 l left') (sym tags) r.0.2;
-      first = subst (IsFirst r.0.0) (sym tags) r.0.3;
       pushes = ap (λ (x : Untouched). x.asked.wish) u ∙ w;
       faults = r.1 ∙ v.faults;
     }
@@ -189,7 +190,7 @@ pub next_stops : (stop : Stop) (k : Asked) (c : ClientState) (f : Film) (old : P
 next_stops Client k c f old left left' faults faults' told counts o none v r = absurd r.2
 next_stops (Refused at) k c f old left left' faults faults' told counts o none v r =
     pushed_so (ByFilm at) k c old r.0 left' faults' told counts o v.runs r.1
-    (subst (λ (l : List Tag). Rattle.client_command.specs.Film.IsRefusedAt r.0 at l left') (sym v.tags) r.2.0, r.2.1 ∙ v.faults, record { none = none; finished = not_finished c o; calm = v.runs.calm })
+    (subst (λ (l : List Tag). Rattle.client_command.specs.Film.IsRefusedAt r.0 at l left') (sym v.tags) r.2.0, r.2.1 ∙ v.faults, record { none = none; finished = not_finished c o; calm = v.runs.calm }, subst (IsNear r.0) (sym v.tags) r.2.2)
 next_stops Source k c f old left left' faults faults' told counts o none v r =
     pushed_so BySource k c old r.0 left' faults' told counts o v.runs r.1 (
       (r.2.0.0, subst (λ (l : List Tag). Rattle.flv_tags.specs.Reads.Reads r.0 l r.2.0.0) (sym v.tags) r.2.0.1),
@@ -199,24 +200,27 @@ next_stops Source k c f old left left' faults faults' told counts o none v r =
 next_stops Sink k c f old left left' faults faults' told counts o none v r = absurd r.2
 next_stops Memory k c f old left left' faults faults' told counts o none v r =
     pushed_so ByMemory k c old r.0 left' faults' told counts o v.runs r.1
-    (first_as r.0 f.reader.given (tags_given c.parts.gave) [] (ap (λ (l : List Tag). l ++ []) v.tags ∙ append-nil f.reader.given) r.2.0, r.2.1 ∙ v.faults, v.runs.calm)
-  where
-    first_as : (read : List ℕ) (given tags later : List Tag) → tags ++ later ≡ given → IsFirst read given → AreFirst read tags
-    first_as read given tags later e i = (later, subst (IsFirst read) (sym e) i)
+    (subst (IsNear r.0) (sym v.tags) r.2.0, r.2.1 ∙ v.faults, v.runs.calm)
 
 -- there was no memory to give it
 pub lost_given : (k : Asked) (c : ClientState) (f h : Film) (t : Tag) (old : PushSeen) (left left' : Option (List ℕ)) (faults faults' : ℕ) (told : Option LinkTold) (counts : LinkCounts) → IsOpen c → IsReading h → Gives k c f old (push_seen left faults told counts)
     → ReadsNext (Ok (Some t)) f h old.left left' faults faults' → HasPushed k ByMemory old (push_seen left' faults' told counts)
 lost_given k c f h t old left left' faults faults' told counts o reading v r =
     pushed_so ByMemory k c old (came_of h) left' faults' told counts o v.runs r.0
-    ((t ∷ [], subst (IsFirst (came_of h)) (r.1 ∙ ap (λ (l : List Tag). l ++ t ∷ []) (sym v.tags)) (first_of h h.ahead reading.stands)), r.2 ∙ v.faults, v.runs.calm)
+    (record {
+      front = h.reader.fed;
+      ahead = h.ahead;
+      parts = refl;
+      few = reading.few;
+      reads = inr (t, subst (IsFile h.reader.fed) (r.1 ∙ ap (λ (l : List Tag). l ++ t ∷ []) (sym v.tags)) r.3);
+    }, r.2 ∙ v.faults, v.runs.calm)
 
 -- or to finish it
 pub lost_end : (k : Asked) (c : ClientState) (f h : Film) (old : PushSeen) (left left' : Option (List ℕ)) (faults faults' : ℕ) (told : Option LinkTold) (counts : LinkCounts) → IsOpen c → Gives k c f old (push_seen left faults told counts)
     → ReadsNext (Ok None) f h old.left left' faults faults' → HasPushed k ByMemory old (push_seen left' faults' told counts)
 lost_end k c f h old left left' faults faults' told counts o v r =
     pushed_so ByMemory k c old r.0.0 left' faults' told counts o v.runs r.0.1
-    (([], subst (IsFirst r.0.0) (sym (append-nil (tags_given c.parts.gave) ∙ v.tags)) r.0.3), r.1 ∙ v.faults, v.runs.calm)
+    (near_whole r.0.0 (tags_given c.parts.gave) (up_to_all r.0.0 (tags_given c.parts.gave) (inl (subst (IsFile r.0.0) (sym v.tags) r.0.2.file))), r.1 ∙ v.faults, v.runs.calm)
 
 -- ---- turns
 
@@ -246,7 +250,7 @@ turn_stops k c d f old told told' counts counts' left faults o reading v t = (
   t.1,
   client_pushed t.0 k old (push_seen left faults told' counts')
       (ended_so (ByClient t.0) k t.0 c old (came_of f) left faults told told' counts counts' o.pushes v.runs v.read t.2
-      (([], subst (IsFirst (came_of f)) (sym (append-nil (tags_given c.parts.gave) ∙ v.tags)) (first_of f f.ahead reading.stands)), v.faults, why t.2.why)),
+      (record { front = f.reader.fed; ahead = f.ahead; parts = refl; few = reading.few; whole = subst (AreWhole f.reader.fed) (sym v.tags) v.whole }, v.faults, why t.2.why)),
 )
   where
     why : (IsDone t.0 c.parts t.2.more old.counts counts' ⊎ Causes t.0 c.parts.reader.given (c.parts.y ++ t.2.rest) old.counts counts') → Causes t.0 c.parts.reader.given (c.parts.y ++ t.2.rest) old.counts counts'
@@ -259,6 +263,7 @@ pub turn_goes : (k : Asked) (c d : ClientState) (f : Film) (old : PushSeen) (tol
 turn_goes k c d f old told told' counts counts' left faults v la r = record {
   runs = r;
   tags = ap (λ (x : Lasting). tags_given x.gave) la ∙ v.tags;
+  whole = v.whole;
   read = v.read;
   faults = v.faults;
 }
@@ -281,7 +286,6 @@ out_goes k c d old told told' counts counts' left faults v la r =
       read = v.read;
       was_read = v.was_read;
       whole = subst (λ (l : List Tag). IsWhole v.read l left) (sym tags) v.whole;
-      first = subst (IsFirst v.read) (sym tags) v.first;
       pushes = ap (λ (x : Lasting). x.asked.wish) la ∙ v.pushes;
       faults = v.faults;
     }
@@ -297,7 +301,7 @@ out_stops k c d old told told' counts counts' left faults v t = (t.0, t.1, by_wh
     by_why (inl d) = subst (λ (e : ClientEnd). HasPushed k (client_how e) old (push_seen left faults told' counts')) (sym d.is_done)
         (out_so Whole (v.whole, v.faults, record { none = d.none; finished = sym v.runs.live.stands.stands.finished ∙ d.finished; calm = d.calm }))
     by_why (inr h) = client_pushed t.0 k old (push_seen left faults told' counts')
-        (out_so (ByClient t.0) (([], subst (IsFirst v.read) (sym (append-nil (tags_given c.parts.gave))) v.first), v.faults, h))
+        (out_so (ByClient t.0) (up_to_all v.read (tags_given c.parts.gave) (inl v.whole.file), v.faults, h))
 
 -- ---- the status
 
@@ -314,7 +318,7 @@ lost k code description old new h = record {
   T = h.T;
   more = h.more;
   run = h.run;
-  ends = (h.ends.0, h.ends.1, h.ends.2.1);
+  ends = (near_whole h.read (tags_given h.T) h.ends.0, h.ends.1, h.ends.2.1);
 }
 
 by_tells : (how : How) (k : Asked) (old new : PushSeen) (e : Ended) → HasPushed k how old new → (Tells how e ⊎ (IsRefusal how × Tells ByMemory e)) → PushOutcome k old new e
@@ -342,18 +346,20 @@ no_client k seen e i =
       T = [];
       more = out k [] [] [];
       run = no_run k seen.told;
-      ends = (([], record { front = []; behind = []; parts = refl; rest = []; reads = nothing_read }), refl, calm_here seen.counts);
+      ends = (near_whole [] [] (up_to_all [] [] (inr (refl, refl))), refl, calm_here seen.counts);
     })
     (record { status = ap (λ (x : Ended). x.status) i; refusal = ap (λ (x : Ended). x.refusal) i })
-  where
-    nothing_read : Rattle.flv_tags.specs.Reads.Reads [] [] []
-    nothing_read = inl (record { short = omega Rattle.std.proofs.Common.arith; as_header = λ j l m n. absurd (omega (Rattle.std.proofs.Common.arith, l)); none = refl; all = refl })
 
 -- a new client and film
+front_nil : (a b : List ℕ) → a ++ b ≡ [] → a ≡ []
+front_nil [] b e = refl
+front_nil (x ∷ a) b e = absurd (cc)
+
 pub new_gives : (k : Asked) (c : ClientState) (f : Film) (seen : PushSeen) → c.parts.asked ≡ k → IsNew c → IsLive c → came_of f ≡ [] → f.reader.given ≡ [] → Gives k c f seen seen
 new_gives k c f seen asked n l came given = record {
   runs = new_runs k c seen.told seen.counts asked n l;
   tags = ap (λ (x : Past). tags_given x.gave) n.past ∙ sym given;
+  whole = inr (front_nil f.reader.fed f.ahead came, given);
   read = subst (λ (x : List ℕ). WasRead x seen.left seen.left) (sym came) (prepend_none seen.left);
   faults = refl;
 }

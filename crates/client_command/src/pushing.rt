@@ -210,7 +210,8 @@ fn push_stream<W: Wait, S: Source, L: Link, R: Rest>(
 /// The words are `push ADDRESS APP NAME`. Each of the three has 1 to 255 bytes, and a key may stand in NAME
 /// behind `?`. The address is told to the server; to connect to it is the caller's affair. It may wait, and
 /// rests after each turn in which nothing moved. The film is asked for more only if nothing is to be sent and
-/// the server has nothing more to say. The answer's code tells how it ended:
+/// the server has nothing more to say. So at the end at most one tag was read that wasn't given to the client,
+/// and at most 16,384 bytes behind it. The answer's code tells how it ended:
 ///
 /// | Code | Comes | The link took |
 /// |---|---|---|
