@@ -32,7 +32,7 @@ use Rattle.client_command.specs.Ends.{How, Whole, ByClient, ByFilm, BySource, By
 use Rattle.client_command.specs.Film.{AreWhole, IsNear, IsUpTo, IsWhole, sends_in, tags_given}
 use Rattle.client_command.specs.Giving.{Gives, HasGiven, IsOpen, IsReading, NextStops, PushStops, ReadsNext, came_of}
 use Rattle.client_command.specs.Pushes.{HasPushed, PushBy, PushOutcome, PushSeen, push_seen}
-use Rattle.client_command.specs.Runs.{AreFriendly, Causes, HasRun}
+use Rattle.client_command.specs.Runs.{AreFriendly, Causes, HasRun, IsUnfed, most_received}
 use Rattle.client_command.specs.Traffic.{Passed}
 use Rattle.client_command.specs.Turned.{IsDone, IsLive, IsNew, Runs, Stopped, Turned, gifts_of}
 use Rattle.client_command.specs.declared.ending.Ended.{Ended}
@@ -40,7 +40,7 @@ use Rattle.client_command.specs.declared.film.Film.{Film}
 use Rattle.client_command.specs.declared.stop.Stop.{Stop}
 use Rattle.client_command.specs.declared.stop.Stop.TheVariants.{Client, Refused, Source, Sink, Memory}
 use Rattle.client_command.proofs.Passing.{calm_here}
-use Rattle.client_command.proofs.Turns.{by_client_end, new_runs, no_run, run_here}
+use Rattle.client_command.proofs.Turns.{by_client_end, client_in, done_open, new_runs, no_run, run_here, unfed_by}
 use Rattle.client_command.proofs.Filming.{near_whole, prepend_none, up_to_all}
 
 -- ---- one that publishes is told nothing
@@ -105,6 +105,7 @@ module _ (gives : (k : Asked) (max : ℕ) (p : Past) (q : Keeps) (g : Gave) → 
   live_given c d g o st may p k u = record {
     lives = ap (λ (x : Untouched). x.ended) u ∙ o.live.lives;
     max = ap (λ (x : Untouched). x.reader.max) u ∙ o.live.max;
+    short = subst (λ (x : List ℕ). length x ≤ most_received) (sym (ap (λ (x : Untouched). x.input) u)) o.live.short;
     stands = so_given c d g st o.open_is may (record { past = p; keeps = k; others = u }) o.live.stands;
   }
 
@@ -171,13 +172,14 @@ not_finished : (c : ClientState) → IsOpen c → is_finished c.parts.gave ≡ f
 not_finished c o = sym o.live.stands.stands.finished ∙ o.open_is
 
 -- by one that lives
-pushed_so : (how : How) (k : Asked) (c : ClientState) (old : PushSeen) (read : List ℕ) (left : Option (List ℕ)) (faults : ℕ) (told : Option LinkTold) (counts : LinkCounts) → IsOpen c → Runs k c old.told told old.counts counts → WasRead read old.left left
+pushed_so : (how : How) (k : Asked) (c : ClientState) (old : PushSeen) (read : List ℕ) (left : Option (List ℕ)) (faults : ℕ) (told : Option LinkTold) (counts : LinkCounts) → (client_in how ≡ end.PeerClosed → ⊥) → IsOpen c → Runs k c old.told told old.counts counts → WasRead read old.left left
     → PushBy how read c.parts.gave c.parts.reader.given (c.parts.y ++ c.input) c.parts.outgoing.pending old (push_seen left faults told counts) → HasPushed k how old (push_seen left faults told counts)
-pushed_so how k c old read left faults told counts o r w e = record {
+pushed_so how k c old read left faults told counts q o r w e = record {
   read = read;
   was_read = w;
   y = c.parts.y;
   rest = c.input;
+  unfed = unfed_by how c.input q o.live.short;
   ms = c.parts.reader.given;
   T = c.parts.gave;
   more = c.parts.outgoing.pending;
@@ -189,49 +191,53 @@ pub next_stops : (stop : Stop) (k : Asked) (c : ClientState) (f : Film) (old : P
     → Gives k c f old (push_seen left faults told counts) → (read : List ℕ) × WasRead read old.left left' × NextStops stop f.reader.given read left' faults faults' → PushStops stop k c old (push_seen left' faults' told counts)
 next_stops Client k c f old left left' faults faults' told counts o none v r = absurd r.2
 next_stops (Refused at) k c f old left left' faults faults' told counts o none v r =
-    pushed_so (ByFilm at) k c old r.0 left' faults' told counts o v.runs r.1
+    pushed_so (ByFilm at) k c old r.0 left' faults' told counts done_open o v.runs r.1
     (subst (λ (l : List Tag). Rattle.client_command.specs.Film.IsRefusedAt r.0 at l left') (sym v.tags) r.2.0, r.2.1 ∙ v.faults, record { none = none; finished = not_finished c o; calm = v.runs.calm }, subst (IsNear r.0) (sym v.tags) r.2.2)
 next_stops Source k c f old left left' faults faults' told counts o none v r =
-    pushed_so BySource k c old r.0 left' faults' told counts o v.runs r.1 (
+    pushed_so BySource k c old r.0 left' faults' told counts done_open o v.runs r.1 (
       (r.2.0.0, subst (λ (l : List Tag). Rattle.flv_tags.specs.Reads.Reads r.0 l r.2.0.0) (sym v.tags) r.2.0.1),
       subst (λ (x : ℕ). Rattle.relay_outside.specs.Counts.Rose x faults') v.faults r.2.1,
       record { none = none; finished = not_finished c o; calm = v.runs.calm },
     )
 next_stops Sink k c f old left left' faults faults' told counts o none v r = absurd r.2
 next_stops Memory k c f old left left' faults faults' told counts o none v r =
-    pushed_so ByMemory k c old r.0 left' faults' told counts o v.runs r.1
+    pushed_so ByMemory k c old r.0 left' faults' told counts done_open o v.runs r.1
     (subst (IsNear r.0) (sym v.tags) r.2.0, r.2.1 ∙ v.faults, v.runs.calm)
 
 -- there was no memory to give it
 pub lost_given : (k : Asked) (c : ClientState) (f h : Film) (t : Tag) (old : PushSeen) (left left' : Option (List ℕ)) (faults faults' : ℕ) (told : Option LinkTold) (counts : LinkCounts) → IsOpen c → IsReading h → Gives k c f old (push_seen left faults told counts)
     → ReadsNext (Ok (Some t)) f h old.left left' faults faults' → HasPushed k ByMemory old (push_seen left' faults' told counts)
 lost_given k c f h t old left left' faults faults' told counts o reading v r =
-    pushed_so ByMemory k c old (came_of h) left' faults' told counts o v.runs r.0
-    (record {
-      front = h.reader.fed;
-      ahead = h.ahead;
-      parts = refl;
-      few = reading.few;
-      reads = inr (t, subst (IsFile h.reader.fed) (r.1 ∙ ap (λ (l : List Tag). l ++ t ∷ []) (sym v.tags)) r.3);
-    }, r.2 ∙ v.faults, v.runs.calm)
+    pushed_so ByMemory k c old (came_of h) left' faults' told counts done_open o v.runs r.0 (
+      record {
+        front = h.reader.fed;
+        ahead = h.ahead;
+        parts = refl;
+        few = reading.few;
+        reads = inr (t, subst (IsFile h.reader.fed) (r.1 ∙ ap (λ (l : List Tag). l ++ t ∷ []) (sym v.tags)) r.3);
+      },
+      r.2 ∙ v.faults,
+      v.runs.calm,
+    )
 
 -- or to finish it
 pub lost_end : (k : Asked) (c : ClientState) (f h : Film) (old : PushSeen) (left left' : Option (List ℕ)) (faults faults' : ℕ) (told : Option LinkTold) (counts : LinkCounts) → IsOpen c → Gives k c f old (push_seen left faults told counts)
     → ReadsNext (Ok None) f h old.left left' faults faults' → HasPushed k ByMemory old (push_seen left' faults' told counts)
 lost_end k c f h old left left' faults faults' told counts o v r =
-    pushed_so ByMemory k c old r.0.0 left' faults' told counts o v.runs r.0.1
+    pushed_so ByMemory k c old r.0.0 left' faults' told counts done_open o v.runs r.0.1
     (near_whole r.0.0 (tags_given c.parts.gave) (up_to_all r.0.0 (tags_given c.parts.gave) (inl (subst (IsFile r.0.0) (sym v.tags) r.0.2.file))), r.1 ∙ v.faults, v.runs.calm)
 
 -- ---- turns
 
 -- by one that ended in the turn
 ended_so : (how : How) (k : Asked) (e : ClientEnd) (c : ClientState) (old : PushSeen) (read : List ℕ) (left : Option (List ℕ)) (faults : ℕ) (told told' : Option LinkTold) (counts counts' : LinkCounts) → c.parts.asked.wish ≡ wish.Push → Runs k c old.told told old.counts counts
-    → WasRead read old.left left → (s : Stopped k e c.parts old.told told' old.counts counts') → PushBy how read c.parts.gave c.parts.reader.given (c.parts.y ++ s.rest) s.more old (push_seen left faults told' counts') → HasPushed k how old (push_seen left faults told' counts')
-ended_so how k e c old read left faults told told' counts counts' p r w s b = record {
+    → WasRead read old.left left → (s : Stopped k e c.parts old.told told' old.counts counts') → IsUnfed how s.rest → PushBy how read c.parts.gave c.parts.reader.given (c.parts.y ++ s.rest) s.more old (push_seen left faults told' counts') → HasPushed k how old (push_seen left faults told' counts')
+ended_so how k e c old read left faults told told' counts counts' p r w s unfed b = record {
   read = read;
   was_read = w;
   y = c.parts.y;
   rest = s.rest;
+  unfed = unfed;
   ms = c.parts.reader.given;
   T = c.parts.gave;
   more = s.more;
@@ -249,7 +255,7 @@ turn_stops k c d f old told told' counts counts' left faults o reading v t = (
   t.0,
   t.1,
   client_pushed t.0 k old (push_seen left faults told' counts')
-      (ended_so (ByClient t.0) k t.0 c old (came_of f) left faults told told' counts counts' o.pushes v.runs v.read t.2
+      (ended_so (ByClient t.0) k t.0 c old (came_of f) left faults told told' counts counts' o.pushes v.runs v.read t.2 t.2.unfed
       (record { front = f.reader.fed; ahead = f.ahead; parts = refl; few = reading.few; whole = subst (AreWhole f.reader.fed) (sym v.tags) v.whole }, v.faults, why t.2.why)),
 )
   where
@@ -294,14 +300,14 @@ pub out_stops : (k : Asked) (c d : ClientState) (old : PushSeen) (told told' : O
     → Turned TurnEnded k c d old.told told' old.counts counts' → PushStops Client k d old (push_seen left faults told' counts')
 out_stops k c d old told told' counts counts' left faults v t = (t.0, t.1, by_why t.2.why)
   where
-    out_so : (how : How) → PushBy how v.read c.parts.gave c.parts.reader.given (c.parts.y ++ t.2.rest) t.2.more old (push_seen left faults told' counts') → HasPushed k how old (push_seen left faults told' counts')
+    out_so : (how : How) → IsUnfed how t.2.rest → PushBy how v.read c.parts.gave c.parts.reader.given (c.parts.y ++ t.2.rest) t.2.more old (push_seen left faults told' counts') → HasPushed k how old (push_seen left faults told' counts')
     out_so how = ended_so how k t.0 c old v.read left faults told told' counts counts' v.pushes v.runs v.was_read t.2
 
     by_why : (IsDone t.0 c.parts t.2.more old.counts counts' ⊎ Causes t.0 c.parts.reader.given (c.parts.y ++ t.2.rest) old.counts counts') → HasPushed k (client_how t.0) old (push_seen left faults told' counts')
     by_why (inl d) = subst (λ (e : ClientEnd). HasPushed k (client_how e) old (push_seen left faults told' counts')) (sym d.is_done)
-        (out_so Whole (v.whole, v.faults, record { none = d.none; finished = sym v.runs.live.stands.stands.finished ∙ d.finished; calm = d.calm }))
+        (out_so Whole (unfed_by Whole t.2.rest done_open t.2.unfed.few) (v.whole, v.faults, record { none = d.none; finished = sym v.runs.live.stands.stands.finished ∙ d.finished; calm = d.calm }))
     by_why (inr h) = client_pushed t.0 k old (push_seen left faults told' counts')
-        (out_so (ByClient t.0) (up_to_all v.read (tags_given c.parts.gave) (inl v.whole.file), v.faults, h))
+        (out_so (ByClient t.0) t.2.unfed (up_to_all v.read (tags_given c.parts.gave) (inl v.whole.file), v.faults, h))
 
 -- ---- the status
 
@@ -314,6 +320,7 @@ lost k code description old new h = record {
   was_read = h.was_read;
   y = h.y;
   rest = h.rest;
+  unfed = unfed_by ByMemory h.rest done_open h.unfed.few;
   ms = h.ms;
   T = h.T;
   more = h.more;
@@ -342,6 +349,7 @@ no_client k seen e i =
       was_read = prepend_none seen.left;
       y = [];
       rest = [];
+      unfed = record { few = omega arith; none = λ q. refl };
       ms = [];
       T = [];
       more = out k [] [] [];

@@ -9,7 +9,7 @@ use Rattle.client_owed.specs.declared.types.Gave.{Gave}
 use Rattle.client_owed.specs.Standing.{is_finished}
 use Rattle.client_command.specs.Ends.{How, Whole, ByClient, ByFilm, BySource, BySink, ByMemory, refusal_of, status_of}
 use Rattle.client_command.specs.Film.{IsNear, IsRefusedAt, IsUpTo, IsWhole, tags_given}
-use Rattle.client_command.specs.Runs.{Causes, HasRun}
+use Rattle.client_command.specs.Runs.{Causes, HasRun, IsUnfed}
 use Rattle.client_command.specs.Traffic.{IsCalm}
 use Rattle.client_command.specs.declared.ending.Ended.{Ended}
 use Rattle.segment_command.specs.Films.{WasRead}
@@ -47,6 +47,7 @@ pub record HasPushed (k : Asked) (how : How) (old new : PushSeen) : Type 0 where
   pub was_read : WasRead read old.left new.left
   pub y : List ℕ
   pub rest : List ℕ
+  pub unfed : IsUnfed how rest
   pub ms : List (ℕ × Message)
   pub T : List Gave
   pub more : List ℕ

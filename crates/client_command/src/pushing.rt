@@ -225,7 +225,8 @@ fn push_stream<W: Wait, S: Source, L: Link, R: Rest>(
 /// | 12 | the bytes that came are no RTMP at the byte `place` | the same |
 /// | 13 | the server refused, in the words that the answer tells | the same |
 ///
-/// `place` is 0 but for codes 4 and 12.
+/// `place` is 0 but for codes 4 and 12. Of the bytes that the link gave at most 4,096 were not read, and none if the
+/// server closed it.
 pub fn push<W: Wait, S: Source, L: Link, R: Rest>(
     rt: &W,
     alloc: Global,

@@ -11,6 +11,7 @@ use Rattle.client_owed.specs.declared.types.Gave.{Gave}
 use Rattle.client_owed.specs.declared.types.Gift.{Gift}
 use Rattle.client_owed.specs.declared.types.Gift.TheVariants.{Unpublished}
 use Rattle.client_owed.specs.Standing.{is_finished}
+use Rattle.rtmp_client.specs.Bounds.{IsInput}
 use Rattle.rtmp_client.specs.ClientState.{ClientState, StandsBy, TurnMade, lasting_of}
 use Rattle.rtmp_client.specs.Turns as client_turns
 use Rattle.rtmp_client.specs.declared.end.ClientEnd.{ClientEnd}
@@ -129,6 +130,7 @@ pub record ClientEnds (l : Line) (e : ClientEnd) : Type 0 where
   pub ended : new.ended ≡ Some e
   pub stands : StandsBy new.ended new.parts
   pub lasts : lasting_of new.parts ≡ lasting_of l.client.parts
+  pub input : IsInput new.ended new.input
 
 -- an end of a session that is no want of memory; that its calls are too many to be counted counts as one
 abbrev pub is_session_cause : End → Bool
