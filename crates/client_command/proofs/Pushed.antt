@@ -29,7 +29,7 @@ use Rattle.rtmp_client.specs.declared.end.ClientEnd.TheVariants as end
 use Rattle.rtmp_client.specs.declared.end.ClientTurn.TheVariants.{Ended as TurnEnded}
 use Rattle.client_command.specs.Closing.{IsRefusal, Tells, client_how, how_by, how_of}
 use Rattle.client_command.specs.Ends.{How, Whole, ByClient, ByFilm, BySource, ByMemory, no_refusal}
-use Rattle.client_command.specs.Film.{AreWhole, IsNear, IsUpTo, IsWhole, sends_in, tags_given}
+use Rattle.client_command.specs.Film.{AreWhole, IsNear, IsWhole, sends_in, tags_given}
 use Rattle.client_command.specs.Giving.{Gives, HasGiven, IsOpen, IsReading, NextStops, PushStops, ReadsNext, came_of}
 use Rattle.client_command.specs.Pushes.{HasPushed, PushBy, PushOutcome, PushSeen, push_seen}
 use Rattle.client_command.specs.Runs.{AreFriendly, Causes, HasRun, IsUnfed, most_received}

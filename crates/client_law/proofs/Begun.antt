@@ -9,13 +9,12 @@ use Rattle.chunk_writer.specs.WriterKnown.{fresh}
 use Rattle.chunk_writer.specs.Written.{written}
 use Rattle.command_dialog.specs.declared.types.Ask.{Ask}
 use Rattle.command_dialog.specs.declared.types.Grant.{Grant}
-use Rattle.command_dialog.specs.Dialog.{shows}
 use Rattle.command_dialog.specs.State.{State}
 use Rattle.session_owed.specs.Acks.{ack_message}
 use Rattle.session_owed.specs.Dialogue.{Dialogue}
 use Rattle.session_owed.specs.Owed as owing
 use Rattle.session_owed.specs.Published.{published, pushed}
-use Rattle.session_owed.specs.Talk.{Own, Talk, hand_bytes, talk}
+use Rattle.session_owed.specs.Talk.{Own, hand_bytes, talk}
 use Rattle.session_owed.specs.Talk as talking
 use Rattle.relay_session.specs.Session.{session}
 use Rattle.client_owed.specs.declared.types.Wish.TheVariants as wish

@@ -1,5 +1,5 @@
 -- What a turn by which a client ends says nothing of: the input that is left
-use Rattle.std.proofs.Common.{◌≡◌, ◌||◌, not, ℕ, Bool, true, false, List, Option, Some, None, Result, Ok, Err, inl, inr, refl, sym, subst}
+use Rattle.std.proofs.Common.{◌≡◌, ◌||◌, not, ℕ, Bool, true, false, List, Option, Some, None, Ok, Err, inl, inr, refl, sym, subst}
 use Rattle.relay_outside.specs.Heard.{Came, CameBytes, CameEnd, CameNotYet, CameFailed}
 use Rattle.relay_outside.specs.declared.link.Said.{Said}
 use Rattle.relay_outside.specs.declared.link.Said.TheVariants as said
