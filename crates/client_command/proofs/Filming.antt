@@ -9,11 +9,13 @@ use Rattle.flv_tags.specs.declared.fail.FlvFail.TheVariants as flv
 use Rattle.flv_tags.specs.Known.{Known}
 use Rattle.flv_tags.specs.Feeds.{IsFedTo, IsRefused, Stands as TagsStand}
 use Rattle.flv_tags.specs.Stops.{Ends, Stops as TagsStop}
+use Rattle.flv_tags.specs.Reads.{Reads}
 use Rattle.flv_tags.specs.Written.{IsWritable}
+use Rattle.flv_tags.proofs.Reading.{file_stands}
 use Rattle.file_commands.specs.Outcome.{most_bytes}
-use Rattle.segment_command.specs.Films.{IsCutOff, IsFirst, IsStopped, WasRead}
+use Rattle.segment_command.specs.Films.{IsCutOff, IsStopped, WasRead}
 use Rattle.rtmp_client.specs.Turns.{is_nil}
-use Rattle.client_command.specs.Film.{IsWhole}
+use Rattle.client_command.specs.Film.{AreWhole, IsNear, IsUpTo, IsWhole, ReadsOne, most_ahead}
 use Rattle.client_command.specs.Giving.{Asks, EndsAs, FeedStops, Fills, IsReadOn, IsReading, MayGo, NextStops, ReadsNext, came_of}
 use Rattle.client_command.specs.Turned.{stop_of}
 use Rattle.client_command.specs.declared.film.Film.{Film}
@@ -30,12 +32,13 @@ pub prepend_none : (known : Option (List ℕ)) → known ≡ prepend_known [] kn
 prepend_none None = refl
 prepend_none (Some xs) = refl
 
-pub came_more : (f g : Film) (count : ℕ) (bytes : List ℕ) → IsReading f → f.ahead ≡ [] → g.reader ≡ f.reader → g.ahead ≡ bytes → g.came ≡ f.came + count → length bytes ≡ count → f.came + count ≤ most_bytes → IsReading g
-came_more f g count bytes r none same ahead came len near = record {
+pub came_more : (f g : Film) (count : ℕ) (bytes : List ℕ) → IsReading f → f.ahead ≡ [] → g.reader ≡ f.reader → g.ahead ≡ bytes → g.came ≡ f.came + count → length bytes ≡ count → count ≤ most_ahead → f.came + count ≤ most_bytes → IsReading g
+came_more f g count bytes r none same ahead came len few near = record {
   lives = ap (λ (x : Known). x.failed) same ∙ r.lives;
   stands = subst TagsStand (sym same) r.stands;
   came_is = omega (arith, came, len, r.came_is, ap length none, ap length ahead, ap (λ (x : Known). length x.fed) same);
   near = omega (arith, came, near);
+  few = omega (arith, ap length ahead, len, few);
 }
 
 -- ---- bytes are read
@@ -50,10 +53,12 @@ read_on f g used t r i ahead came =
         stands = i.read;
         came_is = omega (arith, came, r.came_is, i.count, left, i.within);
         near = omega (arith, came, r.near);
+        few = omega (arith, left, r.few);
       };
       came_same = ap (λ (x : List ℕ). x ++ g.ahead) fed ∙ ap (λ (x : List ℕ). (f.reader.fed ++ take used f.ahead) ++ x) ahead
           ∙ append_assoc f.reader.fed (take used f.ahead) (drop used f.ahead) ∙ ap (λ (x : List ℕ). f.reader.fed ++ x) (take-append-drop used f.ahead);
       given = ap (λ (x : Known). x.given) i.now;
+      at_end = i.at_end;
     }
 
 pub goes_on : (f g : Film) (t : Option Tag) → IsReadOn f g t → (is_some t ≡ true → (x : Tag) → t ≡ Some x → IsWritable x) → MayGo g t
@@ -106,8 +111,27 @@ end_stops f flv.OutOfMemory r s = tt
 all_fed : (f : Film) → f.ahead ≡ [] → came_of f ≡ f.reader.fed
 all_fed f none = ap (λ (x : List ℕ). f.reader.fed ++ x) none ∙ append-nil f.reader.fed
 
-pub first_of : (f : Film) (behind : List ℕ) → TagsStand f.reader → IsFirst (f.reader.fed ++ behind) f.reader.given
-first_of f behind s = record { front = f.reader.fed; behind = behind; parts = refl; rest = s.0; reads = s.1 }
+-- no more than a part of a tag was read behind those
+near_of : (f : Film) (ahead : List ℕ) → length ahead ≤ most_ahead → IsReading f → IsNear (f.reader.fed ++ ahead) f.reader.given
+near_of f ahead few r = record { front = f.reader.fed; ahead = ahead; parts = refl; few = few; reads = inl r.stands }
+
+near_here : (f : Film) → IsReading f → IsNear f.reader.fed f.reader.given
+near_here f r = record { front = f.reader.fed; ahead = []; parts = sym (append-nil f.reader.fed); few = omega arith; reads = inl r.stands }
+
+nothing_read : Reads [] [] []
+nothing_read = inl (record { short = omega arith; as_header = λ j l m n. absurd (omega (arith, l)); none = refl; all = refl })
+
+-- whole tags are near too
+whole_reads : (front : List ℕ) (tags : List Tag) → AreWhole front tags → ReadsOne front tags
+whole_reads front tags (inl f) = inl ([], inr (file_stands front tags f))
+whole_reads front tags (inr e) = inl ([], subst (λ (x : List Tag). Reads front x []) (sym e.1) (subst (λ (x : List ℕ). Reads x [] []) (sym e.0) nothing_read))
+
+pub near_whole : (read : List ℕ) (tags : List Tag) → IsUpTo read tags → IsNear read tags
+near_whole read tags u = record { front = u.front; ahead = u.ahead; parts = u.parts; few = u.few; reads = whole_reads u.front tags u.whole }
+
+-- a film that was read whole
+pub up_to_all : (read : List ℕ) (tags : List Tag) → AreWhole read tags → IsUpTo read tags
+up_to_all read tags w = record { front = read; ahead = []; parts = sym (append-nil read); few = omega arith; whole = w }
 
 pub was_more : (f g : Film) (start left left' : Option (List ℕ)) → f.ahead ≡ [] → g.reader ≡ f.reader → left ≡ prepend_known g.ahead left' → WasRead (came_of f) start left → WasRead (came_of g) start left'
 was_more f g start left left' none same e w =
@@ -141,41 +165,39 @@ ask_stops (Refused at) f g start left left' n n' r none a w =
           reads = r.stands.1;
         })),
         a.2,
+        near_of f b a.1.3 r,
       ),
     )
 ask_stops Source f g start left left' n n' r none a w = (f.reader.fed, was_all f start left left' none a.0 w, (r.stands, a.1))
 ask_stops Sink f g start left left' n n' r none a w = absurd a
-ask_stops Memory f g start left left' n n' r none a w = (f.reader.fed ++ a.0.0, was_past f a.0.0 start left left' none a.0.1 w, (first_of f a.0.0 r.stands, a.1))
+ask_stops Memory f g start left left' n n' r none a w = (f.reader.fed ++ a.0.0, was_past f a.0.0 start left left' none a.0.1 w, (near_of f a.0.0 a.0.2 r, a.1))
 
 -- it was asked for more at its end
 pub ask_ends : (q : Result (Option Tag) Stop) (f g : Film) (start left left' : Option (List ℕ)) (n n' : ℕ) → IsReading f → f.ahead ≡ [] → Asks (Ok false) f g left left' n n' → WasRead (came_of f) start left → EndsAs q g
     → ReadsNext q f g start left' n n'
 ask_ends q f g start left left' n n' r none a w e = by_same q (subst (EndsAs q) a.0 e)
   where
-    first : IsFirst f.reader.fed f.reader.given
-    first = record { front = f.reader.fed; behind = []; parts = sym (append-nil f.reader.fed); rest = r.stands.0; reads = r.stands.1 }
-
     by_same : (p : Result (Option Tag) Stop) → EndsAs p f → ReadsNext p f g start left' n n'
     by_same (Ok (Some t)) e = absurd e
-    by_same (Ok None) e = ((f.reader.fed, was_all f start left left' none a.2 w, record { within = omega (arith, r.came_is, r.near); at_end = a.1; file = e }, first), a.3)
+    by_same (Ok None) e = ((f.reader.fed, was_all f start left left' none a.2 w, record { within = omega (arith, r.came_is, r.near); at_end = a.1; file = e }), a.3)
     by_same (Err Client) e = absurd e
-    by_same (Err (Refused at)) e = (f.reader.fed, was_all f start left left' none a.2 w, (inr (a.1, e), a.3))
+    by_same (Err (Refused at)) e = (f.reader.fed, was_all f start left left' none a.2 w, (inr (a.1, e), a.3, near_here f r))
     by_same (Err Source) e = absurd e
     by_same (Err Sink) e = absurd e
     by_same (Err Memory) e = (
       f.reader.fed,
       was_all f start left left' none a.2 w,
-      (first, a.3),
+      (near_here f r, a.3),
     )
 
 -- what came is refused
 pub feed_ends : (stop : Stop) (f : Film) (start left : Option (List ℕ)) (n n' : ℕ) → IsReading f → n' ≡ n → FeedStops stop f → WasRead (came_of f) start left
     → (read : List ℕ) × WasRead read start left × NextStops stop f.reader.given read left n n'
 feed_ends Client f start left n n' r e s w = absurd s
-feed_ends (Refused at) f start left n n' r e s w = (came_of f, w, (inl (inl s), e))
+feed_ends (Refused at) f start left n n' r e s w = (came_of f, w, (inl (inl s), e, near_of f f.ahead r.few r))
 feed_ends Source f start left n n' r e s w = absurd s
 feed_ends Sink f start left n n' r e s w = absurd s
-feed_ends Memory f start left n n' r e s w = (came_of f, w, (first_of f f.ahead r.stands, e))
+feed_ends Memory f start left n n' r e s w = (came_of f, w, (near_of f f.ahead r.few r, e))
 
 nil_is : (l : List ℕ) → is_nil l ≡ true → l ≡ []
 nil_is [] e = refl
@@ -207,15 +229,15 @@ ask_fed (Err stop) f g left left' n n' a = tt
 
 -- since the film began
 pub reads_since : (q : Result (Option Tag) Stop) (e f g : Film) (start left : Option (List ℕ)) (m n n' : ℕ) → f.reader.given ≡ e.reader.given → n ≡ m → ReadsNext q f g start left n n' → ReadsNext q e g start left m n'
-reads_since (Ok (Some t)) e f g start left m n n' same i r = (r.0, r.1 ∙ ap (λ (x : List Tag). x ++ t ∷ []) same, r.2 ∙ i)
+reads_since (Ok (Some t)) e f g start left m n n' same i r = (r.0, r.1 ∙ ap (λ (x : List Tag). x ++ t ∷ []) same, r.2 ∙ i, r.3)
 reads_since (Ok None) e f g start left m n n' same i r =
-    ((r.0.0, r.0.1, subst (λ (x : List Tag). IsWhole r.0.0 x left) same r.0.2, subst (IsFirst r.0.0) same r.0.3), r.1 ∙ i)
+    ((r.0.0, r.0.1, subst (λ (x : List Tag). IsWhole r.0.0 x left) same r.0.2), r.1 ∙ i)
 reads_since (Err stop) e f g start left m n n' same i r =
     (r.0, r.1, subst (λ (x : ℕ). NextStops stop e.reader.given r.0 left x n') i (subst (λ (x : List Tag). NextStops stop x r.0 left n n') same r.2))
 
 -- a tag was read
 pub read_next : (f g : Film) (t : Tag) (start left : Option (List ℕ)) (n n' : ℕ) → IsReadOn f g (Some t) → WasRead (came_of f) start left × (n' ≡ n) → ReadsNext (Ok (Some t)) f g start left n n'
-read_next f g t start left n n' r w = (subst (λ (x : List ℕ). WasRead x start left) (sym r.came_same) w.0, r.given, w.1)
+read_next f g t start left n n' r w = (subst (λ (x : List ℕ). WasRead x start left) (sym r.came_same) w.0, r.given, w.1, r.at_end refl)
 
 pub end_fine : (q : Result (Option Tag) Stop) (f : Film) → EndsAs q f → IfOk q (MayGo f)
 end_fine (Ok (Some t)) f e = absurd e

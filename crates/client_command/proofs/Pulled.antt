@@ -1,5 +1,5 @@
 -- A stream that is pulled
-use Rattle.std.proofs.Common.{◌≡◌, ◌⊎◌, inl, inr, ◌++◌, ◌∷◌, ℕ, Bool, true, false, List, [], Option, Some, None, Result, Ok, Err, refl, sym, ap, ◌∙◌, subst, append-nil}
+use Rattle.std.proofs.Common.{◌≡◌, ◌⊎◌, inl, inr, ◌++◌, ◌∷◌, ℕ, Bool, true, false, List, [], Option, Some, None, Result, Ok, Err, refl, sym, ap, ◌∙◌, subst, arith, append-nil}
 use Rattle.std.specs.Io.KnownBytes.{append_known}
 use Rattle.relay_outside.specs.Told.{LinkCounts, LinkTold}
 use Rattle.client_owed.specs.declared.types.Asked.{Asked}
@@ -25,7 +25,7 @@ use Rattle.client_command.specs.declared.ending.Ended.{Ended}
 use Rattle.client_command.specs.declared.stop.Stop.{Stop}
 use Rattle.client_command.specs.declared.stop.Stop.TheVariants.{Client, Refused, Source, Sink, Memory}
 use Rattle.client_command.proofs.Passing.{calm_here}
-use Rattle.client_command.proofs.Turns.{by_client_end, new_runs, no_run, run_here}
+use Rattle.client_command.proofs.Turns.{by_client_end, client_in, done_open, new_runs, no_run, run_here, unfed_by}
 use Rattle.segment_command.proofs.Writing.{no_part_put}
 use Rattle.client_command.proofs.Writing.{all_part, append_known_nil}
 
@@ -91,6 +91,7 @@ turn_stops k c d begun old told told' counts counts' held faults p none t =
       client_pulled e k old (pull_seen told' counts' held faults) (record {
         y = q.y;
         rest = s.rest;
+        unfed = s.unfed;
         ms = q.reader.given;
         gifts = q.taken;
         more = s.more;
@@ -123,11 +124,12 @@ run_taken k c d g old told n m some e none r =
     (subst (λ (x : List Gave). HasRun k q.y d.input q.reader.given x (gifts_of q) q.outgoing.pending old told) (ap (λ (x : Core). x.gave) e ∙ none) (run_here k d old told n m r))
 
 -- how a stream was pulled whose last gift was taken
-gift_pulled : (how : How) (k : Asked) (c : Core) (d : ClientState) (g : Gift) (old new : PullSeen) → c.gift ≡ Some g → d.parts ≡ without_gift c → c.gave ≡ [] → Runs k d old.told new.told old.counts new.counts
+gift_pulled : (how : How) (k : Asked) (c : Core) (d : ClientState) (g : Gift) (old new : PullSeen) → (client_in how ≡ end.PeerClosed → ⊥) → c.gift ≡ Some g → d.parts ≡ without_gift c → c.gave ≡ [] → Runs k d old.told new.told old.counts new.counts
     → PullBy how (c.taken ++ g ∷ []) d.parts.reader.given (d.parts.y ++ d.input) old new → HasPulled k how old new
-gift_pulled how k c d g old new some e none r b = record {
+gift_pulled how k c d g old new q some e none r b = record {
   y = d.parts.y;
   rest = d.input;
+  unfed = unfed_by how d.input q r.live.short;
   ms = d.parts.reader.given;
   gifts = c.taken ++ g ∷ [];
   more = d.parts.outgoing.pending;
@@ -139,7 +141,7 @@ wrote_steps : (b moved : Bool) (k : Asked) (c d : ClientState) (begun : Bool) (g
     → Plays k c begun old (pull_seen told counts held faults) → c.parts.gift ≡ Some g → d.parts ≡ without_gift c.parts → Runs k d old.told told old.counts counts
     → held' ≡ append_known old.held (pull_text (c.parts.taken ++ g ∷ [])) → faults' ≡ faults → PullSteps (Ok (step_by b moved)) k d true old (pull_seen told counts held' faults')
 wrote_steps true moved k c d begun g old told counts held held' faults faults' l p some e r w f =
-    gift_pulled Whole k c.parts d g old (pull_seen told counts held' faults') some e p.gave r
+    gift_pulled Whole k c.parts d g old (pull_seen told counts held' faults') done_open some e p.gave r
     ((c.parts.taken, ap (λ (x : Gift). c.parts.taken ++ x ∷ []) (last_is g l), p.on), w, f ∙ p.faults, r.calm)
 wrote_steps false moved k c d begun g old told counts held held' faults faults' l p some e r w f = by_moved moved
   where
@@ -176,9 +178,9 @@ gift_stops Client k c d begun g old told counts held held' faults faults' p some
 gift_stops (Refused at) k c d begun g old told counts held held' faults faults' p some e r w f = absurd f
 gift_stops Source k c d begun g old told counts held held' faults faults' p some e r w f = absurd f
 gift_stops Sink k c d begun g old told counts held held' faults faults' p some e r w f =
-    gift_pulled BySink k c.parts d g old (pull_seen told counts held' faults') some e p.gave r (w, subst (λ (x : ℕ). Rattle.relay_outside.specs.Counts.Rose x faults') p.faults f, r.calm)
+    gift_pulled BySink k c.parts d g old (pull_seen told counts held' faults') done_open some e p.gave r (w, subst (λ (x : ℕ). Rattle.relay_outside.specs.Counts.Rose x faults') p.faults f, r.calm)
 gift_stops Memory k c d begun g old told counts held held' faults faults' p some e r w f =
-    gift_pulled ByMemory k c.parts d g old (pull_seen told counts held' faults') some e p.gave r (w, f ∙ p.faults, r.calm)
+    gift_pulled ByMemory k c.parts d g old (pull_seen told counts held' faults') done_open some e p.gave r (w, f ∙ p.faults, r.calm)
 
 -- ---- the beginning and the end
 
@@ -187,6 +189,7 @@ pub unpulled : (k : Asked) (seen : PullSeen) → HasPulled k ByMemory seen seen
 unpulled k seen = record {
   y = [];
   rest = [];
+  unfed = record { few = omega arith; none = λ q. refl };
   ms = [];
   gifts = [];
   more = out k [] [] [];
@@ -201,6 +204,7 @@ lost : (k : Asked) (code description : List ℕ) (old new : PullSeen) → HasPul
 lost k code description old new h = record {
   y = h.y;
   rest = h.rest;
+  unfed = unfed_by ByMemory h.rest done_open h.unfed.few;
   ms = h.ms;
   gifts = h.gifts;
   more = h.more;

@@ -5,8 +5,9 @@ use Rattle.chunk_reader.specs.ReaderKnown.{ReaderKnown}
 use Rattle.chunk_reader.specs.Sound.{IsRead}
 use Rattle.chunk_wire.specs.declared.message.Message.{Message}
 use Rattle.flv_tags.specs.declared.tag.Tag.{Tag}
+use Rattle.flv_tags.specs.Reads.{IsFile}
 use Rattle.flv_tags.specs.Written.{IsWritable}
-use Rattle.segment_command.specs.Films.{IsFirst, WasRead}
+use Rattle.segment_command.specs.Films.{WasRead}
 use Rattle.session_owed.specs.Talk.{hand_bytes}
 use Rattle.client_owed.specs.declared.types.Asked.{Asked}
 use Rattle.client_owed.specs.declared.types.Gave.{Gave}
@@ -28,10 +29,10 @@ use Rattle.rtmp_client.specs.declared.end.ClientEnd.TheVariants as end
 use Rattle.rtmp_client.specs.declared.end.ClientTurn.TheVariants.{Ended as TurnEnded}
 use Rattle.client_command.specs.Closing.{IsRefusal, Tells, client_how, how_by, how_of}
 use Rattle.client_command.specs.Ends.{How, Whole, ByClient, ByFilm, BySource, ByMemory, no_refusal}
-use Rattle.client_command.specs.Film.{AreFirst, IsWhole, sends_in, tags_given}
+use Rattle.client_command.specs.Film.{AreWhole, IsNear, IsWhole, sends_in, tags_given}
 use Rattle.client_command.specs.Giving.{Gives, HasGiven, IsOpen, IsReading, NextStops, PushStops, ReadsNext, came_of}
 use Rattle.client_command.specs.Pushes.{HasPushed, PushBy, PushOutcome, PushSeen, push_seen}
-use Rattle.client_command.specs.Runs.{AreFriendly, Causes, HasRun}
+use Rattle.client_command.specs.Runs.{AreFriendly, Causes, HasRun, IsUnfed, most_received}
 use Rattle.client_command.specs.Traffic.{Passed}
 use Rattle.client_command.specs.Turned.{IsDone, IsLive, IsNew, Runs, Stopped, Turned, gifts_of}
 use Rattle.client_command.specs.declared.ending.Ended.{Ended}
@@ -39,8 +40,8 @@ use Rattle.client_command.specs.declared.film.Film.{Film}
 use Rattle.client_command.specs.declared.stop.Stop.{Stop}
 use Rattle.client_command.specs.declared.stop.Stop.TheVariants.{Client, Refused, Source, Sink, Memory}
 use Rattle.client_command.proofs.Passing.{calm_here}
-use Rattle.client_command.proofs.Turns.{by_client_end, new_runs, no_run, run_here}
-use Rattle.client_command.proofs.Filming.{first_of, prepend_none}
+use Rattle.client_command.proofs.Turns.{by_client_end, client_in, done_open, new_runs, no_run, run_here, unfed_by}
+use Rattle.client_command.proofs.Filming.{near_whole, prepend_none, up_to_all}
 
 -- ---- one that publishes is told nothing
 
@@ -104,6 +105,7 @@ module _ (gives : (k : Asked) (max : ℕ) (p : Past) (q : Keeps) (g : Gave) → 
   live_given c d g o st may p k u = record {
     lives = ap (λ (x : Untouched). x.ended) u ∙ o.live.lives;
     max = ap (λ (x : Untouched). x.reader.max) u ∙ o.live.max;
+    short = subst (λ (x : List ℕ). length x ≤ most_received) (sym (ap (λ (x : Untouched). x.input) u)) o.live.short;
     stands = so_given c d g st o.open_is may (record { past = p; keeps = k; others = u }) o.live.stands;
   }
 
@@ -142,6 +144,7 @@ pub tag_given : (k : Asked) (c d : ClientState) (f h : Film) (t : Tag) (old : Pu
 tag_given k c d f h t old left left' faults faults' told counts v r live p u = record {
   runs = runs_given k c d (given.Send t) old.told told old.counts counts live p u v.runs;
   tags = gave_all c d (given.Send t) p ∙ ap (λ (l : List Tag). l ++ t ∷ []) v.tags ∙ sym r.1;
+  whole = inl r.3;
   read = r.0;
   faults = r.2 ∙ v.faults;
 }
@@ -156,7 +159,6 @@ end_given k c d f h old left left' faults faults' told counts w v r live p u =
       read = r.0.0;
       was_read = r.0.1;
       whole = subst (λ (l : List Tag). IsWhole r.0.0 l left') (sym tags) r.0.2;
-      first = subst (IsFirst r.0.0) (sym tags) r.0.3;
       pushes = ap (λ (x : Untouched). x.asked.wish) u ∙ w;
       faults = r.1 ∙ v.faults;
     }
@@ -170,13 +172,14 @@ not_finished : (c : ClientState) → IsOpen c → is_finished c.parts.gave ≡ f
 not_finished c o = sym o.live.stands.stands.finished ∙ o.open_is
 
 -- by one that lives
-pushed_so : (how : How) (k : Asked) (c : ClientState) (old : PushSeen) (read : List ℕ) (left : Option (List ℕ)) (faults : ℕ) (told : Option LinkTold) (counts : LinkCounts) → IsOpen c → Runs k c old.told told old.counts counts → WasRead read old.left left
+pushed_so : (how : How) (k : Asked) (c : ClientState) (old : PushSeen) (read : List ℕ) (left : Option (List ℕ)) (faults : ℕ) (told : Option LinkTold) (counts : LinkCounts) → (client_in how ≡ end.PeerClosed → ⊥) → IsOpen c → Runs k c old.told told old.counts counts → WasRead read old.left left
     → PushBy how read c.parts.gave c.parts.reader.given (c.parts.y ++ c.input) c.parts.outgoing.pending old (push_seen left faults told counts) → HasPushed k how old (push_seen left faults told counts)
-pushed_so how k c old read left faults told counts o r w e = record {
+pushed_so how k c old read left faults told counts q o r w e = record {
   read = read;
   was_read = w;
   y = c.parts.y;
   rest = c.input;
+  unfed = unfed_by how c.input q o.live.short;
   ms = c.parts.reader.given;
   T = c.parts.gave;
   more = c.parts.outgoing.pending;
@@ -188,46 +191,53 @@ pub next_stops : (stop : Stop) (k : Asked) (c : ClientState) (f : Film) (old : P
     → Gives k c f old (push_seen left faults told counts) → (read : List ℕ) × WasRead read old.left left' × NextStops stop f.reader.given read left' faults faults' → PushStops stop k c old (push_seen left' faults' told counts)
 next_stops Client k c f old left left' faults faults' told counts o none v r = absurd r.2
 next_stops (Refused at) k c f old left left' faults faults' told counts o none v r =
-    pushed_so (ByFilm at) k c old r.0 left' faults' told counts o v.runs r.1
-    (subst (λ (l : List Tag). Rattle.client_command.specs.Film.IsRefusedAt r.0 at l left') (sym v.tags) r.2.0, r.2.1 ∙ v.faults, record { none = none; finished = not_finished c o; calm = v.runs.calm })
+    pushed_so (ByFilm at) k c old r.0 left' faults' told counts done_open o v.runs r.1
+    (subst (λ (l : List Tag). Rattle.client_command.specs.Film.IsRefusedAt r.0 at l left') (sym v.tags) r.2.0, r.2.1 ∙ v.faults, record { none = none; finished = not_finished c o; calm = v.runs.calm }, subst (IsNear r.0) (sym v.tags) r.2.2)
 next_stops Source k c f old left left' faults faults' told counts o none v r =
-    pushed_so BySource k c old r.0 left' faults' told counts o v.runs r.1 (
+    pushed_so BySource k c old r.0 left' faults' told counts done_open o v.runs r.1 (
       (r.2.0.0, subst (λ (l : List Tag). Rattle.flv_tags.specs.Reads.Reads r.0 l r.2.0.0) (sym v.tags) r.2.0.1),
       subst (λ (x : ℕ). Rattle.relay_outside.specs.Counts.Rose x faults') v.faults r.2.1,
       record { none = none; finished = not_finished c o; calm = v.runs.calm },
     )
 next_stops Sink k c f old left left' faults faults' told counts o none v r = absurd r.2
 next_stops Memory k c f old left left' faults faults' told counts o none v r =
-    pushed_so ByMemory k c old r.0 left' faults' told counts o v.runs r.1
-    (first_as r.0 f.reader.given (tags_given c.parts.gave) [] (ap (λ (l : List Tag). l ++ []) v.tags ∙ append-nil f.reader.given) r.2.0, r.2.1 ∙ v.faults, v.runs.calm)
-  where
-    first_as : (read : List ℕ) (given tags later : List Tag) → tags ++ later ≡ given → IsFirst read given → AreFirst read tags
-    first_as read given tags later e i = (later, subst (IsFirst read) (sym e) i)
+    pushed_so ByMemory k c old r.0 left' faults' told counts done_open o v.runs r.1
+    (subst (IsNear r.0) (sym v.tags) r.2.0, r.2.1 ∙ v.faults, v.runs.calm)
 
 -- there was no memory to give it
 pub lost_given : (k : Asked) (c : ClientState) (f h : Film) (t : Tag) (old : PushSeen) (left left' : Option (List ℕ)) (faults faults' : ℕ) (told : Option LinkTold) (counts : LinkCounts) → IsOpen c → IsReading h → Gives k c f old (push_seen left faults told counts)
     → ReadsNext (Ok (Some t)) f h old.left left' faults faults' → HasPushed k ByMemory old (push_seen left' faults' told counts)
 lost_given k c f h t old left left' faults faults' told counts o reading v r =
-    pushed_so ByMemory k c old (came_of h) left' faults' told counts o v.runs r.0
-    ((t ∷ [], subst (IsFirst (came_of h)) (r.1 ∙ ap (λ (l : List Tag). l ++ t ∷ []) (sym v.tags)) (first_of h h.ahead reading.stands)), r.2 ∙ v.faults, v.runs.calm)
+    pushed_so ByMemory k c old (came_of h) left' faults' told counts done_open o v.runs r.0 (
+      record {
+        front = h.reader.fed;
+        ahead = h.ahead;
+        parts = refl;
+        few = reading.few;
+        reads = inr (t, subst (IsFile h.reader.fed) (r.1 ∙ ap (λ (l : List Tag). l ++ t ∷ []) (sym v.tags)) r.3);
+      },
+      r.2 ∙ v.faults,
+      v.runs.calm,
+    )
 
 -- or to finish it
 pub lost_end : (k : Asked) (c : ClientState) (f h : Film) (old : PushSeen) (left left' : Option (List ℕ)) (faults faults' : ℕ) (told : Option LinkTold) (counts : LinkCounts) → IsOpen c → Gives k c f old (push_seen left faults told counts)
     → ReadsNext (Ok None) f h old.left left' faults faults' → HasPushed k ByMemory old (push_seen left' faults' told counts)
 lost_end k c f h old left left' faults faults' told counts o v r =
-    pushed_so ByMemory k c old r.0.0 left' faults' told counts o v.runs r.0.1
-    (([], subst (IsFirst r.0.0) (sym (append-nil (tags_given c.parts.gave) ∙ v.tags)) r.0.3), r.1 ∙ v.faults, v.runs.calm)
+    pushed_so ByMemory k c old r.0.0 left' faults' told counts done_open o v.runs r.0.1
+    (near_whole r.0.0 (tags_given c.parts.gave) (up_to_all r.0.0 (tags_given c.parts.gave) (inl (subst (IsFile r.0.0) (sym v.tags) r.0.2.file))), r.1 ∙ v.faults, v.runs.calm)
 
 -- ---- turns
 
 -- by one that ended in the turn
 ended_so : (how : How) (k : Asked) (e : ClientEnd) (c : ClientState) (old : PushSeen) (read : List ℕ) (left : Option (List ℕ)) (faults : ℕ) (told told' : Option LinkTold) (counts counts' : LinkCounts) → c.parts.asked.wish ≡ wish.Push → Runs k c old.told told old.counts counts
-    → WasRead read old.left left → (s : Stopped k e c.parts old.told told' old.counts counts') → PushBy how read c.parts.gave c.parts.reader.given (c.parts.y ++ s.rest) s.more old (push_seen left faults told' counts') → HasPushed k how old (push_seen left faults told' counts')
-ended_so how k e c old read left faults told told' counts counts' p r w s b = record {
+    → WasRead read old.left left → (s : Stopped k e c.parts old.told told' old.counts counts') → IsUnfed how s.rest → PushBy how read c.parts.gave c.parts.reader.given (c.parts.y ++ s.rest) s.more old (push_seen left faults told' counts') → HasPushed k how old (push_seen left faults told' counts')
+ended_so how k e c old read left faults told told' counts counts' p r w s unfed b = record {
   read = read;
   was_read = w;
   y = c.parts.y;
   rest = s.rest;
+  unfed = unfed;
   ms = c.parts.reader.given;
   T = c.parts.gave;
   more = s.more;
@@ -245,8 +255,8 @@ turn_stops k c d f old told told' counts counts' left faults o reading v t = (
   t.0,
   t.1,
   client_pushed t.0 k old (push_seen left faults told' counts')
-      (ended_so (ByClient t.0) k t.0 c old (came_of f) left faults told told' counts counts' o.pushes v.runs v.read t.2
-      (([], subst (IsFirst (came_of f)) (sym (append-nil (tags_given c.parts.gave) ∙ v.tags)) (first_of f f.ahead reading.stands)), v.faults, why t.2.why)),
+      (ended_so (ByClient t.0) k t.0 c old (came_of f) left faults told told' counts counts' o.pushes v.runs v.read t.2 t.2.unfed
+      (record { front = f.reader.fed; ahead = f.ahead; parts = refl; few = reading.few; whole = subst (AreWhole f.reader.fed) (sym v.tags) v.whole }, v.faults, why t.2.why)),
 )
   where
     why : (IsDone t.0 c.parts t.2.more old.counts counts' ⊎ Causes t.0 c.parts.reader.given (c.parts.y ++ t.2.rest) old.counts counts') → Causes t.0 c.parts.reader.given (c.parts.y ++ t.2.rest) old.counts counts'
@@ -259,6 +269,7 @@ pub turn_goes : (k : Asked) (c d : ClientState) (f : Film) (old : PushSeen) (tol
 turn_goes k c d f old told told' counts counts' left faults v la r = record {
   runs = r;
   tags = ap (λ (x : Lasting). tags_given x.gave) la ∙ v.tags;
+  whole = v.whole;
   read = v.read;
   faults = v.faults;
 }
@@ -281,7 +292,6 @@ out_goes k c d old told told' counts counts' left faults v la r =
       read = v.read;
       was_read = v.was_read;
       whole = subst (λ (l : List Tag). IsWhole v.read l left) (sym tags) v.whole;
-      first = subst (IsFirst v.read) (sym tags) v.first;
       pushes = ap (λ (x : Lasting). x.asked.wish) la ∙ v.pushes;
       faults = v.faults;
     }
@@ -290,14 +300,14 @@ pub out_stops : (k : Asked) (c d : ClientState) (old : PushSeen) (told told' : O
     → Turned TurnEnded k c d old.told told' old.counts counts' → PushStops Client k d old (push_seen left faults told' counts')
 out_stops k c d old told told' counts counts' left faults v t = (t.0, t.1, by_why t.2.why)
   where
-    out_so : (how : How) → PushBy how v.read c.parts.gave c.parts.reader.given (c.parts.y ++ t.2.rest) t.2.more old (push_seen left faults told' counts') → HasPushed k how old (push_seen left faults told' counts')
+    out_so : (how : How) → IsUnfed how t.2.rest → PushBy how v.read c.parts.gave c.parts.reader.given (c.parts.y ++ t.2.rest) t.2.more old (push_seen left faults told' counts') → HasPushed k how old (push_seen left faults told' counts')
     out_so how = ended_so how k t.0 c old v.read left faults told told' counts counts' v.pushes v.runs v.was_read t.2
 
     by_why : (IsDone t.0 c.parts t.2.more old.counts counts' ⊎ Causes t.0 c.parts.reader.given (c.parts.y ++ t.2.rest) old.counts counts') → HasPushed k (client_how t.0) old (push_seen left faults told' counts')
     by_why (inl d) = subst (λ (e : ClientEnd). HasPushed k (client_how e) old (push_seen left faults told' counts')) (sym d.is_done)
-        (out_so Whole (v.whole, v.faults, record { none = d.none; finished = sym v.runs.live.stands.stands.finished ∙ d.finished; calm = d.calm }))
+        (out_so Whole (unfed_by Whole t.2.rest done_open t.2.unfed.few) (v.whole, v.faults, record { none = d.none; finished = sym v.runs.live.stands.stands.finished ∙ d.finished; calm = d.calm }))
     by_why (inr h) = client_pushed t.0 k old (push_seen left faults told' counts')
-        (out_so (ByClient t.0) (([], subst (IsFirst v.read) (sym (append-nil (tags_given c.parts.gave))) v.first), v.faults, h))
+        (out_so (ByClient t.0) t.2.unfed (up_to_all v.read (tags_given c.parts.gave) (inl v.whole.file), v.faults, h))
 
 -- ---- the status
 
@@ -310,11 +320,12 @@ lost k code description old new h = record {
   was_read = h.was_read;
   y = h.y;
   rest = h.rest;
+  unfed = unfed_by ByMemory h.rest done_open h.unfed.few;
   ms = h.ms;
   T = h.T;
   more = h.more;
   run = h.run;
-  ends = (h.ends.0, h.ends.1, h.ends.2.1);
+  ends = (near_whole h.read (tags_given h.T) h.ends.0, h.ends.1, h.ends.2.1);
 }
 
 by_tells : (how : How) (k : Asked) (old new : PushSeen) (e : Ended) → HasPushed k how old new → (Tells how e ⊎ (IsRefusal how × Tells ByMemory e)) → PushOutcome k old new e
@@ -338,22 +349,25 @@ no_client k seen e i =
       was_read = prepend_none seen.left;
       y = [];
       rest = [];
+      unfed = record { few = omega arith; none = λ q. refl };
       ms = [];
       T = [];
       more = out k [] [] [];
       run = no_run k seen.told;
-      ends = (([], record { front = []; behind = []; parts = refl; rest = []; reads = nothing_read }), refl, calm_here seen.counts);
+      ends = (near_whole [] [] (up_to_all [] [] (inr (refl, refl))), refl, calm_here seen.counts);
     })
     (record { status = ap (λ (x : Ended). x.status) i; refusal = ap (λ (x : Ended). x.refusal) i })
-  where
-    nothing_read : Rattle.flv_tags.specs.Reads.Reads [] [] []
-    nothing_read = inl (record { short = omega Rattle.std.proofs.Common.arith; as_header = λ j l m n. absurd (omega (Rattle.std.proofs.Common.arith, l)); none = refl; all = refl })
 
 -- a new client and film
+front_nil : (a b : List ℕ) → a ++ b ≡ [] → a ≡ []
+front_nil [] b e = refl
+front_nil (x ∷ a) b e = absurd (cc)
+
 pub new_gives : (k : Asked) (c : ClientState) (f : Film) (seen : PushSeen) → c.parts.asked ≡ k → IsNew c → IsLive c → came_of f ≡ [] → f.reader.given ≡ [] → Gives k c f seen seen
 new_gives k c f seen asked n l came given = record {
   runs = new_runs k c seen.told seen.counts asked n l;
   tags = ap (λ (x : Past). tags_given x.gave) n.past ∙ sym given;
+  whole = inr (front_nil f.reader.fed f.ahead came, given);
   read = subst (λ (x : List ℕ). WasRead x seen.left seen.left) (sym came) (prepend_none seen.left);
   faults = refl;
 }

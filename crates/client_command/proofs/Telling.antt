@@ -23,13 +23,14 @@ use Rattle.client_owed.specs.News.{is_text, news_in}
 use Rattle.client_owed.specs.Pulled.{gift_for, gift_in, pulled, pulled_from, tag_of, tag_on, told_in}
 use Rattle.client_owed.specs.Standing.{Stands, gift_now, listed}
 use Rattle.client_owed.proofs.Standing.{stands_taken}
+use Rattle.rtmp_client.specs.Bounds.{IsInput}
 use Rattle.rtmp_client.specs.ClientState.{ClientState, StandsBy, StandsSo, TurnMade, lasting_of, Lasting, without_gift}
 use Rattle.rtmp_client.specs.Keeping.{StandsNow, keeps_of, past_of}
 use Rattle.rtmp_client.specs.Turns.{Life, end_of, turn_of}
 use Rattle.rtmp_client.specs.declared.core_fields.Core.{Core}
 use Rattle.rtmp_client.specs.declared.end.ClientEnd.{ClientEnd}
 use Rattle.rtmp_client.specs.declared.end.ClientTurn.{ClientTurn}
-use Rattle.client_command.specs.Runs.{most_message}
+use Rattle.client_command.specs.Runs.{most_message, most_received}
 use Rattle.client_command.specs.Telling.{AreFine, IsFine}
 use Rattle.client_command.specs.Traffic.{Passed}
 use Rattle.client_command.specs.Turned.{IsLive, Runs, StillLives}
@@ -117,16 +118,17 @@ stands_without c None e s = record {
 so_without : (c : Core) → StandsSo c → StandsSo (without_gift c)
 so_without c s = record { read = s.read; stands = stands_without c c.gift refl s.stands }
 
-pub live_without : (c d : ClientState) → d.parts ≡ without_gift c.parts → d.ended ≡ c.ended → IsLive c → IsLive d
+pub live_without : (c d : ClientState) → d.parts ≡ without_gift c.parts → (d.input ≡ c.input) × (d.ended ≡ c.ended) → IsLive c → IsLive d
 live_without c d e f l = record {
-  lives = f ∙ l.lives;
+  lives = f.1 ∙ l.lives;
+  short = subst (λ (x : List ℕ). length x ≤ most_received) (sym f.0) l.short;
   max = ap (λ (x : Core). x.reader.max) e ∙ l.max;
   stands = subst StandsSo (sym e) (so_without c.parts l.stands);
 }
 
 pub runs_without : (k : Asked) (c d : ClientState) (start now : Option LinkTold) (n m : LinkCounts) → d.parts ≡ without_gift c.parts → (d.input ≡ c.input) × (d.ended ≡ c.ended) → Runs k c start now n m → Runs k d start now n m
 runs_without k c d start now n m e f r = record {
-  live = live_without c d e f.1 r.live;
+  live = live_without c d e f r.live;
   asked = ap (λ (x : Core). x.asked) e ∙ r.asked;
   passed = subst (λ (x : List ℕ). Passed (d.parts.y ++ x) d.parts.sent start now) (sym f.0) (subst (λ (x : Core). Passed (x.y ++ c.input) x.sent start now) (sym e) r.passed);
   friendly = subst (λ (x : Core). Rattle.client_command.specs.Runs.AreFriendly x.reader.given) (sym e) r.friendly;
@@ -135,11 +137,14 @@ runs_without k c d start now n m e f r = record {
 
 -- ---- a turn leaves it so
 
-live_now : (a : Result Bool ClientEnd) (c d : ClientState) → d.ended ≡ end_of a → StandsBy d.ended d.parts → lasting_of d.parts ≡ lasting_of c.parts → IsLive c → StillLives (turn_of a) d
-live_now (Ok true) c d e s la l = record { lives = e; max = ap (λ (x : Lasting). x.max) la ∙ l.max; stands = subst (λ (x : Option ClientEnd). StandsBy x d.parts) e s }
-live_now (Ok false) c d e s la l = record { lives = e; max = ap (λ (x : Lasting). x.max) la ∙ l.max; stands = subst (λ (x : Option ClientEnd). StandsBy x d.parts) e s }
-live_now (Err f) c d e s la l = tt
+input_now : (d : ClientState) → d.ended ≡ None → IsInput d.ended d.input → length d.input ≤ most_received
+input_now d e i = subst (λ (x : Option ClientEnd). IsInput x d.input) e i
+
+live_now : (a : Result Bool ClientEnd) (c d : ClientState) → d.ended ≡ end_of a → StandsBy d.ended d.parts → lasting_of d.parts ≡ lasting_of c.parts → IsInput d.ended d.input → IsLive c → StillLives (turn_of a) d
+live_now (Ok true) c d e s la i l = record { lives = e; max = ap (λ (x : Lasting). x.max) la ∙ l.max; short = input_now d e i; stands = subst (λ (x : Option ClientEnd). StandsBy x d.parts) e s }
+live_now (Ok false) c d e s la i l = record { lives = e; max = ap (λ (x : Lasting). x.max) la ∙ l.max; short = input_now d e i; stands = subst (λ (x : Option ClientEnd). StandsBy x d.parts) e s }
+live_now (Err f) c d e s la i l = tt
 
 pub live_turned : {L : Type 0} (Turns : Option ClientEnd → Life → L → Result Bool ClientEnd → Life → L → Type 0) (answer : ClientTurn) (c d : ClientState) (l m : L) → TurnMade Turns c l answer d m → StandsBy d.ended d.parts
-    → lasting_of d.parts ≡ lasting_of c.parts → IsLive c → StillLives answer d
-live_turned {L} Turns answer c d l m t s la live = subst (λ (x : ClientTurn). StillLives x d) (sym t.answered) (live_now t.comes c d t.ended s la live)
+    → lasting_of d.parts ≡ lasting_of c.parts → IsInput d.ended d.input → IsLive c → StillLives answer d
+live_turned {L} Turns answer c d l m t s la i live = subst (λ (x : ClientTurn). StillLives x d) (sym t.answered) (live_now t.comes c d t.ended s la i live)

@@ -1,5 +1,5 @@
 -- What a turn of a client comes to, over what its link tells
-use Rattle.std.proofs.Common.{◌≡◌, ◌⊎◌, inl, inr, ◌<◌, ◌≤◌, ◌-◌, ◌==◌, ◌&&◌, if◌then◌else◌, ℕ, Bool, true, false, List, [], ◌∷◌, ◌++◌, length, take, drop, Option, Some, None, Result, Ok, Err, refl, sym, ap, ◌∙◌, subst, arith, append_assoc, append-nil}
+use Rattle.std.proofs.Common.{◌≡◌, ◌⊎◌, inl, inr, ◌<◌, ◌≤◌, ◌-◌, ◌==◌, ◌&&◌, if◌then◌else◌, ℕ, Bool, true, false, List, [], ◌∷◌, ◌++◌, length, take, drop, Option, Some, None, Result, Ok, Err, refl, sym, ap, ◌∙◌, subst, arith, append_assoc, append-nil, length-append}
 use Rattle.std.proofs.lemmas.List.{length-take, take-append-drop, take-take}
 use Rattle.relay_outside.specs.Counts.{Rose}
 use Rattle.relay_outside.specs.Heard.{Came, CameBytes, CameEnd, CameFailed, CameNotYet, HearStep}
@@ -24,6 +24,7 @@ use Rattle.client_owed.specs.News.{news_in}
 use Rattle.client_owed.specs.Owed.{AreGiven, out}
 use Rattle.client_owed.specs.Pulled.{pulled, pulled_from}
 use Rattle.client_owed.specs.Standing.{Keeps, Past, count_of}
+use Rattle.rtmp_client.specs.Bounds.{IsInput}
 use Rattle.rtmp_client.specs.ClientState.{ClientState, Lasting, StandsBy, TurnMade, lasting_of, life_of}
 use Rattle.rtmp_client.specs.Feeding.{Decides, Fixed, Heard, Hears, IsFed, IsSent}
 use Rattle.rtmp_client.specs.Refusing.{ended_by, refused, refused_by}
@@ -33,8 +34,8 @@ use Rattle.rtmp_client.specs.declared.end.ClientEnd.{ClientEnd}
 use Rattle.rtmp_client.specs.declared.end.ClientEnd.TheVariants as end
 use Rattle.rtmp_client.specs.declared.end.ClientTurn.{ClientTurn}
 use Rattle.client_command.specs.Closing.{client_how}
-use Rattle.client_command.specs.Ends.{How, ByClient}
-use Rattle.client_command.specs.Runs.{AreFriendly, Causes, HasRun, most_message}
+use Rattle.client_command.specs.Ends.{How, Whole, ByClient, ByFilm, BySource, BySink, ByMemory}
+use Rattle.client_command.specs.Runs.{AreFriendly, Causes, HasRun, IsUnfed, most_message, most_received}
 use Rattle.client_command.specs.Traffic.{IsCalm, Passed}
 use Rattle.client_command.specs.Turned.{IsDone, IsLive, IsNew, Runs, Stopped, Turned, gifts_of}
 use Rattle.client_command.proofs.Passing.{calm_here, calm_then, passed_as, passed_given, passed_same, passed_taken, passed_then}
@@ -90,6 +91,41 @@ decided_why (end.Refused code description) ms all n x y d c = ((n, d), c)
 decided_why end.Done ms all n x y d c = absurd d
 decided_why end.OutOfMemory ms all n x y d c = c
 
+-- ---- what it wasn't fed
+
+abbrev pub client_in : How → ClientEnd
+client_in (ByClient e) = e
+client_in Whole = end.Done
+client_in (ByFilm at) = end.Done
+client_in BySource = end.Done
+client_in BySink = end.Done
+client_in ByMemory = end.Done
+
+-- these are other ends
+pub done_open : end.Done ≡ end.PeerClosed → ⊥
+done_open q = cc
+
+fault_open : end.LinkFault ≡ end.PeerClosed → ⊥
+fault_open q = cc
+
+memory_open : end.OutOfMemory ≡ end.PeerClosed → ⊥
+memory_open q = cc
+
+-- where the server hasn't closed the link
+pub unfed_by : (how : How) (rest : List ℕ) → (client_in how ≡ end.PeerClosed → ⊥) → length rest ≤ most_received → IsUnfed how rest
+unfed_by how rest n few = record { few = few; none = λ e. absurd (n (ap client_in e)) }
+
+abbrev LeavesUnfed : Result Bool ClientEnd → List ℕ → Type 0
+LeavesUnfed (Ok moved) rest = Unit {0}
+LeavesUnfed (Err e) rest = IsUnfed (ByClient e) rest
+
+fed_unfed : (by : FedBy) (c : Core) (input rest : List ℕ) (moved : Bool) (a : Result Bool ClientEnd) (w : Life) → length rest ≤ most_received → FedAs by (life c input) moved a w → LeavesUnfed a rest
+fed_unfed Quietly c input rest moved a w few f = subst (λ (x : Result Bool ClientEnd). LeavesUnfed x rest) (sym f.3) tt
+fed_unfed Loudly c input rest moved a w few f = subst (λ (x : Result Bool ClientEnd). LeavesUnfed x rest) (sym f.3) tt
+fed_unfed (Stopping e) c input rest moved a w few f =
+    let open_is : e ≡ end.PeerClosed → ⊥ = λ h. subst (Decides c.reader.max c.reader.given (c.y ++ input) (length w.parts.y)) h f.0.cause in
+    subst (λ (x : Result Bool ClientEnd). LeavesUnfed x rest) (sym f.1) (unfed_by (ByClient e) rest open_is few)
+
 -- ---- the steps of a turn, the last first
 
 -- a client with these bytes before it came to that, where these are all
@@ -126,13 +162,16 @@ record Taken (v w : Life) (a : Result Bool ClientEnd) (t t' : Option LinkTold) (
   pub b : List ℕ
   pub passed : Passed b [] t t'
   pub ways : Ways a v.parts w ((v.parts.y ++ v.input) ++ b) n n'
+  pub unfed : length v.input ≤ most_received → LeavesUnfed a (v.input ++ b)
 
 -- it came to an end
 gone_ways : (v w : Life) (a : Result Bool ClientEnd) (e : ClientEnd) (t t' : Option LinkTold) (n n' : LinkCounts) → IsEnded e v a w → (b : List ℕ) → Passed b [] t t'
-    → (IsDone e v.parts v.parts.outgoing.pending n n' ⊎ Causes e v.parts.reader.given ((v.parts.y ++ v.input) ++ b) n n') → Taken v w a t t' n n'
-gone_ways v w a e t t' n n' i b p h = record {
+    → (IsDone e v.parts v.parts.outgoing.pending n n' ⊎ Causes e v.parts.reader.given ((v.parts.y ++ v.input) ++ b) n n')
+    → (length v.input ≤ most_received → IsUnfed (ByClient e) (v.input ++ b)) → Taken v w a t t' n n'
+gone_ways v w a e t t' n n' i b p h u = record {
   b = b;
   passed = p;
+  unfed = λ s. subst (λ (x : Result Bool ClientEnd). LeavesUnfed x (v.input ++ b)) (sym i.ended) (u s);
   ways = subst (λ (x : Result Bool ClientEnd). Ways x v.parts w ((v.parts.y ++ v.input) ++ b) n n') (sym i.ended) h;
 }
 
@@ -141,15 +180,20 @@ stay_ways : (v w : Life) (moved : Bool) (a : Result Bool ClientEnd) (t t' : Opti
 stay_ways v w moved a t t' n n' e f p c = record {
   b = [];
   passed = p;
+  unfed = λ s. subst (λ (x : Result Bool ClientEnd). LeavesUnfed x (v.input ++ [])) (sym e) tt;
   ways = subst (λ (x : Result Bool ClientEnd). Ways x v.parts w ((v.parts.y ++ v.input) ++ []) n n') (sym e)
       (subst (λ (x : Life). Ways (Ok moved) v.parts x ((v.parts.y ++ v.input) ++ []) n n') (sym f) (sym (append-nil (v.parts.y ++ v.input)), refl, (λ h. h), c));
 }
+
+none_more : (l : List ℕ) → length l ≤ most_received → length (l ++ []) ≤ most_received
+none_more l s = omega (arith, length-append l [], s)
 
 -- the buffer was fed
 here_ways : (v w : Life) (moved : Bool) (a : Result Bool ClientEnd) (t t' : Option LinkTold) (n n' : LinkCounts) → v.parts.reader.max ≡ most_message → Fed v moved a w → t' ≡ t → IsCalm n n' → Taken v w a t t' n n'
 here_ways v w moved a t t' n n' mx f e c = record {
   b = [];
   passed = passed_same t t' e;
+  unfed = λ s. fed_unfed f.0 v.parts v.input (v.input ++ []) moved a w (none_more v.input s) f.1;
   ways = subst (λ (l : List ℕ). Ways a v.parts w l n n') (sym (append-nil (v.parts.y ++ v.input))) (fed_ways f.0 v.parts v.input moved a w n n' mx c f.1);
 }
 
@@ -179,6 +223,7 @@ record Went (u w : Life) (a : Result Bool ClientEnd) (t t' : Option LinkTold) (n
   pub passed : Passed b s t t'
   pub split : s ++ more ≡ u.parts.outgoing.pending
   pub ways : WaysFrom a u w s more ((u.parts.y ++ u.input) ++ b) n n'
+  pub unfed : length u.input ≤ most_received → LeavesUnfed a (u.input ++ b)
 
 ways_from : (a : Result Bool ClientEnd) (u v w : Life) (s b : List ℕ) (n m o : LinkCounts) → Since u v s → IsCalm n m → Ways a v.parts w ((v.parts.y ++ v.input) ++ b) m o
     → WaysFrom a u w s v.parts.outgoing.pending ((u.parts.y ++ u.input) ++ b) n o
@@ -200,6 +245,7 @@ went_from a u v w s t t' t'' n m o i p c k = record {
   passed = passed_as k.b k.b (s ++ []) s t t'' refl (append-nil s) (passed_then [] k.b s [] t t' t'' p k.passed);
   split = i.split;
   ways = ways_from a u v w s k.b n m o i c k.ways;
+  unfed = λ h. subst (λ (x : List ℕ). LeavesUnfed a (x ++ k.b)) i.input (k.unfed (subst (λ (x : List ℕ). length x ≤ most_received) (sym i.input) h));
 }
 
 and_both : (a b : Bool) → (a && b) ≡ true → (a ≡ true) × (b ≡ true)
@@ -230,6 +276,9 @@ since_sent u c n s =
 taken_twice : (n most : ℕ) (l : List ℕ) → n ≤ length (take most l) → take n (take most l) ≡ take n l
 taken_twice n most l le = take-take n most l (omega (arith, le, length-take most l))
 
+came_few : (input b : List ℕ) → is_nil input ≡ true → length b ≤ 4096 → length (input ++ b) ≤ most_received
+came_few input b n few = omega (arith, length-append input b, ap length (nil_is input n), few)
+
 module _ {L : Type 0} (hears : L → ℕ → Came → L → Type 0) (told : L → Option LinkTold) (counts : L → LinkCounts)
     (hears_mean : (l : L) (room : ℕ) (answer : Came) (m : L) → 0 < room → hears l room answer m → HearStep room (told l) (told m) (counts l) (counts m) answer) where
   came_ways : (came : Came) (v w : Life) (moved : Bool) (a : Result Bool ClientEnd) (l m : L) → v.parts.reader.max ≡ most_message → is_nil v.input ≡ true → hears l 4096 came m → CameAs came v moved a w
@@ -241,20 +290,24 @@ module _ {L : Type 0} (hears : L → ℕ → Came → L → Type 0) (told : L �
       record {
         b = b;
         passed = passed_given b (told l) (told m) s.told.0 s.told.1;
+        unfed = λ h. fed_unfed f.0 v.parts b (v.input ++ b) true a w (came_few v.input b n s.count.1) f.1;
         ways = subst (λ (x : List ℕ). Ways a v.parts w x (counts l) (counts m)) all (fed_ways f.0 v.parts b true a w (counts l) (counts m) mx calm f.1);
       }
   came_ways (CameBytes b) v w moved a l m mx n h (inr e) =
       let s = hears_mean l 4096 (CameBytes b) m (omega arith) h in
       gone_ways v w a end.OutOfMemory (told l) (told m) (counts l) (counts m) e b (passed_given b (told l) (told m) s.told.0 s.told.1) (inr (record { faults = s.counts.0; ends = s.counts.2 }))
+      (λ h. unfed_by (ByClient end.OutOfMemory) (v.input ++ b) memory_open (came_few v.input b n s.count.1))
   came_ways CameNotYet v w moved a l m mx n h f =
       let s = hears_mean l 4096 CameNotYet m (omega arith) h in
       stay_ways v w moved a (told l) (told m) (counts l) (counts m) f.0 f.1 (passed_same (told l) (told m) s.told) (record { faults = s.counts.0; ends = s.counts.2 })
   came_ways CameEnd v w moved a l m mx n h e =
       let s = hears_mean l 4096 CameEnd m (omega arith) h in
       gone_ways v w a end.PeerClosed (told l) (told m) (counts l) (counts m) e [] (passed_same (told l) (told m) s.told) (inr (s.counts.2, s.counts.0))
+      (λ h. record { few = none_more v.input h; none = λ q. append-nil v.input ∙ nil_is v.input n })
   came_ways CameFailed v w moved a l m mx n h e =
       let s = hears_mean l 4096 CameFailed m (omega arith) h in
       gone_ways v w a end.LinkFault (told l) (told m) (counts l) (counts m) e [] (passed_same (told l) (told m) s.told) (inr (s.counts.0, s.counts.2))
+      (λ h. unfed_by (ByClient end.LinkFault) (v.input ++ []) fault_open (none_more v.input h))
 
   calm_at : (l m : L) → m ≡ l → IsCalm (counts l) (counts m)
   calm_at l m e = subst (λ (x : L). IsCalm (counts l) (counts x)) (sym e) (calm_here (counts l))
@@ -272,6 +325,7 @@ module _ {L : Type 0} (hears : L → ℕ → Came → L → Type 0) (told : L �
       let both = and_both v.parts.finished (is_nil v.parts.outgoing.pending) d in
       gone_ways v w a end.Done (told l) (told m) (counts l) (counts m) f.0 [] (passed_same (told l) (told m) (ap told f.1))
       (inl (record { is_done = refl; finished = both.0; none = nil_is v.parts.outgoing.pending both.1; calm = calm_at l m f.1 }))
+      (λ h. unfed_by (ByClient end.Done) (v.input ++ []) done_open (none_more v.input h))
   done_ways false v w moved a l m mx d f = input_ways (is_hungry v.parts) v w moved a l m mx f
 
   module _ (says : L → List ℕ → Said → L → Type 0) (says_mean : (l : L) (piece : List ℕ) (answer : Said) (m : L) → 0 < length piece → says l piece answer m → SayStep piece (told l) (told m) (counts l) (counts m) answer) where
@@ -296,13 +350,15 @@ module _ {L : Type 0} (hears : L → ℕ → Came → L → Type 0) (told : L �
         let rose : Rose (counts l).faults (counts m).faults = subst (λ (x : L). Rose (counts l).faults (counts x).faults) (sym f.1) t.counts.0 in
         let ends : (counts m).ends ≡ (counts l).ends = ap (λ (x : L). (counts x).ends) f.1 ∙ t.counts.2 in
         went_from a u u w [] (told l) (told l) (told m) (counts l) (counts l) (counts m) (since_here u) (passed_same (told l) (told l) refl) (calm_here (counts l))
-        (gone_ways u w a end.LinkFault (told l) (told m) (counts l) (counts m) f.0 [] (passed_same (told l) (told m) told') (inr (rose, ends)))
+        (gone_ways u w a end.LinkFault (told l) (told m) (counts l) (counts m) f.0 [] (passed_same (told l) (told m) told') (inr (rose, ends))
+        (λ z. unfed_by (ByClient end.LinkFault) (u.input ++ []) fault_open (none_more u.input z)))
     said_went said.OutOfMemory u w a l k m mx e h f =
         let t = says_mean l (take 16384 u.parts.outgoing.pending) said.OutOfMemory k (piece_some u.parts.outgoing.pending e) h in
         let told' : told m ≡ told l = ap told f.1 ∙ t.told in
         let calm : IsCalm (counts l) (counts m) = subst (λ (x : L). IsCalm (counts l) (counts x)) (sym f.1) (record { faults = t.counts.0; ends = t.counts.2 }) in
         went_from a u u w [] (told l) (told l) (told m) (counts l) (counts l) (counts m) (since_here u) (passed_same (told l) (told l) refl) (calm_here (counts l))
-        (gone_ways u w a end.OutOfMemory (told l) (told m) (counts l) (counts m) f.0 [] (passed_same (told l) (told m) told') (inr calm))
+        (gone_ways u w a end.OutOfMemory (told l) (told m) (counts l) (counts m) f.0 [] (passed_same (told l) (told m) told') (inr calm)
+        (λ z. unfed_by (ByClient end.OutOfMemory) (u.input ++ []) memory_open (none_more u.input z)))
 
     send_went : (b : Bool) (u w : Life) (a : Result Bool ClientEnd) (l m : L) → u.parts.reader.max ≡ most_message → is_nil u.parts.outgoing.pending ≡ b → SendBy hears says b u l a w m → Went u w a (told l) (told m) (counts l) (counts m)
     send_went true u w a l m mx e f =
@@ -331,6 +387,7 @@ module _ {L : Type 0} (hears : L → ℕ → Came → L → Type 0) (told : L �
         → Stopped k e u.parts start (told m) n (counts m)
     stops_from e k u w start l m n r g = record {
       rest = u.input ++ g.b;
+      unfed = g.unfed r.live.short;
       more = g.more;
       run = run_from k u start (told l) (told m) n (counts l) g.s g.b g.more r g.passed g.split;
       why = why_from g.ways;
@@ -344,9 +401,9 @@ module _ {L : Type 0} (hears : L → ℕ → Came → L → Type 0) (told : L �
             (subst (λ (x : List ℕ). Causes e u.parts.reader.given x (counts l) (counts m)) (append_assoc u.parts.y u.input g.b) h))
 
     runs_from : (moved : Bool) (k : Asked) (u w : ClientState) (start : Option LinkTold) (l m : L) (n : LinkCounts) → Runs k u start (told l) n (counts l) → Went (life_of u) (life_of w) (Ok moved) (told l) (told m) (counts l) (counts m) → w.ended ≡ None
-        → StandsBy w.ended w.parts → lasting_of w.parts ≡ lasting_of u.parts → Runs k w start (told m) n (counts m)
-    runs_from moved k u w start l m n r g lives stands lasts = record {
-      live = record { lives = lives; max = ap (λ (x : Lasting). x.max) lasts ∙ r.live.max; stands = subst (λ (x : Option ClientEnd). StandsBy x w.parts) lives stands };
+        → StandsBy w.ended w.parts → lasting_of w.parts ≡ lasting_of u.parts → IsInput w.ended w.input → Runs k w start (told m) n (counts m)
+    runs_from moved k u w start l m n r g lives stands lasts input = record {
+      live = record { lives = lives; max = ap (λ (x : Lasting). x.max) lasts ∙ r.live.max; short = subst (λ (x : Option ClientEnd). IsInput x w.input) lives input; stands = subst (λ (x : Option ClientEnd). StandsBy x w.parts) lives stands };
       asked = ap (λ (x : Lasting). x.asked) lasts ∙ r.asked;
       passed = passed_as ((u.parts.y ++ u.input) ++ g.b) (w.parts.y ++ w.input) (u.parts.sent ++ g.s) w.parts.sent start (told m) (sym g.ways.0) (sym g.ways.1)
           (passed_then (u.parts.y ++ u.input) g.b u.parts.sent g.s start (told l) (told m) r.passed g.passed);
@@ -355,17 +412,17 @@ module _ {L : Type 0} (hears : L → ℕ → Came → L → Type 0) (told : L �
     }
 
     comes_to : (a : Result Bool ClientEnd) (k : Asked) (u w : ClientState) (start : Option LinkTold) (l m : L) (n : LinkCounts) → Runs k u start (told l) n (counts l) → Went (life_of u) (life_of w) a (told l) (told m) (counts l) (counts m) → w.ended ≡ end_of a
-        → StandsBy w.ended w.parts → lasting_of w.parts ≡ lasting_of u.parts → Turned (turn_of a) k u w start (told m) n (counts m)
-    comes_to (Ok true) k u w start l m n r g e s la = runs_from true k u w start l m n r g e s la
-    comes_to (Ok false) k u w start l m n r g e s la = runs_from false k u w start l m n r g e s la
-    comes_to (Err f) k u w start l m n r g e s la = (f, e, stops_from f k u (life_of w) start l m n r g)
+        → StandsBy w.ended w.parts → lasting_of w.parts ≡ lasting_of u.parts → IsInput w.ended w.input → Turned (turn_of a) k u w start (told m) n (counts m)
+    comes_to (Ok true) k u w start l m n r g e s la i = runs_from true k u w start l m n r g e s la i
+    comes_to (Ok false) k u w start l m n r g e s la i = runs_from false k u w start l m n r g e s la i
+    comes_to (Err f) k u w start l m n r g e s la i = (f, e, stops_from f k u (life_of w) start l m n r g)
 
-    pub turned : (answer : ClientTurn) (k : Asked) (u w : ClientState) (start : Option LinkTold) (l m : L) (n : LinkCounts) → TurnMade (EndedBy hears says) u l answer w m → StandsBy w.ended w.parts → lasting_of w.parts ≡ lasting_of u.parts
+    pub turned : (answer : ClientTurn) (k : Asked) (u w : ClientState) (start : Option LinkTold) (l m : L) (n : LinkCounts) → TurnMade (EndedBy hears says) u l answer w m → StandsBy w.ended w.parts → lasting_of w.parts ≡ lasting_of u.parts → IsInput w.ended w.input
         → Runs k u start (told l) n (counts l) → Turned answer k u w start (told m) n (counts m)
-    turned answer k u w start l m n t s la r =
+    turned answer k u w start l m n t s la i r =
         let made : EndedBy hears says None (life_of u) l t.comes (life_of w) m = subst (λ (x : Option ClientEnd). EndedBy hears says x (life_of u) l t.comes (life_of w) m) r.live.lives t.made in
         let g = send_went (is_nil u.parts.outgoing.pending) (life_of u) (life_of w) t.comes l m r.live.max refl made in
-        subst (λ (x : ClientTurn). Turned x k u w start (told m) n (counts m)) (sym t.answered) (comes_to t.comes k u w start l m n r g t.ended s la)
+        subst (λ (x : ClientTurn). Turned x k u w start (told m) n (counts m)) (sym t.answered) (comes_to t.comes k u w start l m n r g t.ended s la i)
 
 -- what a client that lives has done
 pub run_here : (k : Asked) (c : ClientState) (start now : Option LinkTold) (n m : LinkCounts) → Runs k c start now n m

@@ -1,13 +1,17 @@
 -- A film that is pushed
-use Rattle.std.specs.Prelude.{◌⊎◌, ◌≤◌, ◌++◌, ℕ, List, [], ◌∷◌, length, Option}
+use Rattle.std.specs.Prelude.{◌≡◌, ◌⊎◌, ◌≤◌, ◌++◌, ℕ, List, [], ◌∷◌, length, Option}
 use Rattle.std.specs.Io.KnownBytes.{IsAtEnd}
 use Rattle.flv_tags.specs.declared.tag.Tag.{Tag}
-use Rattle.flv_tags.specs.Reads.{IsFile}
+use Rattle.flv_tags.specs.Reads.{IsFile, Reads}
 use Rattle.file_commands.specs.Outcome.{most_bytes}
-use Rattle.segment_command.specs.Films.{IsCutOff, IsFirst, IsStopped, IsTooLong}
+use Rattle.segment_command.specs.Films.{IsCutOff, IsStopped, IsTooLong}
 use Rattle.client_owed.specs.declared.types.Gave.{Gave}
 use Rattle.client_owed.specs.declared.types.Given.{Given}
 use Rattle.client_owed.specs.declared.types.Given.TheVariants.{Send, Finish}
+
+-- how many bytes of a film are asked for at a time, and so wait to be read, at most
+abbrev pub most_ahead : ℕ
+most_ahead = 16384
 
 -- the tag that was given, if it was one
 abbrev pub sends_in : Given → List Tag
@@ -29,6 +33,26 @@ pub record IsWhole (read : List ℕ) (tags : List Tag) (left : Option (List ℕ)
 abbrev pub IsRefusedAt : List ℕ → ℕ → List Tag → Option (List ℕ) → Type 0
 IsRefusedAt read at tags left = (IsStopped read at tags ⊎ IsTooLong read at tags) ⊎ (IsAtEnd left × IsCutOff read at tags)
 
--- the tags, and maybe more of them, are the first
-abbrev pub AreFirst : List ℕ → List Tag → Type 0
-AreFirst read tags = (later : List Tag) × IsFirst read (tags ++ later)
+-- these tags are whole, or nothing was read
+abbrev pub AreWhole : List ℕ → List Tag → Type 0
+AreWhole front tags = IsFile front tags ⊎ ((front ≡ []) × (tags ≡ []))
+
+-- NOTHING WAS READ BEHIND THESE TAGS, but for bytes that came with the last of them
+pub record IsUpTo (read : List ℕ) (tags : List Tag) : Type 0 where
+  pub front : List ℕ
+  pub ahead : List ℕ
+  pub parts : read ≡ front ++ ahead
+  pub few : length ahead ≤ most_ahead
+  pub whole : AreWhole front tags
+
+-- a part of a tag stands behind these, or one tag more
+abbrev pub ReadsOne : List ℕ → List Tag → Type 0
+ReadsOne front tags = ((rest : List ℕ) × Reads front tags rest) ⊎ ((t : Tag) × IsFile front (tags ++ t ∷ []))
+
+-- AT MOST ONE TAG WAS READ BEHIND THESE, whole or a part of it, but for bytes that came with it
+pub record IsNear (read : List ℕ) (tags : List Tag) : Type 0 where
+  pub front : List ℕ
+  pub ahead : List ℕ
+  pub parts : read ≡ front ++ ahead
+  pub few : length ahead ≤ most_ahead
+  pub reads : ReadsOne front tags

@@ -1,5 +1,5 @@
 -- A film that is read and given to a client
-use Rattle.std.specs.Prelude.{◌≡◌, ◌≤◌, ◌<◌, ◌+◌, ◌++◌, ℕ, Bool, true, false, List, [], ◌∷◌, length, Option, Some, None, Result, Ok, Err}
+use Rattle.std.specs.Prelude.{◌≡◌, ◌≤◌, ◌<◌, ◌+◌, ◌++◌, ℕ, Bool, true, false, List, [], ◌∷◌, length, Option, Some, None, is_some, Result, Ok, Err}
 use Rattle.std.specs.Io.KnownBytes.{IsAtEnd, prepend_known}
 use Rattle.std.specs.Option.{option_to_list}
 use Rattle.relay_outside.specs.Counts.{Rose}
@@ -8,7 +8,7 @@ use Rattle.flv_tags.specs.Feeds.{Stands as TagsStand}
 use Rattle.flv_tags.specs.Reads.{Reads}
 use Rattle.flv_tags.specs.Written.{IsWritable}
 use Rattle.file_commands.specs.Outcome.{most_bytes}
-use Rattle.segment_command.specs.Films.{IsCutOff, IsFirst, IsStopped, WasRead}
+use Rattle.segment_command.specs.Films.{IsCutOff, IsStopped, WasRead}
 use Rattle.flv_tags.specs.Reads.{IsFile}
 use Rattle.client_owed.specs.declared.types.Asked.{Asked}
 use Rattle.client_owed.specs.declared.types.Wish.TheVariants.{Push}
@@ -16,7 +16,7 @@ use Rattle.rtmp_client.specs.ClientState.{ClientState}
 use Rattle.rtmp_client.specs.declared.end.ClientEnd.{ClientEnd}
 use Rattle.client_command.specs.Closing.{client_how}
 use Rattle.client_command.specs.Ends.{ByFilm, BySource, ByMemory}
-use Rattle.client_command.specs.Film.{IsRefusedAt, IsWhole, tags_given}
+use Rattle.client_command.specs.Film.{AreWhole, IsNear, IsRefusedAt, IsWhole, most_ahead, tags_given}
 use Rattle.client_command.specs.Pushes.{HasPushed, PushSeen}
 use Rattle.client_command.specs.Turned.{IsLive, Runs}
 use Rattle.client_command.specs.declared.film.Film.{Film}
@@ -33,6 +33,7 @@ pub record IsReading (f : Film) : Type 0 where
   pub stands : TagsStand f.reader
   pub came_is : f.came ≡ length f.reader.fed + length f.ahead
   pub near : f.came ≤ most_bytes
+  pub few : length f.ahead ≤ most_ahead
 
 -- the bytes that came of it
 abbrev pub came_of : Film → List ℕ
@@ -44,16 +45,17 @@ Asks (Ok true) f g left left' n n' = IsReading g × (g.reader ≡ f.reader) × (
 Asks (Ok false) f g left left' n n' = (g ≡ f) × IsAtEnd left' × (left' ≡ left) × (n' ≡ n)
 Asks (Err Client) f g left left' n n' = ⊥
 Asks (Err (Refused at)) f g left left' n n' =
-    ((at ≡ most_bytes) × (f.came ≡ most_bytes)) × ((b : List ℕ) × (0 < length b) × (left ≡ prepend_known b left')) × (n' ≡ n)
+    ((at ≡ most_bytes) × (f.came ≡ most_bytes)) × ((b : List ℕ) × (0 < length b) × (left ≡ prepend_known b left') × (length b ≤ most_ahead)) × (n' ≡ n)
 Asks (Err Source) f g left left' n n' = (left' ≡ left) × Rose n n'
 Asks (Err Sink) f g left left' n n' = ⊥
-Asks (Err Memory) f g left left' n n' = ((b : List ℕ) × (left ≡ prepend_known b left')) × (n' ≡ n)
+Asks (Err Memory) f g left left' n n' = ((b : List ℕ) × (left ≡ prepend_known b left') × (length b ≤ most_ahead)) × (n' ≡ n)
 
 -- bytes were read that complete the tag, or none
 pub record IsReadOn (f g : Film) (t : Option Tag) : Type 0 where
   pub reading : IsReading g
   pub came_same : came_of g ≡ came_of f
   pub given : g.reader.given ≡ f.reader.given ++ option_to_list t
+  pub at_end : is_some t ≡ true → IsFile g.reader.fed g.reader.given
 
 -- the bytes that came are refused
 abbrev pub FeedStops : Stop → Film → Type 0
@@ -77,14 +79,15 @@ EndsAs (Err Memory) f = Unit {0}
 
 abbrev pub NextStops : Stop → List Tag → List ℕ → Option (List ℕ) → ℕ → ℕ → Type 0
 NextStops Client tags read left n n' = ⊥
-NextStops (Refused at) tags read left n n' = IsRefusedAt read at tags left × (n' ≡ n)
+NextStops (Refused at) tags read left n n' = IsRefusedAt read at tags left × (n' ≡ n) × IsNear read tags
 NextStops Source tags read left n n' = ((rest : List ℕ) × Reads read tags rest) × Rose n n'
 NextStops Sink tags read left n n' = ⊥
-NextStops Memory tags read left n n' = IsFirst read tags × (n' ≡ n)
+NextStops Memory tags read left n n' = IsNear read tags × (n' ≡ n)
 
 abbrev pub ReadsNext : Result (Option Tag) Stop → Film → Film → Option (List ℕ) → Option (List ℕ) → ℕ → ℕ → Type 0
-ReadsNext (Ok (Some t)) f g start left n n' = WasRead (came_of g) start left × (g.reader.given ≡ f.reader.given ++ t ∷ []) × (n' ≡ n)
-ReadsNext (Ok None) f g start left n n' = ((read : List ℕ) × WasRead read start left × IsWhole read f.reader.given left × IsFirst read f.reader.given) × (n' ≡ n)
+ReadsNext (Ok (Some t)) f g start left n n' =
+    WasRead (came_of g) start left × (g.reader.given ≡ f.reader.given ++ t ∷ []) × (n' ≡ n) × IsFile g.reader.fed g.reader.given
+ReadsNext (Ok None) f g start left n n' = ((read : List ℕ) × WasRead read start left × IsWhole read f.reader.given left) × (n' ≡ n)
 ReadsNext (Err stop) f g start left n n' = (read : List ℕ) × WasRead read start left × NextStops stop f.reader.given read left n n'
 
 -- there are bytes to read, or the film may end
@@ -110,6 +113,7 @@ pub record IsOpen (c : ClientState) : Type 0 where
 pub record Gives (k : Asked) (c : ClientState) (f : Film) (old new : PushSeen) : Type 0 where
   pub runs : Runs k c old.told new.told old.counts new.counts
   pub tags : tags_given c.parts.gave ≡ f.reader.given
+  pub whole : AreWhole f.reader.fed f.reader.given
   pub read : WasRead (came_of f) old.left new.left
   pub faults : new.faults ≡ old.faults
 
@@ -119,7 +123,6 @@ pub record HasGiven (k : Asked) (c : ClientState) (old new : PushSeen) : Type 0 
   pub read : List ℕ
   pub was_read : WasRead read old.left new.left
   pub whole : IsWhole read (tags_given c.parts.gave) new.left
-  pub first : IsFirst read (tags_given c.parts.gave)
   pub pushes : c.parts.asked.wish ≡ Push
   pub faults : new.faults ≡ old.faults
 

@@ -10,7 +10,7 @@ use Rattle.client_owed.specs.declared.types.Gift.TheVariants.{Unpublished}
 use Rattle.put_text.specs.Written.{WritesPart}
 use Rattle.client_command.specs.Ends.{How, Whole, ByClient, ByFilm, BySource, BySink, ByMemory, refusal_of, status_of}
 use Rattle.client_command.specs.Gifts.{IsOn, pull_text}
-use Rattle.client_command.specs.Runs.{Causes, HasRun}
+use Rattle.client_command.specs.Runs.{Causes, HasRun, IsUnfed}
 use Rattle.client_command.specs.Traffic.{IsCalm}
 use Rattle.client_command.specs.declared.ending.Ended.{Ended}
 
@@ -40,6 +40,7 @@ PullBy ByMemory gifts ms all old new = WritesPart (pull_text gifts) old.held new
 pub record HasPulled (k : Asked) (how : How) (old new : PullSeen) : Type 0 where
   pub y : List ℕ
   pub rest : List ℕ
+  pub unfed : IsUnfed how rest
   pub ms : List (ℕ × Message)
   pub gifts : List Gift
   pub more : List ℕ

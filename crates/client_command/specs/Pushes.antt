@@ -8,8 +8,8 @@ use Rattle.client_owed.specs.declared.types.Asked.{Asked}
 use Rattle.client_owed.specs.declared.types.Gave.{Gave}
 use Rattle.client_owed.specs.Standing.{is_finished}
 use Rattle.client_command.specs.Ends.{How, Whole, ByClient, ByFilm, BySource, BySink, ByMemory, refusal_of, status_of}
-use Rattle.client_command.specs.Film.{AreFirst, IsRefusedAt, IsWhole, tags_given}
-use Rattle.client_command.specs.Runs.{Causes, HasRun}
+use Rattle.client_command.specs.Film.{IsNear, IsRefusedAt, IsUpTo, IsWhole, tags_given}
+use Rattle.client_command.specs.Runs.{Causes, HasRun, IsUnfed}
 use Rattle.client_command.specs.Traffic.{IsCalm}
 use Rattle.client_command.specs.declared.ending.Ended.{Ended}
 use Rattle.segment_command.specs.Films.{WasRead}
@@ -30,14 +30,16 @@ pub record IsSettled (more : List ℕ) (whole : Bool) (T : List Gave) (old new :
   pub finished : is_finished T ≡ whole
   pub calm : IsCalm old.counts new.counts
 
--- what was read of the film, where the client was given T, and why no more
+-- what was read of the film, where the client was given T, and why no more. The film is read no more than a tag
+-- ahead of the client
 abbrev pub PushBy : How → List ℕ → List Gave → List (ℕ × Message) → List ℕ → List ℕ → PushSeen → PushSeen → Type 0
 PushBy Whole read T ms all more old new = IsWhole read (tags_given T) new.left × (new.faults ≡ old.faults) × IsSettled more true T old new
-PushBy (ByClient e) read T ms all more old new = AreFirst read (tags_given T) × (new.faults ≡ old.faults) × Causes e ms all old.counts new.counts
-PushBy (ByFilm at) read T ms all more old new = IsRefusedAt read at (tags_given T) new.left × (new.faults ≡ old.faults) × IsSettled more false T old new
+PushBy (ByClient e) read T ms all more old new = IsUpTo read (tags_given T) × (new.faults ≡ old.faults) × Causes e ms all old.counts new.counts
+PushBy (ByFilm at) read T ms all more old new =
+    IsRefusedAt read at (tags_given T) new.left × (new.faults ≡ old.faults) × IsSettled more false T old new × IsNear read (tags_given T)
 PushBy BySource read T ms all more old new = ((rest : List ℕ) × Reads read (tags_given T) rest) × Rose old.faults new.faults × IsSettled more false T old new
 PushBy BySink read T ms all more old new = ⊥
-PushBy ByMemory read T ms all more old new = AreFirst read (tags_given T) × (new.faults ≡ old.faults) × IsCalm old.counts new.counts
+PushBy ByMemory read T ms all more old new = IsNear read (tags_given T) × (new.faults ≡ old.faults) × IsCalm old.counts new.counts
 
 -- A FILM WAS PUSHED so far
 pub record HasPushed (k : Asked) (how : How) (old new : PushSeen) : Type 0 where
@@ -45,6 +47,7 @@ pub record HasPushed (k : Asked) (how : How) (old new : PushSeen) : Type 0 where
   pub was_read : WasRead read old.left new.left
   pub y : List ℕ
   pub rest : List ℕ
+  pub unfed : IsUnfed how rest
   pub ms : List (ℕ × Message)
   pub T : List Gave
   pub more : List ℕ

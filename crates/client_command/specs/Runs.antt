@@ -1,5 +1,5 @@
 -- What a client has done over a link, and why it ends
-use Rattle.std.specs.Prelude.{◌≡◌, ◌++◌, ℕ, List, [], ◌∷◌, drop, None}
+use Rattle.std.specs.Prelude.{◌≡◌, ◌≤◌, ◌++◌, ℕ, List, [], ◌∷◌, drop, length, None}
 use Rattle.relay_outside.specs.Counts.{Rose}
 use Rattle.relay_outside.specs.Told.{LinkCounts, LinkTold}
 use Rattle.std.specs.declared.option.Option.{Option}
@@ -16,11 +16,16 @@ use Rattle.rtmp_client.specs.Feeding.{Decides}
 use Rattle.rtmp_client.specs.Refusing.{refused}
 use Rattle.rtmp_client.specs.declared.end.ClientEnd.{ClientEnd}
 use Rattle.rtmp_client.specs.declared.end.ClientEnd.TheVariants as end
+use Rattle.client_command.specs.Ends.{How, ByClient}
 use Rattle.client_command.specs.Traffic.{IsCalm, Passed}
 
 -- the longest message that is taken and sent
 abbrev pub most_message : ℕ
 most_message = 4194304
+
+-- how many bytes a client takes of its link at a time, at most
+abbrev pub most_received : ℕ
+most_received = 4096
 
 -- none of the messages ends a client
 abbrev pub AreFriendly : List (ℕ × Message) → Type 0
@@ -37,6 +42,12 @@ pub record HasRun (k : Asked) (y rest : List ℕ) (ms : List (ℕ × Message)) (
   pub owes : took ++ more ≡ out k y ms T
   pub given : AreGiven k most_message (count_of y) ms T
   pub told : gifts ≡ pulled k ms
+
+-- OF WHAT THE LINK GAVE THESE BYTES WEREN'T FED: no more than are taken at a time, and none where the server
+-- closed it
+pub record IsUnfed (how : How) (rest : List ℕ) : Type 0 where
+  pub few : length rest ≤ most_received
+  pub none : how ≡ ByClient end.PeerClosed → rest ≡ []
 
 -- the byte decides: so many stand before it
 abbrev pub Decided : List (ℕ × Message) → List ℕ → ClientEnd → Type 0

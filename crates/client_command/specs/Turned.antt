@@ -1,5 +1,5 @@
 -- A client that runs over a link, and what its turns come to
-use Rattle.std.specs.Prelude.{◌≡◌, ◌⊎◌, ◌++◌, ℕ, true, List, [], length, Option, Some, None}
+use Rattle.std.specs.Prelude.{◌≡◌, ◌⊎◌, ◌≤◌, ◌++◌, ℕ, true, List, [], length, Option, Some, None}
 use Rattle.relay_outside.specs.Counts.{Rose}
 use Rattle.relay_outside.specs.Told.{LinkCounts, LinkTold}
 use Rattle.client_owed.specs.declared.types.Asked.{Asked}
@@ -16,13 +16,15 @@ use Rattle.rtmp_client.specs.declared.end.ClientTurn.{ClientTurn}
 use Rattle.rtmp_client.specs.declared.end.ClientTurn.TheVariants.{Moved, Idle, Ended}
 use Rattle.client_command.specs.declared.stop.Stop.{Stop}
 use Rattle.client_command.specs.declared.stop.Stop.TheVariants.{Client, Refused, Source, Sink, Memory}
-use Rattle.client_command.specs.Runs.{AreFriendly, Causes, HasRun, most_message}
+use Rattle.client_command.specs.Ends.{ByClient}
+use Rattle.client_command.specs.Runs.{AreFriendly, Causes, HasRun, IsUnfed, most_message, most_received}
 use Rattle.client_command.specs.Traffic.{IsCalm, Passed}
 
 -- a client that lives
 pub record IsLive (c : ClientState) : Type 0 where
   pub lives : c.ended ≡ None
   pub max : c.parts.reader.max ≡ most_message
+  pub short : length c.input ≤ most_received
   pub stands : StandsSo c.parts
 
 abbrev pub StillLives : ClientTurn → ClientState → Type 0
@@ -58,6 +60,7 @@ pub record IsDone (e : ClientEnd) (c : Core) (more : List ℕ) (n n' : LinkCount
 -- a client that lived so before has ended in the turn
 pub record Stopped (k : Asked) (e : ClientEnd) (c : Core) (start now : Option LinkTold) (n n' : LinkCounts) : Type 0 where
   pub rest : List ℕ
+  pub unfed : IsUnfed (ByClient e) rest
   pub more : List ℕ
   pub run : HasRun k c.y rest c.reader.given c.gave (gifts_of c) more start now
   pub why : IsDone e c more n n' ⊎ Causes e c.reader.given (c.y ++ rest) n n'

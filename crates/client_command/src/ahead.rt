@@ -1,11 +1,13 @@
 ghost use Rattle.std.specs.Prelude.{◌≡◌, ◌≤◌, [], length, drop, OnOk, OnErr};
 ghost use Rattle.rtmp_client.specs.Turns.{is_nil};
+ghost use Rattle.client_command.specs.Film.{most_ahead};
 
 use av_unit::{Bytes, OutOfMemory};
 use std::alloc::Global;
 use std::marker::Model;
 
-/// The bytes of a film that came and weren't read yet. Contracts see their list.
+/// The bytes of a film that came and weren't read yet, at most 16,384. Contracts see their list. If all were
+/// read none are kept.
 #[derive(Drop)]
 pub struct Ahead {
     bytes: Bytes,
@@ -13,13 +15,14 @@ pub struct Ahead {
 }
 
 impl Model for Ahead {
-    ghost use Rattle.std.specs.Prelude.{◌≤◌, List, ℕ, length, drop};
+    ghost use Rattle.std.specs.Prelude.{◌≡◌, ◌≤◌, List, ℕ, length, drop};
+    ghost use Rattle.client_command.specs.Film.{most_ahead};
 
     ghost Value = { List ℕ };
 
     ghost view = { λ a. drop a.offset a.bytes };
 
-    ghost invariant = { λ a. a.offset ≤ length a.bytes };
+    ghost invariant = { λ a. (a.offset ≤ length a.bytes) × (length a.bytes ≤ most_ahead) × (a.offset ≡ length a.bytes → a.offset ≡ 0) };
 }
 
 impl Ahead {
@@ -35,6 +38,7 @@ impl Ahead {
 
     /// Receives bytes, if none were left.
     pub fn receive(&mut self, alloc: Global, bytes: &[u8]) -> Result<(), OutOfMemory>
+        requires { length bytes.now ≤ most_ahead }
         ensures ok { OnOk result (self.new ≡ bytes.now) }
         ensures err { OnErr result (self.new ≡ self.old) }
     {
@@ -57,7 +61,8 @@ impl Ahead {
 
     /// The bytes that are left.
     pub fn left(&self) -> &[u8]
-        ensures { result.now ≡ self.now }
+        ensures value { result.now ≡ self.now }
+        ensures few { length self.now ≤ most_ahead }
     {
         &self.bytes.as_slice()[self.offset..]
     }

@@ -1,6 +1,7 @@
 //! A film that is pushed.
 ghost use Rattle.std.specs.Prelude.{◌≡◌, ◌≤◌, ◌<◌, ◌+◌, ◌^◌, [], ℕ, List, length, true, false, None, IfErr, IfOk};
 ghost use Rattle.std.specs.declared.option.Option.{Option};
+ghost use Rattle.client_command.specs.Film.{most_ahead};
 ghost use Rattle.client_command.specs.Giving.{Asks, EndsAs, FeedStops, Fills, IsReadOn, IsReading, MayGo, ReadsNext, came_of};
 ghost use Rattle.segment_command.specs.Films.{WasRead};
 
@@ -47,6 +48,7 @@ fn ask<S: Source>(
     requires reading { IsReading film.old }
     requires none { film.old.ahead ≡ [] }
     requires some { 0 < length piece.old }
+    requires few { length piece.old ≤ most_ahead }
     requires room { film.old.came + length piece.old ≤ 2 ^ 36 }
     ensures asks { Asks result film.old film.new (S.left input.old) (S.left input.new) (S.faults input.old) (S.faults input.new) }
     ensures some { IfOk result (λ came. came ≡ true → 0 < length film.new.ahead) }
@@ -66,6 +68,7 @@ fn ask<S: Source>(
 fn ask_past<S: Source>(film: &Film, piece: &mut [u8], input: &mut S) -> Result<bool, Stop>
     requires full { film.now.came ≡ 2 ^ 36 }
     requires some { 0 < length piece.old }
+    requires few { length piece.old ≤ most_ahead }
     ensures asks { Asks result film.now film.now (S.left input.old) (S.left input.new) (S.faults input.old) (S.faults input.new) }
     ensures none { IfOk result (λ came. came ≡ false) }
 {

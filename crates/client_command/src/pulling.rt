@@ -159,7 +159,8 @@ fn pull_stream<W: Wait, L: Link, R: Rest, K: Sink>(
 /// | 12 | the bytes that came are no RTMP at the byte `place` | the same |
 /// | 13 | the server refused, in the words that the answer tells | the same |
 ///
-/// `place` is 0 but for code 12.
+/// `place` is 0 but for code 12. Of the bytes that the link gave at most 4,096 were not read, and none if the server
+/// closed it.
 pub fn pull<W: Wait, L: Link, R: Rest, K: Sink>(
     rt: &W,
     alloc: Global,

@@ -210,7 +210,8 @@ fn push_stream<W: Wait, S: Source, L: Link, R: Rest>(
 /// The words are `push ADDRESS APP NAME`. Each of the three has 1 to 255 bytes, and a key may stand in NAME
 /// behind `?`. The address is told to the server; to connect to it is the caller's affair. It may wait, and
 /// rests after each turn in which nothing moved. The film is asked for more only if nothing is to be sent and
-/// the server has nothing more to say. The answer's code tells how it ended:
+/// the server has nothing more to say. So at the end at most one tag was read that wasn't given to the client,
+/// and at most 16,384 bytes behind it. The answer's code tells how it ended:
 ///
 /// | Code | Comes | The link took |
 /// |---|---|---|
@@ -224,7 +225,8 @@ fn push_stream<W: Wait, S: Source, L: Link, R: Rest>(
 /// | 12 | the bytes that came are no RTMP at the byte `place` | the same |
 /// | 13 | the server refused, in the words that the answer tells | the same |
 ///
-/// `place` is 0 but for codes 4 and 12.
+/// `place` is 0 but for codes 4 and 12. Of the bytes that the link gave at most 4,096 were not read, and none if the
+/// server closed it.
 pub fn push<W: Wait, S: Source, L: Link, R: Rest>(
     rt: &W,
     alloc: Global,

@@ -85,7 +85,7 @@ read_first max b rest ms M i e a near =
 
 -- ---- the handshakes
 
-hello_length : length hello ≡ 1537
+pub hello_length : length hello ≡ 1537
 hello_length = omega (arith, length-replicate {A = ℕ} 1536 0)
 
 c2_length : (y : List ℕ) → hand_bytes ≤ length y → length (c2 y) ≡ 1536

@@ -6,6 +6,7 @@ pub mod Walks
 pub mod Starts
 pub mod Push
 pub mod Bytes
+pub mod Begun
 pub mod Gifts
 pub mod Readable
 pub mod Telling

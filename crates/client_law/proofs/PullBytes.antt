@@ -30,19 +30,19 @@ use Rattle.client_law.proofs.Telling.{told_bare, told_from}
 
 -- ---- where nothing has come
 
-none_within : (n : ℕ) (b : List ℕ) → length b ≤ n → drop n b ≡ []
+pub none_within : (n : ℕ) (b : List ℕ) → length b ≤ n → drop n b ≡ []
 none_within n b l = by_length (drop n b) (length-drop n b ∙ omega (arith, l))
   where
     by_length : (c : List ℕ) → length c ≡ 0 → c ≡ []
     by_length [] e = refl
     by_length (x ∷ c) e = absurd (omega (arith, e))
 
-bare_none : (ms : List (ℕ × Message)) → bare ms ≡ [] → ms ≡ []
+pub bare_none : (ms : List (ℕ × Message)) → bare ms ≡ [] → ms ≡ []
 unfolding bare
 bare_none [] e = refl
 bare_none (m ∷ ms) e = absurd cc
 
-read_none : (max : ℕ) (b : List ℕ) (ms : List (ℕ × Message)) → IsRead max b ms → b ≡ [] → bare ms ≡ []
+pub read_none : (max : ℕ) (b : List ℕ) (ms : List (ℕ × Message)) → IsRead max b ms → b ≡ [] → bare ms ≡ []
 unfolding written
 read_none max b ms i e = read_whole max b ms [] i e tt
 

@@ -134,7 +134,7 @@ phase_shows k phase.Idle i e = tt
 phase_shows k (phase.Asked r id) i e = tt
 phase_shows k (phase.Publishes id size) i e = tt
 
-shows_stays : (k : Asked) (s : State) (i : Item) → k.wish ≡ wish.Push → Every (NoStart k) (shows s i)
+pub shows_stays : (k : Asked) (s : State) (i : Item) → k.wish ≡ wish.Push → Every (NoStart k) (shows s i)
 unfolding shows
 shows_stays k s i e = phase_shows k s.phase i e
 

@@ -34,6 +34,7 @@ use Rattle.client_owed.specs.declared.types.Given.{Given}
 use Rattle.client_owed.specs.declared.types.Given.TheVariants.{Finish, Send}
 use Rattle.client_owed.specs.Client.{ask, connect, create_stream, delete_stream, tc_url}
 use Rattle.client_owed.specs.Owed.{EndsAt, Follow, MayGive, sent_on}
+use Rattle.client_law.specs.Laws.{Begins}
 use Rattle.client_law.specs.Loud.{Every, EverySaid, bare, listed, sents, size_after, tag_unit, units, units_from}
 use Rattle.client_law.proofs.Alike.{said_join}
 use Rattle.client_law.proofs.Steps.{Silent, asking, ask_of, ask_does, ask_passed, connect_does, create_does, idle, idle_delete, idle_media, live, live_after, live_delete, live_media, publishing, pushes}
@@ -42,6 +43,12 @@ pushed_more : (es : List Entry) (e : Entry) → pushed (es ++ e ∷ []) ≡ push
 unfolding pushed
 pushed_more [] e = append-nil (unit_of e.call)
 pushed_more (x ∷ es) e = ap (λ l. unit_of x.call ++ l) (pushed_more es e) ∙ sym (append_assoc (unit_of x.call) (pushed es) (unit_of e.call))
+
+pub heads : (a b : Message) (x y : List Message) → a ∷ x ≡ b ∷ y → (a ≡ b) × (x ≡ y)
+heads a b x y e = (cc, cc)
+
+pub never : (a : Message) (x : List Message) → a ∷ x ≡ [] → ⊥
+never a x e = cc
 
 head_bare : (m : Message) (ms : List Message) (r : ℕ × Message) (R : List (ℕ × Message)) → bare (r ∷ R) ≡ m ∷ ms → (r.1 ≡ m) × (bare R ≡ ms)
 unfolding bare
@@ -173,6 +180,62 @@ module _ (Q : Message → Type 0) (desk : Ask → Grant) (who window : ℕ) wher
           ap (λ (q : Talk State). pushed q.made) (walk_first C t r R ∙ ap (λ q. walk d C q R) o ∙ ap (walk d C u) none) ∙ walk_none C u ∙ finish_made C r.0 t v refl
           ∙ sym (append-nil (pushed t.made)) ∙ ap (λ l. pushed t.made ++ units_from size l) (sym ends)
 
+  -- ---- it publishes so far
+
+  -- a tag was heard: it publishes on, or its call waits, with its unit
+  tag_gone : (C : List Own) (o : ℕ) (app : List ℕ) (size : ℕ) (t : Talk State) (m : Option Media)
+      → (pushed (gone C o app size t m).made ≡ pushed t.made ++ listed m) × (((gone C o app size t m).state ≡ live window app (size_after m size)) ⊎ ((gone C o app size t m).stuck ≡ true))
+  tag_gone C o app size t None = (sym (append-nil (pushed t.made)), inl refl)
+  tag_gone C o app size t (Some u) = by_reply (reply_at o C)
+    where
+      t' : Talk State
+      t' = calling d o (started d o t (publishing desk window app size (Some u))) (call.Push u)
+
+      by_reply : (r : Option Reply) → (pushed (resumed d o t' r).made ≡ pushed t.made ++ listed (Some u)) × (((resumed d o t' r).state ≡ live window app (size_after (Some u) size)) ⊎ ((resumed d o t' r).stuck ≡ true))
+      by_reply None = (pushed_more t.made (entry_of d o (call.Push u)), inr refl)
+      by_reply (Some r) = (pushed_more t.made (entry_of d o (call.Push u)), inl (told_live app size (Some u) r))
+
+  begins_all : (a b c : List Media) → a ≡ b → Begins a (b ++ c)
+  begins_all a b c e = (c, ap (λ l. l ++ c) e)
+
+  -- WHAT IS PUBLISHED BEGINS THE UNITS, also where a call waits
+  pub tags_begin : (w : Wish) (max from to : ℕ) (C : List Own) (app : List ℕ) (size : ℕ) (T : List Gave) (R : List (ℕ × Message)) (t : Talk State) → t.state ≡ live window app size → bare R ≡ sents 1 T → Follow w max from to T
+      → Begins (pushed (walk d C t R).made) (pushed t.made ++ units_from size T)
+  unfolding sents units_from
+  tags_begin w max from to C app size [] [] t st b f = begins_all (pushed (walk d C t []).made) (pushed t.made) [] (walk_none C t)
+  tags_begin w max from to C app size [] (r ∷ R) t st b f = absurd (bare_some r R b)
+  tags_begin w max from to C app size (g ∷ T) [] t st b f = absurd (none_bare (sent_on 1 g.given) (sents 1 T) b)
+  tags_begin w max from to C app size (g ∷ T) (r ∷ R) t st b f =
+      let hb = head_bare (sent_on 1 g.given) (sents 1 T) r R b in
+      by_stuck g.given hb.0 f.1 f.2 hb.1 (λ next u su. tags_begin w max g.at to C app next T R u su hb.1 f.3) (by_bool t.stuck)
+    where
+      by_stuck : (x : Given) → r.1 ≡ sent_on 1 x → MayGive w max x → EndsAt x T → bare R ≡ sents 1 T
+          → ((next : ℕ) (u : Talk State) → u.state ≡ live window app next → Begins (pushed (walk d C u R).made) (pushed u.made ++ units_from next T)) → (t.stuck ≡ true) ⊎ (t.stuck ≡ false)
+          → Begins (pushed (walk d C t (r ∷ R)).made) (pushed t.made ++ (listed (tag_unit size x) ++ units_from (size_after (tag_unit size x) size) T))
+      by_stuck x rx may ends br ih (inl q) =
+          begins_all (pushed (walk d C t (r ∷ R)).made) (pushed t.made) (listed (tag_unit size x) ++ units_from (size_after (tag_unit size x) size) T) (ap (λ (u : Talk State). pushed u.made) (stuck_walk C t (r ∷ R) q))
+      by_stuck (Send tag) rx may ends br ih (inr q) =
+          let m = unit_from tag.kind tag.time tag.body size in
+          let u = gone C r.0 app size t m in
+          let o : one d C t r ≡ u = one_open C t r (sent_on 1 (Send tag)) (live window app size) (publishing desk window app size m) q st rx (live_media desk window tag.time tag.kind size app tag.body may.1) in
+          let whole : walk d C t (r ∷ R) ≡ walk d C u R = walk_first C t r R ∙ ap (λ y. walk d C y R) o in
+          let gone_on = tag_gone C r.0 app size t m in
+          let all : pushed u.made ++ units_from (size_after m size) T ≡ pushed t.made ++ (listed m ++ units_from (size_after m size) T) =
+          ap (λ l. l ++ units_from (size_after m size) T) gone_on.0 ∙ append_assoc (pushed t.made) (listed m) (units_from (size_after m size) T) in
+          subst (λ (l : List Media). Begins (pushed (walk d C t (r ∷ R)).made) l) all
+          (subst (λ (y : Talk State). Begins (pushed y.made) (pushed u.made ++ units_from (size_after m size) T)) (sym whole) (after m u gone_on.1))
+        where
+          after : (m : Option Media) (u : Talk State) → (u.state ≡ live window app (size_after m size)) ⊎ (u.stuck ≡ true) → Begins (pushed (walk d C u R).made) (pushed u.made ++ units_from (size_after m size) T)
+          after m u (inl s) = ih (size_after m size) u s
+          after m u (inr s) = begins_all (pushed (walk d C u R).made) (pushed u.made) (units_from (size_after m size) T) (ap (λ (y : Talk State). pushed y.made) (stuck_walk C u R s))
+      by_stuck Finish rx may ends br ih (inr q) =
+          let v : Step State = record { state = idle window app []; says = []; makes = Some call.End } in
+          let u = goes d C r.0 (started d r.0 t v) v.makes in
+          let o : one d C t r ≡ u = one_open C t r (delete_stream 1) (live window app size) v q st rx (live_delete desk window size app) in
+          let none : R ≡ [] = no_more R (br ∙ ap (sents 1) ends) in
+          begins_all (pushed (walk d C t (r ∷ R)).made) (pushed t.made) (units_from size T)
+          (ap (λ (y : Talk State). pushed y.made) (walk_first C t r R ∙ ap (λ y. walk d C y R) o ∙ ap (walk d C u) none) ∙ walk_none C u ∙ finish_made C r.0 t v refl)
+
   -- ---- it publishes nothing
 
   silent_made : (C : List Own) (o : ℕ) (t : Talk State) (v : Step State) → Silent desk v → EverySaid Q t.said → EverySaid Q (goes d C o (started d o t v) v.makes).said
@@ -206,9 +269,10 @@ module _ (Q : Message → Type 0) (desk : Ask → Grant) (who window : ℕ) wher
 
   -- ---- the three commands
 
-  -- what comes of them: all that is said has this property, or the units of the tags are published, if no call waits
+  -- what comes of them: all that is said has this property, or the units of the tags are published, if no call waits,
+  -- and the first of them if one does
   abbrev pub Outcome : ℕ → List Gave → Talk State → Type 0
-  Outcome id T t = EverySaid Q t.said ⊎ ((id ≡ 1) × (t.stuck ≡ false → pushed t.made ≡ units T))
+  Outcome id T t = EverySaid Q t.said ⊎ ((id ≡ 1) × (t.stuck ≡ false → pushed t.made ≡ units T) × Begins (pushed t.made) (units T))
 
   abbrev asked_state : List ℕ → State
   asked_state app = with_phase (idle window app (1 ∷ [])) (phase.Asked role.Publish 1)
@@ -253,7 +317,11 @@ module _ (Q : Message → Type 0) (desk : Ask → Grant) (who window : ℕ) wher
         → Outcome 1 T (walk d C (told_of d o t r) R)
     told_outcome R o t r p b h m (inl e) =
         subst (λ (y : Told State). Outcome 1 T (walk d C (told_of d o t y) R)) (sym e)
-        (inr (refl, λ q. tags_walk w max from to C app 0 T R (told_of d o t (begun app)) refl b f q ∙ ap (λ l. l ++ units T) m))
+        (inr (
+          refl,
+          (λ q. tags_walk w max from to C app 0 T R (told_of d o t (begun app)) refl b f q ∙ ap (λ l. l ++ units T) m),
+          subst (λ (l : List Media). Begins (pushed (walk d C (told_of d o t (begun app)) R).made) (l ++ units T)) m (tags_begin w max from to C app 0 T R (told_of d o t (begun app)) refl b f),
+        ))
     told_outcome R o t r p b h m (inr (v, e)) =
         subst (λ (y : Told State). Outcome 1 T (walk d C (told_of d o t y) R)) (sym e)
         (idle_outcome 1 R (told_of d o t (denied v app)) refl p b (said_join Q t.said (o, (denied v app).says) h (refused v, tt)))
@@ -323,3 +391,98 @@ module _ (Q : Message → Type 0) (desk : Ask → Grant) (who window : ℕ) wher
       let go : walk d C (talking.fresh d) (l1 ∷ l2 ∷ l3 ∷ R) ≡ walk d C t2 (l3 ∷ R) =
       walk_first C (talking.fresh d) l1 (l2 ∷ l3 ∷ R) ∙ ap (λ y. walk d C y (l2 ∷ l3 ∷ R)) o1 ∙ walk_first C t1 l2 (l3 ∷ R) ∙ ap (λ y. walk d C y (l3 ∷ R)) o2 in
       subst (λ (y : Talk State). Outcome id T y) (sym go) (ask_outcome refused k.wish max from to C app k.name T f id l3 R t2 n p refl refl x3 b3.1 (yes1, ((yes2, tt), tt)) refl)
+
+  -- ---- the three commands publish nothing
+
+  abbrev connecting : Asked → Step State
+  connecting k = record { state = idle window (app_in k.app) []; says = dialog.connected window (pattern 1); makes = None }
+
+  abbrev creating : List ℕ → Step State
+  creating app = record { state = idle window app (1 ∷ []); says = dialog.answers 0 (answer.Created (pattern 2) 1) ∷ []; makes = None }
+
+  -- the talk after the first, and after the second
+  abbrev once : Asked → ℕ × Message → Talk State
+  once k l = started d l.0 (talking.fresh d) (connecting k)
+
+  abbrev twice : Asked → ℕ × Message → ℕ × Message → Talk State
+  twice k l m = started d m.0 (once k l) (creating (app_in k.app))
+
+  first_does : (k : Asked) (C : List Own) (l : ℕ × Message) → length (tc_url k) < 2 ^ 16 → l.1 ≡ connect k → one d C (talking.fresh d) l ≡ once k l
+  first_does k C l a e = one_open C (talking.fresh d) l (connect k) (fresh window) (connecting k) refl refl e (connect_does desk window k a)
+
+  second_does : (k : Asked) (C : List Own) (l m : ℕ × Message) → m.1 ≡ create_stream → one d C (once k l) m ≡ twice k l m
+  second_does k C l m e = one_open C (once k l) m create_stream (idle window (app_in k.app) []) (creating (app_in k.app)) refl refl e (create_does desk window (app_in k.app))
+
+  asked_none : (C : List Own) (o : ℕ) (app name : List ℕ) (t : Talk State) (g : Grant) → pushed t.made ≡ [] → pushed (goes d C o (started d o t (asking desk window app name g)) (asking desk window app name g).makes).made ≡ []
+  asked_none C o app name t grant.NoName m = m
+  asked_none C o app name t grant.Refused m = m
+  asked_none C o app name t (grant.Place place) m = by_reply (reply_at o C)
+    where
+      begin : Call
+      begin = dialog.call_of (act.Begin place name)
+
+      t' : Talk State
+      t' = calling d o (started d o t (asking desk window app name (grant.Place place))) begin
+
+      made : pushed t'.made ≡ []
+      made = pushed_more t.made (entry_of d o begin) ∙ ap (λ l. pushed t.made ++ l) (begin_none (nat_le (length name) 64) name) ∙ append-nil (pushed t.made) ∙ m
+
+      by_reply : (r : Option Reply) → pushed (resumed d o t' r).made ≡ []
+      by_reply None = made
+      by_reply (Some r) = made
+
+  abbrev asks_on : ℕ → List ℕ → Message
+  asks_on id name = record { kind = 20; stream = id; time = 0; body = Rattle.amf0_value.specs.Encoding.items_spelling (Rattle.client_owed.specs.Client.asks Rattle.client_owed.specs.declared.types.Wish.TheVariants.Push name) }
+
+  third_none : (id : ℕ) (C : List Own) (app name : List ℕ) (t : Talk State) (l : ℕ × Message) → length name < 2 ^ 16 → t.state ≡ idle window app (1 ∷ []) → t.stuck ≡ false → l.1 ≡ asks_on id name → pushed t.made ≡ []
+      → pushed (one d C t l).made ≡ []
+  third_none id C app name t l n st q e m = by_id (cases_eq 1 id)
+    where
+      by_id : ((1 ≡ id) ⊎ (1 ≡ id → ⊥)) → pushed (one d C t l).made ≡ []
+      by_id (inr ne) =
+          let v : Step State = record { state = idle window app (1 ∷ []); says = []; makes = None } in
+          ap (λ (u : Talk State). pushed u.made) (one_open C t l (asks_on id name) (idle window app (1 ∷ [])) v q st e (ask_passed desk window id app name n ne)) ∙ m
+      by_id (inl i) =
+          let v = asking desk window app (name_in name) (desk (ask_of desk app name)) in
+          ap (λ (u : Talk State). pushed u.made) (one_open C t l (asks_on 1 name) (idle window app (1 ∷ [])) v q st (e ∙ ap (λ (x : ℕ). asks_on x name) (sym i)) (ask_does desk window app name n))
+          ∙ asked_none C l.0 app (name_in name) t (desk (ask_of desk app name)) m
+
+  first_none : (k : Asked) (l : ℕ × Message) → pushed (once k l).made ≡ []
+  unfolding pushed
+  first_none k l = refl
+
+  second_none : (k : Asked) (l m : ℕ × Message) → pushed (twice k l m).made ≡ []
+  unfolding pushed
+  second_none k l m = refl
+
+  fresh_none : pushed (talking.fresh d).made ≡ []
+  unfolding pushed
+  fresh_none = refl
+
+  pub commands_none : (k : Asked) (id : ℕ) (C : List Own) (L : List (ℕ × Message)) (more : List Message) → length (tc_url k) < 2 ^ 16 → length k.name < 2 ^ 16 → k.wish ≡ Rattle.client_owed.specs.declared.types.Wish.TheVariants.Push
+      → bare L ++ more ≡ connect k ∷ create_stream ∷ ask k id ∷ [] → pushed (walk d C (talking.fresh d) L).made ≡ []
+  unfolding bare
+  commands_none k id C [] more a n w e = walk_none C (talking.fresh d) ∙ fresh_none
+  commands_none k id C (l1 ∷ []) more a n w e =
+      let h1 = heads l1.1 (connect k) more (create_stream ∷ ask k id ∷ []) e in
+      ap (λ (u : Talk State). pushed u.made) (walk_first C (talking.fresh d) l1 [] ∙ ap (λ u. walk d C u []) (first_does k C l1 a h1.0)) ∙ walk_none C (once k l1) ∙ first_none k l1
+  commands_none k id C (l1 ∷ l2 ∷ []) more a n w e =
+      let h1 = heads l1.1 (connect k) (l2.1 ∷ more) (create_stream ∷ ask k id ∷ []) e in
+      let h2 = heads l2.1 create_stream more (ask k id ∷ []) h1.1 in
+      ap (λ (u : Talk State). pushed u.made)
+      (walk_first C (talking.fresh d) l1 (l2 ∷ []) ∙ ap (λ u. walk d C u (l2 ∷ [])) (first_does k C l1 a h1.0) ∙ walk_first C (once k l1) l2 [] ∙ ap (λ u. walk d C u []) (second_does k C l1 l2 h2.0))
+      ∙ walk_none C (twice k l1 l2) ∙ second_none k l1 l2
+  commands_none k id C (l1 ∷ l2 ∷ l3 ∷ []) more a n w e =
+      let h1 = heads l1.1 (connect k) (l2.1 ∷ l3.1 ∷ more) (create_stream ∷ ask k id ∷ []) e in
+      let h2 = heads l2.1 create_stream (l3.1 ∷ more) (ask k id ∷ []) h1.1 in
+      let h3 = heads l3.1 (ask k id) more [] h2.1 in
+      let x3 : l3.1 ≡ asks_on id k.name = h3.0 ∙ ap (λ (q : Wish). Rattle.client_owed.specs.Client.command id (Rattle.client_owed.specs.Client.asks q k.name)) w in
+      ap (λ (u : Talk State). pushed u.made)
+      (walk_first C (talking.fresh d) l1 (l2 ∷ l3 ∷ []) ∙ ap (λ u. walk d C u (l2 ∷ l3 ∷ [])) (first_does k C l1 a h1.0) ∙ walk_first C (once k l1) l2 (l3 ∷ []) ∙ ap (λ u. walk d C u (l3 ∷ [])) (second_does k C l1 l2 h2.0)
+      ∙ walk_first C (twice k l1 l2) l3 [])
+      ∙ walk_none C (one d C (twice k l1 l2) l3) ∙ third_none id C (app_in k.app) k.name (twice k l1 l2) l3 n refl refl x3 (second_none k l1 l2)
+  commands_none k id C (l1 ∷ l2 ∷ l3 ∷ l4 ∷ R) more a n w e =
+      let h1 = heads l1.1 (connect k) (l2.1 ∷ l3.1 ∷ l4.1 ∷ (bare R ++ more)) (create_stream ∷ ask k id ∷ []) e in
+      let h2 = heads l2.1 create_stream (l3.1 ∷ l4.1 ∷ (bare R ++ more)) (ask k id ∷ []) h1.1 in
+      let h3 = heads l3.1 (ask k id) (l4.1 ∷ (bare R ++ more)) [] h2.1 in
+      absurd (never l4.1 (bare R ++ more) h3.1)

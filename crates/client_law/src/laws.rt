@@ -12,7 +12,7 @@ ghost use Rattle.client_law.specs.Pull.{HaveHeard, HavePlayed, IsTold, gift_of, 
 ghost use Rattle.relay_session.specs.Session.{session};
 ghost use Rattle.session_owed.specs.Published.{published};
 ghost use Rattle.session_owed.specs.Talk.{Own};
-ghost use Rattle.client_law.specs.Laws.{HaveRead, HaveSent};
+ghost use Rattle.client_law.specs.Laws.{HaveBegun, HaveCome, HaveRead, HaveSent, IsPublished};
 ghost use Rattle.client_law.specs.Room.{HaveRoom};
 ghost use Rattle.chunk_law.specs.ReadBack.{AreReadable};
 ghost use Rattle.session_owed.specs.Owed as session_owed;
@@ -40,6 +40,20 @@ pub fn push_law()
 pub fn push_bytes_law()
     ensures { (k : Asked) (who window max : ℕ) (desk : Ask → Grant) (x y : List ℕ) (ms ns : List (ℕ × Message)) (g : Gave) (T : List Gave) (C : List Own)
         → k.wish ≡ Push → HaveSent k (session who window desk) max x y ms ns (g ∷ T) C → published (session who window desk) ms C ≡ units (g ∷ T) }
+{}
+
+/// Shows the same of a push in progress. If the session has heard the first of the messages that the client
+/// owes, what it publishes begins the units of the tags that the client was given. If the client was given
+/// nothing, nothing is published.
+pub fn push_so_far_law()
+    ensures { (k : Asked) (who window max n o : ℕ) (desk : Ask → Grant) (ns ms : List (ℕ × Message)) (T : List Gave) (C : List Own)
+        → k.wish ≡ Push → HaveBegun k (session who window desk) max n o ns ms T C → IsPublished (session who window desk) ms T C }
+{}
+
+/// Shows the same over bytes, of which the first of each have come to the other.
+pub fn push_bytes_so_far_law()
+    ensures { (k : Asked) (who window max : ℕ) (desk : Ask → Grant) (x y : List ℕ) (ms ns : List (ℕ × Message)) (T : List Gave) (C : List Own)
+        → k.wish ≡ Push → HaveCome k (session who window desk) max x y ms ns T C → IsPublished (session who window desk) ms T C }
 {}
 
 /// Shows that the messages by which a player is shown an item tell a client that plays this item, and nothing

@@ -7,5 +7,6 @@
 mod laws;
 
 pub use laws::{
-    item_law, order_law, pull_bytes_law, pull_law, push_bytes_law, push_law, session_readable_law,
+    item_law, order_law, pull_bytes_law, pull_law, push_bytes_law, push_bytes_so_far_law, push_law,
+    push_so_far_law, session_readable_law,
 };

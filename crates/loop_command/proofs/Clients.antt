@@ -16,6 +16,7 @@ use Rattle.client_owed.specs.declared.types.Wish.{Wish}
 use Rattle.client_owed.specs.Owed.{AreGiven, out}
 use Rattle.client_owed.specs.Pulled.{pulled}
 use Rattle.client_owed.specs.Standing.{Past, count_of, is_finished}
+use Rattle.rtmp_client.specs.Bounds.{IsInput}
 use Rattle.rtmp_client.specs.ClientState.{ClientState, StandsBy, TurnMade, lasting_of, life_of}
 use Rattle.rtmp_client.specs.Turns.{DoneBy, EmptyBy, EndedBy, InputBy, Life, SendBy, SentAs, end_of, is_done, is_hungry, is_nil, life, turn_of}
 use Rattle.rtmp_client.specs.declared.end.ClientEnd.{ClientEnd}
@@ -126,18 +127,18 @@ went Ended lives k c d m t n live gave took r e ends =
     by_why (inr w) f = absurd (subst (λ (x : ClientEnd). Causes x c.parts.reader.given (c.parts.y ++ r.2.rest) n m.counts) f w)
 
 pub turn_goes : (a : ClientTurn) (lives : Bool) (k : Asked) (c d : ClientState) (l m : MemLinkState) → TurnMade (EndedBy MemHears MemSays) c l a d m
-    → StandsBy d.ended d.parts → lasting_of d.parts ≡ lasting_of c.parts
+    → StandsBy d.ended d.parts → lasting_of d.parts ≡ lasting_of c.parts → IsInput d.ended d.input
     → lives ≡ is_on a → (is_on a ≡ false → d.ended ≡ Some end.Done) → ClientRuns k c l → ClientGoes lives k c d m
-turn_goes a lives k c d l m t s la e ends r =
+turn_goes a lives k c d l m t s la i e ends r =
     went a lives k c d m (start_of l) l.counts r.live refl refl
     (turned MemHears (λ (x : MemLinkState). Some (mem_told x)) (λ (x : MemLinkState). x.counts) mem_hears_mean MemSays mem_says_mean a k c d
-    (Some (start_of l)) l m l.counts t s la (to_runs k c l r)) e ends
+    (Some (start_of l)) l m l.counts t s la i (to_runs k c l r)) e ends
 
 -- it lives on
 pub turn_lives : (a : ClientTurn) (lives : Bool) (c d : ClientState) (l m : MemLinkState) → TurnMade (EndedBy MemHears MemSays) c l a d m
-    → StandsBy d.ended d.parts → lasting_of d.parts ≡ lasting_of c.parts
+    → StandsBy d.ended d.parts → lasting_of d.parts ≡ lasting_of c.parts → IsInput d.ended d.input
     → lives ≡ is_on a → lives ≡ true → IsLive c → IsLive d
-turn_lives a lives c d l m t s la e f live = by_turn a (sym e ∙ f) (live_turned (EndedBy MemHears MemSays) a c d l m t s la live)
+turn_lives a lives c d l m t s la i e f live = by_turn a (sym e ∙ f) (live_turned (EndedBy MemHears MemSays) a c d l m t s la i live)
   where
     by_turn : (b : ClientTurn) → is_on b ≡ true → StillLives b d → IsLive d
     by_turn Moved g h = h
@@ -156,9 +157,9 @@ turn_ended a c d l m t e = by_answer t.comes (sym t.answered ∙ e) t.ended
 
 -- an end that isn't that all was sent
 pub stuck_ends : (l : Line) (a : ClientTurn) (d : ClientState) (m : MemLinkState) → TurnMade (EndedBy MemHears MemSays) l.client l.near a d m
-    → StandsBy d.ended d.parts → lasting_of d.parts ≡ lasting_of l.client.parts → a ≡ Ended → is_stuck d.ended ≡ true
+    → StandsBy d.ended d.parts → lasting_of d.parts ≡ lasting_of l.client.parts → IsInput d.ended d.input → a ≡ Ended → is_stuck d.ended ≡ true
     → (e : ClientEnd) × (is_failure e ≡ true) × ClientEnds l e
-stuck_ends l a d m t s la e f =
+stuck_ends l a d m t s la i e f =
     let x = turn_ended a l.client d l.near m t e in
     let g : is_failure x.0 ≡ true = sym (ap is_stuck x.1) ∙ f in (
       x.0,
@@ -170,6 +171,7 @@ stuck_ends l a d m t s la e f =
         ended = x.1;
         stands = s;
         lasts = la;
+        input = i;
       },
     )
 
@@ -257,12 +259,12 @@ client_turned l c link near far forth a lives t passes count h =
 
 pub client_stops : (stop : Stop) (l m : Line) (c : ClientState) (link : MemLinkState) (a : ClientTurn) → LivesBy (Err stop) a c.ended
     → TurnMade (EndedBy MemHears MemSays) l.client l.near a c link → StandsBy c.ended c.parts → lasting_of c.parts ≡ lasting_of l.client.parts
-    → TurnsClient (Err stop) l m
-client_stops Unfinished l m c link a h t s la = stuck_ends l a c link t s la h.0 h.1
-client_stops (Refused at) l m c link a h t s la = absurd h
-client_stops Source l m c link a h t s la = absurd h
-client_stops Sink l m c link a h t s la = absurd h
-client_stops Memory l m c link a h t s la = tt
+    → IsInput c.ended c.input → TurnsClient (Err stop) l m
+client_stops Unfinished l m c link a h t s la i = stuck_ends l a c link t s la i h.0 h.1
+client_stops (Refused at) l m c link a h t s la i = absurd h
+client_stops Source l m c link a h t s la i = absurd h
+client_stops Sink l m c link a h t s la i = absurd h
+client_stops Memory l m c link a h t s la i = tt
 
 pub client_wants : (stop : Stop) (l m : Line) → stop ≡ Memory → TurnsClient (Err stop) l m
 client_wants stop l m e = subst (λ (s : Stop). TurnsClient (Err s) l m) (sym e) tt

@@ -1,13 +1,13 @@
 -- How the command ends, by what its steps came to
-use Rattle.std.proofs.Common.{◌≡◌, ◌⊎◌, ◌∙◌, ℕ, ◌≤◌, List, length, Option, Result, Ok, Err, inl, inr, refl, sym, ap, subst, arith}
+use Rattle.std.proofs.Common.{◌≡◌, ◌⊎◌, ◌∙◌, ℕ, ◌≤◌, true, false, List, length, Option, Result, Ok, Err, inl, inr, refl, sym, ap, subst, arith}
 use Rattle.std.specs.Prelude.{IfErr, OnOk}
 use Rattle.file_commands.specs.Outcome.{seen}
 use Rattle.flv_tags.specs.declared.tag.Tag.{Tag}
-use Rattle.loop_command.specs.Course.{CameBack, CameNot, CamePart, IsFirst, rounds_of, text_of}
+use Rattle.loop_command.specs.Course.{CameBack, CameNot, CamePart, IsFirst, has_skipped, rounds_of, text_of}
 use Rattle.loop_command.specs.Films.{WasWhole, most_bytes}
 use Rattle.loop_command.specs.Looped.{IsLooped}
-use Rattle.loop_command.specs.Outcome.{Ends, HasCome, HasPart}
-use Rattle.loop_command.specs.Rounds.{EndsWith, Goes, HasSettled, IsRun, IsUnsettled, PartBy, ReadStops, ReadsWhole, RunsBy, RunsPart}
+use Rattle.loop_command.specs.Outcome.{Ends, HasCome, HasPart, HasSkipped}
+use Rattle.loop_command.specs.Rounds.{EndsWith, FinishFails, Goes, HasSettled, IsRun, IsUnsettled, PartBy, ReadStops, ReadsWhole, RunsBy, RunsPart}
 use Rattle.loop_command.specs.Rounds.{SinkCause, how_of}
 use Rattle.loop_command.specs.declared.film.Reading.{Reading}
 use Rattle.loop_command.specs.declared.rounds.Run.{Run}
@@ -86,14 +86,14 @@ run_ends Source r left left' held held' n n' f f' first last h fresh e p s = abs
 run_ends Sink r left left' held held' n n' f f' first last h fresh e p s = (part_of r left left' held held' n n' f f' first h fresh p, s)
 run_ends Memory r left left' held held' n n' f f' first last h fresh e p s =
     (h.faults, s, inr (inl (part_of r left left' held held' n n' f f' first h fresh p)))
-run_ends Unfinished r left left' held held' n n' f f' first last h fresh e p s = record {
+run_ends Unfinished r left left' held held' n n' f f' first last h fresh e p s = inl (record {
   tags = r.tags.items;
   film = whole r left left' held held' n n' f f' h;
   text = text_of last;
   back = not_back r left left' held held' n n' first last h fresh e;
   held = e.written;
   faults = s;
-}
+})
 
 -- the film came back
 came_back : (r : Reading) (left left' held held' : Option (List ℕ)) (n n' : ℕ) (first last : Run) (h : ReadsWhole r left left' n n')
@@ -116,14 +116,30 @@ came_back r left left' held held' n n' first last h fresh g =
 
 back_ends : (r : Reading) (left left' held held' : Option (List ℕ)) (n n' f f' : ℕ) (first last : Run) → ReadsWhole r left left' n n'
     → IsFirst r.tags.items first → Goes r.tags.items last held held' (HasSettled first last (rounds_of r.bytes)) → f' ≡ f
-    → IsLooped r.tags.items (text_of last) → HasCome (seen left held n f) (seen left' held' n' f')
-unfolding whole
-back_ends r left left' held held' n n' f f' first last h fresh g s looped = record {
+    → has_skipped last ≡ false → IsLooped r.tags.items (text_of last) → HasCome (seen left held n f) (seen left' held' n' f')
+unfolding whole came_back
+back_ends r left left' held held' n n' f f' first last h fresh g s none looped = record {
   tags = r.tags.items;
   film = whole r left left' held held' n n' f f' h;
   text = text_of last;
   back = came_back r left left' held held' n n' first last h fresh g;
+  unskipped = none;
   looped = looped;
+  held = run_text r.tags.items last held held' g.is_run;
+  faults = s;
+}
+
+-- but the player missed items of it
+skip_ends : (r : Reading) (left left' held held' : Option (List ℕ)) (n n' f f' : ℕ) (first last : Run) → ReadsWhole r left left' n n'
+    → IsFirst r.tags.items first → Goes r.tags.items last held held' (HasSettled first last (rounds_of r.bytes)) → f' ≡ f
+    → has_skipped last ≡ true → HasSkipped (seen left held n f) (seen left' held' n' f')
+unfolding whole came_back
+skip_ends r left left' held held' n n' f f' first last h fresh g s skipped = record {
+  tags = r.tags.items;
+  film = whole r left left' held held' n n' f f' h;
+  text = text_of last;
+  back = came_back r left left' held held' n n' first last h fresh g;
+  skipped = skipped;
   held = run_text r.tags.items last held held' g.is_run;
   faults = s;
 }
@@ -144,10 +160,14 @@ back_part r left left' held held' n n' f f' first last h fresh g = record {
 pub finish_ends : (v : Result (Unit {0}) Stop) (r : Reading) (left left' held held' : Option (List ℕ)) (n n' f f' : ℕ) (first last : Run)
     → ReadsWhole r left left' n n' → IsFirst r.tags.items first
     → Goes r.tags.items last held held' (HasSettled first last (rounds_of r.bytes)) → f' ≡ f → OnOk v (IsLooped r.tags.items (text_of last))
-    → IfErr v (λ stop. stop ≡ Memory) → Ends (how_of v) (seen left held n f) (seen left' held' n' f')
-finish_ends (Ok x) r left left' held held' n n' f f' first last h fresh g s looped e = back_ends r left left' held held' n n' f f' first last h fresh g s looped
-finish_ends (Err stop) r left left' held held' n n' f f' first last h fresh g s looped e =
+    → OnOk v (has_skipped last ≡ false) → IfErr v (λ stop. FinishFails stop last) → Ends (how_of v) (seen left held n f) (seen left' held' n' f')
+finish_ends (Ok x) r left left' held held' n n' f f' first last h fresh g s looped none e =
+    back_ends r left left' held held' n n' f f' first last h fresh g s none looped
+finish_ends (Err stop) r left left' held held' n n' f f' first last h fresh g s looped none (inl e) =
     memory_ends stop r left left' held held' n n' f f' e h s (inr (inr (back_part r left left' held held' n n' f f' first last h fresh g)))
+finish_ends (Err stop) r left left' held held' n n' f f' first last h fresh g s looped none (inr e) =
+    subst (λ (x : Stop). Ends (how_of (Err x)) (seen left held n f) (seen left' held' n' f')) (sym e.0)
+    (inr (skip_ends r left left' held held' n n' f f' first last h fresh g s e.1))
 
 -- ---- a run, by what its rounds came to
 
@@ -162,11 +182,11 @@ whole_stops stop first last rounds held before now f f' goes part s = λ r left 
 
 pub whole_ends : (v : Result (Unit {0}) Stop) (first last : Run) (rounds : ℕ) (held before now : Option (List ℕ)) (f f' : ℕ)
     → ((file : List Tag) → IsRun file first held before → Goes file last held now (HasSettled first last rounds)) → f' ≡ f
-    → ((file : List Tag) → IsRun file last held now → OnOk v (IsLooped file (text_of last))) → IfErr v (λ stop. stop ≡ Memory)
-    → EndsWith v first rounds held before now f f'
-whole_ends v first last rounds held before now f f' goes s looped err = λ r left left' n n' h e fresh is.
+    → ((file : List Tag) → IsRun file last held now → OnOk v (IsLooped file (text_of last))) → OnOk v (has_skipped last ≡ false)
+    → IfErr v (λ stop. FinishFails stop last) → EndsWith v first rounds held before now f f'
+whole_ends v first last rounds held before now f f' goes s looped none err = λ r left left' n n' h e fresh is.
     let g = subst (λ (k : ℕ). Goes r.tags.items last held now (HasSettled first last k)) e (goes r.tags.items is) in
-    finish_ends v r left left' held now n n' f f' first last h fresh g s (looped r.tags.items g.is_run) err
+    finish_ends v r left left' held now n n' f f' first last h fresh g s (looped r.tags.items g.is_run) none err
 
 pub is_short : (r : Reading) (left left' : Option (List ℕ)) (n n' : ℕ) → ReadsWhole r left left' n n' → r.bytes ≤ most_bytes
 is_short r left left' n n' h = omega (arith, h.count, h.short)

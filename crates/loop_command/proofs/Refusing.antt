@@ -263,7 +263,7 @@ module _ (who : ℕ) (k : Asked) (named : IsNamed k) (p : SoleState) (l : Line) 
     stopped =
         turned MemHears (λ (x : MemLinkState). Some (mem_told x)) (λ (x : MemLinkState). x.counts) mem_hears_mean MemSays mem_says_mean
         client_turn.Ended k l.client ends.new (Some (start_of l.near)) l.near m l.near.counts ends.turn
-        ends.stands ends.lasts (to_runs k l.client l.near runs)
+        ends.stands ends.lasts ends.input (to_runs k l.client l.near runs)
 
     same : stopped.0 ≡ e
     same = the_end stopped.0 e (sym stopped.1 ∙ ends.ended)

@@ -166,7 +166,7 @@ gift_sound r c begun over told live s = record {
 
 -- what is taken of it leaves the rest
 runs_taken : (k : Asked) (c : ClientState) (m : MemLinkState) → ClientRuns k c m → ClientRuns k (without c) m
-runs_taken k c m r = record { live = live_without c (without c) refl refl r.live; asked = r.asked; gave = r.gave; took = r.took; friendly = r.friendly }
+runs_taken k c m r = record { live = live_without c (without c) refl (refl, refl) r.live; asked = r.asked; gave = r.gave; took = r.took; friendly = r.friendly }
 
 none_run : (file : List Tag) (old now : Option (List ℕ)) (r : Run) → r.pull.client.parts.gift ≡ None → IsRun file r old now
     → IsRun file (record r { pull = record r.pull { client = without r.pull.client } }) old now

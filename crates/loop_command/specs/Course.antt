@@ -1,6 +1,6 @@
 -- THE RUN OF A FILM, as a relation: rounds of turns, each of them that of a client or of a session
 use Rattle.std.specs.Prelude.{◌≡◌, ◌⊎◌, ◌<◌, ◌+◌, ◌-◌, ◌*◌, ◌^◌, ◌++◌, ℕ, Bool, true, false, ◌&&◌, not, min, nat_eq, nat_le, List, [], ◌∷◌, length, Option}
-use Rattle.std.specs.Prelude.{Some, None}
+use Rattle.std.specs.Prelude.{Some, None, if◌then◌else◌}
 use Rattle.std.specs.Option.{is_some}
 use Rattle.flv_tags.specs.declared.tag.Tag.{Tag}
 use Rattle.relay_outside.specs.MemLinks.{MemHears, MemLinkState, MemSays}
@@ -22,6 +22,7 @@ use Rattle.client_command.specs.Gifts.{pull_text}
 use Rattle.client_command.specs.Telling.{is_last}
 use Rattle.client_command.specs.Turned.{IsLive, IsNew}
 use Rattle.session_owed.specs.Standing as session_standing
+use Rattle.stream_model.specs.Counts.{is_skip}
 use Rattle.stream_model.specs.declared.calls.Entry.{Entry}
 use Rattle.stream_registry.specs.Books.{FitsSole, SeenState, SoleState, journal_at, sole_rules}
 use Rattle.stream_registry.specs.Told.{Step}
@@ -200,6 +201,15 @@ sent_in (c ∷ C) = length (item_in c.1) + sent_in C
 -- the client that plays was told of all
 abbrev pub has_told : Run → Bool
 has_told r = nat_le (sent_in (journal_at r.port.books 0)) r.told
+
+-- a player was told in a history that the stream's window has gone past its place
+abbrev pub skips_in : List Step → Bool
+skips_in [] = false
+skips_in (c ∷ C) = if is_skip c.1 then true else skips_in C
+
+-- THE PLAYER MISSED items of the stream, as its window went past them
+abbrev pub has_skipped : Run → Bool
+has_skipped r = skips_in (journal_at r.port.books 0)
 
 -- the stream is over for the client that plays, the other has sent all, which its session has read, and
 -- nothing is to be sent

@@ -1,5 +1,5 @@
 -- HOW THE COMMAND ENDS
-use Rattle.std.specs.Prelude.{◌≡◌, ◌⊎◌, ℕ, List, length}
+use Rattle.std.specs.Prelude.{◌≡◌, ◌⊎◌, ℕ, true, false, List, length}
 use Rattle.std.specs.Io.KnownBytes.{append_known}
 use Rattle.relay_base.specs.declared.limits.Status.{Status}
 use Rattle.relay_outside.specs.Counts.{Rose}
@@ -7,12 +7,12 @@ use Rattle.flv_tags.specs.declared.tag.Tag.{Tag}
 use Rattle.file_commands.specs.Outcome.{Seen}
 use Rattle.put_text.specs.Written.{WritesPart}
 use Rattle.segment_command.specs.Films.{WasRead}
-use Rattle.loop_command.specs.Course.{CameBack, CameNot, CamePart}
+use Rattle.loop_command.specs.Course.{CameBack, CameNot, CamePart, has_skipped}
 use Rattle.loop_command.specs.Films.{IsRefused, WasWhole}
 use Rattle.loop_command.specs.Looped.{IsLooped}
 
 -- the film came back, it is refused, its source or the sink fails, memory is refused, or its run doesn't come
--- to its end
+-- to its end, or the player missed items of it
 pub data How : Type 0 where
   Whole : How
   ByFilm : ℕ → How
@@ -33,12 +33,13 @@ status_of BySink = status_at 5 0
 status_of ByMemory = status_at 6 0
 status_of ByRounds = status_at 9 0
 
--- the whole film was read, and what came back is written
+-- the whole film was read, and what came back is written; the player missed nothing
 pub record HasCome (old new : Seen) : Type 0 where
   pub tags : List Tag
   pub film : WasWhole tags old new
   pub text : List ℕ
   pub back : CameBack tags (length film.read) text
+  pub unskipped : has_skipped back.last ≡ false
   pub looped : IsLooped tags text
   pub held : new.held ≡ append_known old.held text
   pub faults : new.sink_faults ≡ old.sink_faults
@@ -49,6 +50,16 @@ pub record HasNotCome (old new : Seen) : Type 0 where
   pub film : WasWhole tags old new
   pub text : List ℕ
   pub back : CameNot tags (length film.read) text
+  pub held : new.held ≡ append_known old.held text
+  pub faults : new.sink_faults ≡ old.sink_faults
+
+-- the whole film was read, and what came back is written; but the player missed items of it
+pub record HasSkipped (old new : Seen) : Type 0 where
+  pub tags : List Tag
+  pub film : WasWhole tags old new
+  pub text : List ℕ
+  pub back : CameBack tags (length film.read) text
+  pub skipped : has_skipped back.last ≡ true
   pub held : new.held ≡ append_known old.held text
   pub faults : new.sink_faults ≡ old.sink_faults
 
@@ -81,7 +92,7 @@ Ends BySink old new = HasPart CamePart old new × Rose old.sink_faults new.sink_
 Ends ByMemory old new =
     (new.source_faults ≡ old.source_faults) × (new.sink_faults ≡ old.sink_faults)
     × ((new.held ≡ old.held) ⊎ (HasPart CamePart old new ⊎ HasPart CameBack old new))
-Ends ByRounds old new = HasNotCome old new
+Ends ByRounds old new = HasNotCome old new ⊎ HasSkipped old new
 
 pub record Outcome (old new : Seen) (status : Status) : Type 0 where
   pub how : How

@@ -1,6 +1,6 @@
 -- Only proofs and private functions use it.
 -- A run between two rounds
-use Rattle.std.specs.Prelude.{◌≡◌, ◌≤◌, ◌<◌, ◌+◌, ◌++◌, min, ℕ, Bool, true, false, List, [], ◌∷◌, length, Option, Some, None, Result, Ok, Err}
+use Rattle.std.specs.Prelude.{◌≡◌, ◌⊎◌, ◌≤◌, ◌<◌, ◌+◌, ◌++◌, min, ℕ, Bool, true, false, List, [], ◌∷◌, length, Option, Some, None, Result, Ok, Err}
 use Rattle.std.specs.Io.KnownBytes.{append_known}
 use Rattle.flv_tags.specs.declared.tag.Tag.{Tag}
 use Rattle.flv_tags.specs.Written.{IsWritable}
@@ -11,6 +11,7 @@ use Rattle.client_owed.specs.declared.types.Gave.{Gave}
 use Rattle.client_owed.specs.declared.types.Gift.{Gift}
 use Rattle.client_owed.specs.declared.types.Gift.TheVariants.{Unpublished}
 use Rattle.client_owed.specs.Standing.{is_finished}
+use Rattle.rtmp_client.specs.Bounds.{IsInput}
 use Rattle.rtmp_client.specs.ClientState.{ClientState, StandsBy, TurnMade, lasting_of}
 use Rattle.rtmp_client.specs.Turns as client_turns
 use Rattle.rtmp_client.specs.declared.end.ClientEnd.{ClientEnd}
@@ -36,7 +37,7 @@ use Rattle.client_command.specs.declared.stop.Stop.{Stop as CommandStop}
 use Rattle.client_command.specs.declared.stop.Stop.TheVariants as command
 use Rattle.file_commands.specs.Outcome.{seen}
 use Rattle.segment_command.specs.Films.{WasRead}
-use Rattle.loop_command.specs.Course.{Asks, ClientTurned, IsCourse, IsFirst, IsWithin, Plays, Publishes, Round, SessionTurned}
+use Rattle.loop_command.specs.Course.{Asks, ClientTurned, IsCourse, IsFirst, IsWithin, Plays, Publishes, Round, SessionTurned, has_skipped}
 use Rattle.loop_command.specs.Course.{TakesGift, is_on, is_settled, rounds_of, sent_in, text_of}
 use Rattle.loop_command.specs.Desk.{granted, player, publisher, puller, pusher, rules}
 use Rattle.loop_command.specs.Films.{IsRefused, film_length, most_bytes, tag_length}
@@ -129,6 +130,7 @@ pub record ClientEnds (l : Line) (e : ClientEnd) : Type 0 where
   pub ended : new.ended ≡ Some e
   pub stands : StandsBy new.ended new.parts
   pub lasts : lasting_of new.parts ≡ lasting_of l.client.parts
+  pub input : IsInput new.ended new.input
 
 -- an end of a session that is no want of memory; that its calls are too many to be counted counts as one
 abbrev pub is_session_cause : End → Bool
@@ -310,6 +312,10 @@ pub record HasSettled (first last : Run) (rounds : ℕ) : Type 0 where
   pub within : length states < rounds
   pub round : Round before last
   pub settled : is_settled last ≡ true
+
+-- why a run that has come to its end can't be finished: memory is refused, or the player missed items
+abbrev pub FinishFails : Stop → Run → Type 0
+FinishFails stop r = (stop ≡ Memory) ⊎ ((stop ≡ Unfinished) × (has_skipped r ≡ true))
 
 -- so many rounds of a run are made, none of which is its last, and so many are left
 pub record RunsOn (file : List Tag) (first run : Run) (rounds left : ℕ) (old now : Option (List ℕ)) : Type 0 where

@@ -1,19 +1,20 @@
 //! The end of a run, and its remains.
-ghost use Rattle.std.specs.Prelude.{◌≡◌, ◌<◌, ◌^◌, ℕ, List, true, nat_eq, nat_le, if◌then◌else◌, length, IfErr, OnOk};
+ghost use Rattle.std.specs.Prelude.{◌≡◌, ◌<◌, ◌^◌, ℕ, List, true, false, nat_eq, nat_le, if◌then◌else◌, length, IfErr, OnOk};
 ghost use Rattle.std.specs.declared.option.Option.{Option};
 ghost use Rattle.client_law.specs.Pull.{item_in};
 ghost use Rattle.av_unit.specs.declared.item.Item.TheVariants.{Unit};
 ghost use Rattle.client_law.specs.Room.{BringsRoom, HasRoom, HaveRoom};
 ghost use Rattle.flv_tags.specs.declared.tag.Tag.{Tag as ATag};
 ghost use Rattle.relay_session.specs.Places.{IsAt};
+ghost use Rattle.stream_model.specs.Counts.{is_skip};
 ghost use Rattle.stream_registry.specs.Books.{FitsSole, SeenState, journal_at, sole_rules};
 ghost use Rattle.stream_registry.specs.Names.{places};
 ghost use Rattle.stream_registry.specs.Told.{Keeps};
-ghost use Rattle.loop_command.specs.Course.{has_told, is_done, is_quiet, is_settled, is_still, sent_in, text_of};
+ghost use Rattle.loop_command.specs.Course.{has_skipped, has_told, is_done, is_quiet, is_settled, is_still, sent_in, skips_in, text_of};
 ghost use Rattle.loop_command.specs.Desk.{rules, shape};
 ghost use Rattle.loop_command.specs.Lines.{GoesAhead, Serves};
 ghost use Rattle.loop_command.specs.Looped.{IsLooped};
-ghost use Rattle.loop_command.specs.Rounds.{IsRun, IsSettled, IsSound, IsStill};
+ghost use Rattle.loop_command.specs.Rounds.{FinishFails, IsRun, IsSettled, IsSound, IsStill};
 ghost use Rattle.loop_command.specs.Sides.{SessionSide};
 ghost use Rattle.loop_command.specs.declared.stop.Stop.TheVariants.{Memory};
 
@@ -101,6 +102,35 @@ fn has_told(run: &Run) -> bool
     ensures { result ≡ has_told run.now }
 {
     are_told(run.port.journal(0), run.told)
+}
+
+// Whether a reply tells a player that the stream's window has gone past its place.
+fn is_skip(reply: &Reply) -> bool
+    ensures { result ≡ is_skip reply.now }
+{
+    matches!(reply, Reply::Skip { from: _, to: _ })
+}
+
+// Whether one of a history does.
+fn are_skipped(history: &[(Entry, Reply)]) -> bool
+    ensures { result ≡ skips_in history.now }
+{
+    let mut left = history;
+    while let [(_, reply), rest @ ..] = left {
+        if is_skip(reply) {
+            return true;
+        }
+        left = rest;
+    }
+    false
+}
+
+// Whether the player missed items of the stream.
+fn has_skipped(run: &Run) -> bool
+    requires { sole_rules run.now.port.rules ≡ rules }
+    ensures { result ≡ has_skipped run.now }
+{
+    are_skipped(run.port.journal(0))
 }
 
 // Whether the stream is over for the client that plays, the other has sent all, which its session has read,
@@ -229,17 +259,21 @@ fn count(port: &mut Sole) -> Result<(), Stop>
     }
 }
 
-/// Ends a run that is settled: the stream tells its counts, the sessions end, and the stream's history is
-/// looked through.
+/// Ends a run that is settled, unless the player missed items of the stream: the stream tells its counts, the
+/// sessions end, and the stream's history is looked through.
 pub(crate) fn finish(alloc: Global, run: &mut Run) -> Result<(), Stop>
     requires sound { IsSound run.old }
     requires settled { IsSettled run.old }
     ensures looped { (file : List ATag) (old now : Option (List ℕ)) → IsRun file run.old old now → OnOk result (IsLooped file (text_of run.old)) }
-    ensures err { IfErr result (λ stop. stop ≡ Memory) }
+    ensures unskipped { OnOk result (has_skipped run.old ≡ false) }
+    ensures err { IfErr result (λ stop. FinishFails stop run.old) }
 {
     push_bytes_law();
     pull_bytes_law();
     session_readable_law();
+    if has_skipped(run) {
+        return Err(Stop::Unfinished);
+    }
     count(&mut run.port)?;
     end_session(alloc, &mut run.push, &mut run.port)?;
     end_session(alloc, &mut run.pull, &mut run.port)?;

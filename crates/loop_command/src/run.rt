@@ -115,13 +115,13 @@ fn status_of(run: Result<(), Stop>) -> Status
 ///
 /// | Code | Comes | Written |
 /// |---|---|---|
-/// | 0 | the film came back: its units were pushed, and the player was told that the stream is over | the header, and the tags that the player was sent |
+/// | 0 | the film came back: its units were pushed, and the player missed none up to the stream's end | the header, and the tags that the player was sent |
 /// | 2 | exactly if the words are others; nothing is read | nothing |
 /// | 3 | only if the source's faults rose | nothing |
 /// | 4 | the film is refused at `place`: at that of [`flv_tags::FlvFail`], or at 2^28 if it has more bytes | nothing |
 /// | 5 | only if the sink's faults rose | a first part of the header and the tags that had come |
 /// | 6 | for want of memory | the same |
-/// | 9 | the run hasn't come to its end within 4,096 rounds and two for each byte of the film | the tags that came |
+/// | 9 | the run hasn't come to its end within 4,096 rounds and two for each byte of the film, or the player missed units | the tags that came |
 ///
 /// `place` is 0 but for code 4.
 pub fn loop_run<S: Source, K: Sink>(

@@ -22,13 +22,13 @@ use Rattle.client_command.specs.Gifts.{pull_text}
 use Rattle.client_command.specs.Runs.{most_message}
 use Rattle.client_turn_law.specs.Twins.{IsBegun, SameBy, Seen}
 use Rattle.client_turn_law.proofs.Alike.{begun_alike, told_alike}
-use Rattle.loop_command.specs.Course.{CameBack, CameNot, IsCourse, IsFirst, IsFirstLine, has_told, is_done, is_quiet, is_settled, is_still, rounds_of}
-use Rattle.loop_command.specs.Course.{sent_in, text_of}
+use Rattle.loop_command.specs.Course.{CameBack, CameNot, IsCourse, IsFirst, IsFirstLine, has_skipped, has_told, is_done, is_quiet, is_settled, is_still, rounds_of}
+use Rattle.loop_command.specs.Course.{sent_in, skips_in, text_of}
 use Rattle.loop_command.specs.Desk.{asked_by, granted, player, publisher}
 use Rattle.loop_command.specs.Films.{most_bytes}
 use Rattle.loop_command.specs.declared.line.Line.{Line}
 use Rattle.loop_command.specs.declared.rounds.Run.{Run}
-use Rattle.loop_law.specs.Ends.{ComesTo, SameEnd}
+use Rattle.loop_law.specs.Ends.{Back, BackSo, ComesTo, Coming, Not, SameEnd, Skipped}
 use Rattle.loop_law.proofs.Lines.{SameLine}
 use Rattle.loop_law.proofs.Rounds.{AreFew, SameRun, round_few, round_same}
 
@@ -155,6 +155,9 @@ told_same r s h =
     ap (λ (l : List Step). nat_le (sent_in l) s.told) (h.pull.session.port.journals 0)
     ∙ ap (λ (n : ℕ). nat_le (sent_in (journal_at r.port.books 0)) n) h.told
 
+skipped_same : (r s : Run) → SameRun r s → has_skipped s ≡ has_skipped r
+skipped_same r s h = ap skips_in (h.pull.session.port.journals 0)
+
 settled_same : (r s : Run) → SameRun r s → is_settled s ≡ is_settled r
 settled_same r s h = ap (λ (b : Bool). b && has_told s) (quiet_same r s h) ∙ ap (λ (b : Bool). is_quiet r && b) (told_same r s h)
 
@@ -239,14 +242,21 @@ module _ (tags : List Tag) (bytes : ℕ) (most : bytes ≤ most_bytes) where
           let t : true ≡ false = sym b.settled ∙ (sym (settled_same b.last x same) ∙ c.2) in
           absurd (cc)
 
-  both_back : (text text' : List ℕ) → CameBack tags bytes text → CameBack tags bytes text' → text' ≡ text
-  both_back text text' b c = elim (cases_lt (length b.states) (length c.states)) [
+  both_last : (text text' : List ℕ) (b : CameBack tags bytes text) (c : CameBack tags bytes text') → SameRun b.last c.last
+  both_last text text' b c = elim (cases_lt (length b.states) (length c.states)) [
     | inl less ↦ absurd (back_not_on text b c.first c.before c.states c.fresh c.course less)
     | inr le ↦ elim (cases_lt (length c.states) (length b.states)) [
       | inl more ↦ absurd (back_not_on text' c b.first b.before b.states b.fresh b.course more)
-      | inr same ↦ c.text_is ∙ (text_same b.last c.last (backs_same text text' b c (omega (arith, le, same))) ∙ sym b.text_is)
+      | inr same ↦ backs_same text text' b c (omega (arith, le, same))
     ]
   ]
+
+  both_back : (text text' : List ℕ) → CameBack tags bytes text → CameBack tags bytes text' → text' ≡ text
+  both_back text text' b c = c.text_is ∙ (text_same b.last c.last (both_last text text' b c) ∙ sym b.text_is)
+
+  -- the player misses items in both, or in neither
+  never_both : (text text' : List ℕ) → BackSo false tags bytes text → BackSo true tags bytes text' → ⊥
+  never_both text text' b c = let t : true ≡ false = sym c.1 ∙ (skipped_same b.0.last c.0.last (both_last text text' b.0 c.0) ∙ b.1) in absurd (cc)
 
   back_and_not : (text text' : List ℕ) → CameBack tags bytes text → CameNot tags bytes text' → ⊥
   back_and_not text text' b c = back_not_on text b c.first c.last c.states c.fresh c.course (omega (arith, b.within, c.count))
@@ -259,8 +269,13 @@ module _ (tags : List Tag) (bytes : ℕ) (most : bytes ≤ most_bytes) where
       (first_few tags c.first c.fresh) b.course c.course (b.count ∙ sym c.count) (omega (arith, less)) in
       c.text_is ∙ (text_same b.last c.last same ∙ sym b.text_is)
 
-  pub ends_same : (back back' : Bool) (text text' : List ℕ) → ComesTo tags bytes back text → ComesTo tags bytes back' text' → SameEnd back text back' text'
-  ends_same true true text text' b c = record { back_same = refl; text_same = both_back text text' b c }
-  ends_same true false text text' b c = absurd (back_and_not text text' b c)
-  ends_same false true text text' b c = absurd (back_and_not text' text c b)
-  ends_same false false text text' b c = record { back_same = refl; text_same = both_not text text' b c }
+  pub ends_same : (back back' : Coming) (text text' : List ℕ) → ComesTo tags bytes back text → ComesTo tags bytes back' text' → SameEnd back text back' text'
+  ends_same Back Back text text' b c = record { back_same = refl; text_same = both_back text text' b.0 c.0 }
+  ends_same Back Skipped text text' b c = absurd (never_both text text' b c)
+  ends_same Back Not text text' b c = absurd (back_and_not text text' b.0 c)
+  ends_same Skipped Back text text' b c = absurd (never_both text' text c b)
+  ends_same Skipped Skipped text text' b c = record { back_same = refl; text_same = both_back text text' b.0 c.0 }
+  ends_same Skipped Not text text' b c = absurd (back_and_not text text' b.0 c)
+  ends_same Not Back text text' b c = absurd (back_and_not text' text c.0 b)
+  ends_same Not Skipped text text' b c = absurd (back_and_not text' text c.0 b)
+  ends_same Not Not text text' b c = record { back_same = refl; text_same = both_not text text' b c }

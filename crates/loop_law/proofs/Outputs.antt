@@ -1,5 +1,5 @@
 -- Two commands on one film
-use Rattle.std.proofs.Common.{inl, inr, ◌⊎◌, ◌≡◌, ◌≢◌, ◌≤◌, ◌++◌, ℕ, Bool, true, false, List, [], length, Option, Some, None, refl, sym, ap, ◌∙◌, subst}
+use Rattle.std.proofs.Common.{inl, inr, ◌⊎◌, ◌≡◌, ◌≢◌, ◌≤◌, ◌++◌, ℕ, List, [], length, Option, Some, None, refl, sym, ap, ◌∙◌, subst}
 use Rattle.std.proofs.Common.{arith, append-nil, append_assoc, length-append}
 use Rattle.std.specs.Io.KnownBytes.{IsAtEnd, append_known, prepend_known}
 use Rattle.std.specs.Option.{unwrap_or}
@@ -17,7 +17,7 @@ use Rattle.client_command.specs.Film.{IsRefusedAt}
 use Rattle.client_command.proofs.Writing.{append_known_nil}
 use Rattle.loop_command.specs.Films.{IsLong, IsRefused, WasWhole, most_bytes}
 use Rattle.loop_command.specs.Outcome.{BySink, BySource, ByFilm, ByMemory, ByRounds, Ends, How, Outcome, Whole, status_at, status_of}
-use Rattle.loop_law.specs.Ends.{ComesTo, SameEnd, SameOutput, WasDecided}
+use Rattle.loop_law.specs.Ends.{Back, ComesTo, Coming, Not, SameEnd, SameOutput, Skipped, WasDecided}
 use Rattle.loop_law.proofs.Courses.{ends_same}
 
 -- ---- a film that is read whole isn't refused
@@ -50,13 +50,14 @@ module _ (film : List ℕ) (tags : List Tag) (file : IsFile film tags) (short : 
 
 -- ---- what a command came to
 
-abbrev how_by : Bool → How
-how_by true = Whole
-how_by false = ByRounds
+abbrev how_by : Coming → How
+how_by Back = Whole
+how_by Skipped = ByRounds
+how_by Not = ByRounds
 
 -- it ran the film
 record Ran (film : List ℕ) (old new : Seen) (status : Status) : Type 0 where
-  pub back : Bool
+  pub back : Coming
   pub tags : List Tag
   pub text : List ℕ
   pub file : IsFile film tags
@@ -92,7 +93,7 @@ module _ (film : List ℕ) (old new : Seen) (status : Status) (e : old.left ≡ 
   abbrev Came : Type 0
   Came = Comes film old new status
 
-  ran_so : (back : Bool) (tags : List Tag) (text : List ℕ) (w : WasWhole tags old new) → ComesTo tags (length w.read) back text
+  ran_so : (back : Coming) (tags : List Tag) (text : List ℕ) (w : WasWhole tags old new) → ComesTo tags (length w.read) back text
       → new.held ≡ append_known old.held text → status ≡ status_of (how_by back) → Came
   ran_so back tags text w c h s =
       let is : w.read ≡ film = read_all film w.read new.left (sym e ∙ w.was_read) w.whole.at_end in
@@ -113,8 +114,9 @@ module _ (film : List ℕ) (old new : Seen) (status : Status) (e : old.left ≡ 
   other_code n place s (inr (inr z)) f g h = h (sym (ap (λ (x : Status). x.code) s) ∙ z)
 
   came_by : (how : How) → status ≡ status_of how → Ends how old new → WasDecided status → Came
-  came_by Whole s x d = ran_so true x.tags x.text x.film x.back x.held s
-  came_by ByRounds s x d = ran_so false x.tags x.text x.film x.back x.held s
+  came_by Whole s x d = ran_so Back x.tags x.text x.film (x.back, x.unskipped) x.held s
+  came_by ByRounds s (inl x) d = ran_so Not x.tags x.text x.film x.back x.held s
+  came_by ByRounds s (inr x) d = ran_so Skipped x.tags x.text x.film (x.back, x.skipped) x.held s
   came_by (ByFilm at) s x d =
       let some = some_of film x.0.read new.left (sym e ∙ x.0.was_read) in
       inr (record {
@@ -147,7 +149,7 @@ module _ (film : List ℕ) (old new old' new' : Seen) (status status' : Status) 
       let same : SameEnd a.back a.text b.back b.text =
       ends_same a.tags (length film) a.short a.back b.back a.text b.text a.comes
       (subst (λ (l : List Tag). ComesTo l (length film) b.back b.text) tags b.comes) in
-      let is : status' ≡ status = b.status_is ∙ (ap (λ (x : Bool). status_of (how_by x)) same.back_same ∙ sym a.status_is) in
+      let is : status' ≡ status = b.status_is ∙ (ap (λ (x : Coming). status_of (how_by x)) same.back_same ∙ sym a.status_is) in
       record {
         code_same = ap code_of is;
         place_same = λ n. ap (λ (x : Status). x.place) is;

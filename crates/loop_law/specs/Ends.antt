@@ -4,16 +4,26 @@ use Rattle.std.specs.Io.KnownBytes.{append_known}
 use Rattle.relay_base.specs.declared.limits.Status.{Status}
 use Rattle.file_commands.specs.Outcome.{Seen}
 use Rattle.flv_tags.specs.declared.tag.Tag.{Tag}
-use Rattle.loop_command.specs.Course.{CameBack, CameNot}
+use Rattle.loop_command.specs.Course.{CameBack, CameNot, has_skipped}
 
--- a run of the film of these tags, which has so many bytes: whether it has come back within its rounds, and
--- the text that came
-abbrev pub ComesTo : List Tag → ℕ → Bool → List ℕ → Type 0
-ComesTo tags bytes true text = CameBack tags bytes text
-ComesTo tags bytes false text = CameNot tags bytes text
+-- the film has come back within its rounds, it has but the player missed items of it, or it hasn't
+pub data Coming : Type 0 where
+  Back : Coming
+  Skipped : Coming
+  Not : Coming
+
+-- it has come back, and whether the player missed items is known
+abbrev pub BackSo : Bool → List Tag → ℕ → List ℕ → Type 0
+BackSo skipped tags bytes text = (b : CameBack tags bytes text) × (has_skipped b.last ≡ skipped)
+
+-- a run of the film of these tags, which has so many bytes: whether it has come back, and the text that came
+abbrev pub ComesTo : List Tag → ℕ → Coming → List ℕ → Type 0
+ComesTo tags bytes Back text = BackSo false tags bytes text
+ComesTo tags bytes Skipped text = BackSo true tags bytes text
+ComesTo tags bytes Not text = CameNot tags bytes text
 
 -- TWO RUNS CAME TO THE SAME
-pub record SameEnd (back : Bool) (text : List ℕ) (back' : Bool) (text' : List ℕ) : Type 0 where
+pub record SameEnd (back : Coming) (text : List ℕ) (back' : Coming) (text' : List ℕ) : Type 0 where
   pub back_same : back' ≡ back
   pub text_same : text' ≡ text
 

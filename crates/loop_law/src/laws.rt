@@ -1,15 +1,16 @@
-ghost use Rattle.std.specs.Prelude.{◌≡◌, ◌≤◌, Bool, List, Some, ℕ};
+ghost use Rattle.std.specs.Prelude.{◌≡◌, ◌≤◌, List, Some, ℕ};
 ghost use Rattle.relay_base.specs.declared.limits.Status.{Status};
 ghost use Rattle.file_commands.specs.Outcome.{Seen};
 ghost use Rattle.flv_tags.specs.declared.tag.Tag.{Tag};
 ghost use Rattle.loop_command.specs.Films.{most_bytes};
 ghost use Rattle.loop_command.specs.Outcome.{Outcome};
-ghost use Rattle.loop_law.specs.Ends.{ComesTo, SameEnd, SameOutput, WasDecided};
+ghost use Rattle.loop_law.specs.Ends.{ComesTo, Coming, SameEnd, SameOutput, WasDecided};
 
 /// Two runs of one film, of no more bytes than may be read, come to the same: both have come back with the
-/// same text, or neither has, and the text that came is the same.
+/// same text, or neither has, and the text that came is the same. If the player missed items of the one it
+/// did of the other.
 pub fn two_runs_of_a_film_come_to_the_same()
-    ensures { (tags : List Tag) (bytes : ℕ) (back back' : Bool) (text text' : List ℕ) → bytes ≤ most_bytes → ComesTo tags bytes back text
+    ensures { (tags : List Tag) (bytes : ℕ) (back back' : Coming) (text text' : List ℕ) → bytes ≤ most_bytes → ComesTo tags bytes back text
         → ComesTo tags bytes back' text' → SameEnd back text back' text' }
 {}
 

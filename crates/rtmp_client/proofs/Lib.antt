@@ -16,3 +16,4 @@ pub mod Turning
 pub mod Causing
 pub mod Turned
 pub mod Lasting
+pub mod Ending

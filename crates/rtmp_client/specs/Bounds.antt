@@ -1,5 +1,5 @@
 -- What bounds the bytes that a client holds
-use Rattle.std.specs.Prelude.{◌≡◌, ℕ, ◌+◌, ◌-◌, ◌*◌, ◌≤◌, nat_lt, Bool, true, false, if◌then◌else◌, List, length, Option, Some, None, is_some}
+use Rattle.std.specs.Prelude.{◌≡◌, ℕ, ◌+◌, ◌-◌, ◌*◌, ◌≤◌, nat_lt, Bool, true, false, if◌then◌else◌, List, [], length, Option, Some, None, is_some}
 use Rattle.ack_window.specs.Inbound.{InWindow, room_of}
 use Rattle.chunk_reader.specs.Feeds.{IsHeld}
 use Rattle.chunk_reader.specs.ReaderKnown.{ReaderKnown}
@@ -9,6 +9,7 @@ use Rattle.client_owed.specs.declared.types.Gift.TheVariants as gift
 use Rattle.client_owed.specs.declared.types.Wish.{Wish}
 use Rattle.client_owed.specs.declared.types.Wish.TheVariants as wish
 use Rattle.rtmp_client.specs.declared.core_fields.Core.{Core}
+use Rattle.rtmp_client.specs.declared.end.ClientEnd.{ClientEnd}
 
 -- the bytes of the tag that a gift is
 abbrev pub gift_bytes : Option Gift → ℕ
@@ -57,6 +58,11 @@ pub record IsSmall (c : Core) : Type 0 where
 pub record IsParts (k : ReaderKnown) (n : ℕ) : Type 0 where
   pub lives : is_some k.failed ≡ false → IsHeld k n
   pub failed : is_some k.failed ≡ true → n ≡ 0
+
+-- OF ITS INPUT it keeps at most 4,096 bytes that it wasn't fed, and none where it has ended
+abbrev pub IsInput : Option ClientEnd → List ℕ → Type 0
+IsInput None input = length input ≤ 4096
+IsInput (Some e) input = input ≡ []
 
 pub record Held : Type 0 where
   -- received and not fed

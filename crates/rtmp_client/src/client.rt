@@ -3,7 +3,7 @@ ghost use Rattle.client_owed.specs.declared.types.Given.TheVariants as given;
 ghost use Rattle.client_owed.specs.declared.types.Wish.TheVariants.{Push};
 ghost use Rattle.client_owed.specs.Standing.{gave_more, new_keeps, new_past, with_given};
 ghost use Rattle.flv_tags.specs.Layout.{is_kind};
-ghost use Rattle.rtmp_client.specs.Bounds.{IsHolding, IsWithin};
+ghost use Rattle.rtmp_client.specs.Bounds.{IsHolding, IsInput, IsWithin};
 ghost use Rattle.rtmp_client.specs.Causes.{Did, MayBe};
 ghost use Rattle.rtmp_client.specs.ClientState.{StandsFor, TurnMade, has_started, lasting_of, life_of, untouched_of, without_gift};
 ghost use Rattle.rtmp_client.specs.Keeping.{keeps_of, past_of};
@@ -36,13 +36,14 @@ pub struct Client {
 }
 
 impl Model for Client {
+    ghost use Rattle.rtmp_client.specs.Bounds.{IsInput};
     ghost use Rattle.rtmp_client.specs.ClientState.{ClientState, IsClient};
 
     ghost Value = { ClientState };
 
     ghost view = { λ s. record { parts = s.core; input = s.input; ended = s.ended } };
 
-    ghost invariant = { λ s. IsClient s.ended s.core };
+    ghost invariant = { λ s. IsClient s.ended s.core × IsInput s.ended s.input };
 }
 
 impl Client {
@@ -87,13 +88,14 @@ impl Client {
     }
 
     /// Takes one turn. It sends, ends if it was finished and all was sent, and takes input until a message is
-    /// complete and handled.
+    /// complete and handled. As it ends it lets go of its input.
     pub fn turn<L: Link>(&mut self, alloc: Global, link: &mut L) -> ClientTurn
         ensures turn { TurnMade (EndedBy L.hears L.says) self.old link.old result self.new link.new }
         ensures stands { StandsFor self.new }
         ensures lasts { lasting_of self.new.parts ≡ lasting_of self.old.parts }
         ensures did { Did result (life_of self.old) (life_of self.new) }
         ensures may_be { MayBe result (L.counts link.old) (L.counts link.new) (life_of self.new) }
+        ensures input { IsInput self.new.ended self.new.input }
     {
         turn_on(
             &mut self.core,
@@ -135,6 +137,7 @@ impl Client {
     pub fn held(&self) -> u64
         ensures holds { IsHolding self.now.parts self.now.input result }
         ensures most { IsWithin self.now.parts.reader.max result }
+        ensures input { IsInput self.now.ended self.now.input }
     {
         held_in(&self.core, &self.input)
     }

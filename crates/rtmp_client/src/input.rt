@@ -5,7 +5,8 @@ use av_unit::{Bytes, OutOfMemory};
 use std::alloc::Global;
 use std::marker::Model;
 
-/// The bytes that were received and not fed yet, at most 4,096. Contracts see their list.
+/// The bytes that were received and not fed yet, at most 4,096. Contracts see their list. If all were fed
+/// none are kept.
 #[derive(Drop)]
 pub(crate) struct Input {
     bytes: Bytes,
@@ -13,13 +14,13 @@ pub(crate) struct Input {
 }
 
 impl Model for Input {
-    ghost use Rattle.std.specs.Prelude.{◌≤◌, List, ℕ, length, drop};
+    ghost use Rattle.std.specs.Prelude.{◌≡◌, ◌≤◌, List, ℕ, length, drop};
 
     ghost Value = { List ℕ };
 
     ghost view = { λ i. drop i.offset i.bytes };
 
-    ghost invariant = { λ i. (i.offset ≤ length i.bytes) × (length i.bytes ≤ 4096) };
+    ghost invariant = { λ i. (i.offset ≤ length i.bytes) × (length i.bytes ≤ 4096) × (i.offset ≡ length i.bytes → i.offset ≡ 0) };
 }
 
 impl Input {
@@ -53,6 +54,14 @@ impl Input {
         &self.bytes.as_slice()[self.offset..]
     }
 
+    /// Drops all bytes that are left.
+    pub(crate) fn clear(&mut self, alloc: Global)
+        ensures { self.new ≡ [] }
+    {
+        self.bytes = Bytes::new(alloc);
+        self.offset = 0;
+    }
+
     /// Removes the first `count` bytes, which were fed. If none are left no memory is kept.
     pub(crate) fn used(&mut self, alloc: Global, count: usize)
         requires { count ≤ length self.old }
@@ -61,8 +70,7 @@ impl Input {
         if count < self.bytes.len() - self.offset {
             self.offset += count;
         } else {
-            self.bytes = Bytes::new(alloc);
-            self.offset = 0;
+            self.clear(alloc);
         }
     }
 }

@@ -1,7 +1,8 @@
 //! The steps of a turn, the last first. Each function does one step and those after it.
 ghost use Rattle.std.specs.Prelude.{◌≡◌, ◌≤◌, ◌||◌, not, [], length, take, true, false, None, Ok, Err};
+ghost use Rattle.rtmp_client.specs.Bounds.{IsInput};
 ghost use Rattle.rtmp_client.specs.ClientState.{IsClient, IsLiving, LivesOn, TurnMade, client_of};
-ghost use Rattle.rtmp_client.specs.Turns.{EndedBy, Fed, Finish, Input as FromInput, Sent, is_done as done_now, is_hungry as hungry_now, life};
+ghost use Rattle.rtmp_client.specs.Turns.{EndedBy, Fed, Finish, Input as FromInput, Sent, is_done as done_now, is_hungry as hungry_now, life, turn_of};
 
 use crate::input::{Input, is_empty};
 use crate::steps::note_sent;
@@ -139,7 +140,18 @@ pub(crate) fn send_on<L: Link>(
     }
 }
 
-/// Takes a turn of a client, which does nothing if it has ended.
+// Returns the answer of a turn of a client that lives on.
+fn answer_of(moved: bool) -> ClientTurn
+    ensures { result ≡ turn_of (Ok moved) }
+{
+    if moved {
+        ClientTurn::Moved
+    } else {
+        ClientTurn::Idle
+    }
+}
+
+/// Takes a turn of a client, which does nothing if it has ended. One that ends lets go of its input.
 pub(crate) fn turn_on<L: Link>(
     core: &mut Core,
     input: &mut Input,
@@ -147,16 +159,22 @@ pub(crate) fn turn_on<L: Link>(
     link: &mut L,
     alloc: Global,
 ) -> ClientTurn
-    requires { IsClient ended.old core.old }
+    requires client { IsClient ended.old core.old }
+    requires input { IsInput ended.old input.old }
     ensures client { IsClient ended.new core.new }
+    ensures input { IsInput ended.new input.new }
     ensures turn { TurnMade (EndedBy L.hears L.says) (client_of core.old input.old ended.old) link.old result (client_of core.new input.new ended.new) link.new }
 {
     match ended {
         Some(_) => ClientTurn::Ended,
         None => match send_on(core, input, link, alloc) {
-            Ok(true) => ClientTurn::Moved,
-            Ok(false) => ClientTurn::Idle,
+            Ok(moved) => {
+                // At most 4,096 bytes are left.
+                input.left();
+                answer_of(moved)
+            }
             Err(end) => {
+                input.clear(alloc);
                 *ended = Some(end);
                 ClientTurn::Ended
             }

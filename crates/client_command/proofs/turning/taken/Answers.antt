@@ -2,7 +2,7 @@ use Rattle.client_command.proofs.Telling.{live_without, runs_without, taken_fine
 use Rattle.client_command.proofs.turning.taken.Goals as goal
 
 pub returns-clause-live : goal.returns-clause-live
-returns-clause-live c = live_without c.args.client.now c.take.new.self c.take.ensures.left c.take.ensures.others.1 c.requires.live
+returns-clause-live c = live_without c.args.client.now c.take.new.self c.take.ensures.left c.take.ensures.others c.requires.live
 
 pub returns-clause-fine : goal.returns-clause-fine
 returns-clause-fine c = taken_fine c.messages_are_short.ensures c.args.client.now c.take.result c.take.ensures.gift c.requires.live

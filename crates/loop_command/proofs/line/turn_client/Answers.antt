@@ -8,7 +8,7 @@ returns-in_err-lives-clause-turned c =
     let t = c.turn-answer in
     let l = c.args.line.now in
     let x = client_stops e.field-0.0 l (record l { client = t.new.self; near = t.new.link }) t.new.self t.new.link t.result e.ensures t.ensures.turn
-    t.ensures.stands t.ensures.lasts in
+    t.ensures.stands t.ensures.lasts t.ensures.input in
     search (rules, x)
 
 pub returns-in_err-line-clause-turned : goal.returns-in_err-line-clause-turned
@@ -27,14 +27,14 @@ pub returns-clause-live : goal.returns-clause-live
 returns-clause-live c = λ l e.
     let t = c.turn-answer in
     turn_lives t.result c.in_ok-lives.lives c.args.line.now.client t.new.self c.args.line.now.near t.new.link t.ensures.turn t.ensures.stands
-    t.ensures.lasts c.in_ok-lives.ensures.0 e l
+    t.ensures.lasts t.ensures.input c.in_ok-lives.ensures.0 e l
 
 pub returns-clause-goes : goal.returns-clause-goes
 returns-clause-goes c = λ k r.
     let t = c.turn-answer in
     let v = c.in_ok-lives in
     client_goes v.lives k c.args.line.now.client t.new.self t.new.link c.pass.new.from c.args.line.now.far c.pass.new.to c.in_ok-line.ensures.passed
-    (turn_goes t.result v.lives k c.args.line.now.client t.new.self c.args.line.now.near t.new.link t.ensures.turn t.ensures.stands t.ensures.lasts
+    (turn_goes t.result v.lives k c.args.line.now.client t.new.self c.args.line.now.near t.new.link t.ensures.turn t.ensures.stands t.ensures.lasts t.ensures.input
     v.ensures.0 v.ensures.1 r)
 
 pub returns-clause-turned : goal.returns-clause-turned

@@ -8,7 +8,7 @@ returns-in-Ok g c = λ held.
     let t = c.run_all.new in
     whole_ends c.finish.result c.args.run.now t.run c.args.rounds held (K.holds c.args.out.now) (K.holds t.out) (K.faults c.args.out.now) (K.faults t.out)
     (λ file. e.ensures.goes file held) e.ensures.faults
-    (λ file. c.finish.ensures.looped file held (K.holds t.out)) c.finish.ensures.err
+    (λ file. c.finish.ensures.looped file held (K.holds t.out)) c.finish.ensures.unskipped c.finish.ensures.err
 
 pub returns-in-Err : goal.returns-in-Err
 returns-in-Err g c = λ held.

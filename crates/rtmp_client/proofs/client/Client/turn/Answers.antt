@@ -21,7 +21,7 @@ returns-clause-may_be g c =
     let i = c.self.inside in
     let t = c.turn_on in
     let new = client_of t.new.core t.new.input t.new.ended in
-    may_made L.hears L.says L.told L.counts g.met.L.Link.hears_mean g.met.L.Link.says_mean (client_of i.core i.input i.ended) new t.result c.args.link.now t.new.link (within_by i.ended i.core c.self.invariant) t.ensures.turn
+    may_made L.hears L.says L.told L.counts g.met.L.Link.hears_mean g.met.L.Link.says_mean (client_of i.core i.input i.ended) new t.result c.args.link.now t.new.link (within_by i.ended i.core c.self.invariant.0) t.ensures.turn
 
 pub returns-clause-lasts : goal.returns-clause-lasts
 returns-clause-lasts g c =
