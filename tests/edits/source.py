@@ -149,7 +149,7 @@ def end_of_function(lines, number, indent):
     has_body, depth = lines[number].endswith("{"), 0
     for at in range(number, len(lines)):
         line = lines[at]
-        if line == margin + "}" or (at == number and line.endswith("}")):
+        if line in (margin + "}", margin + "{}") or (at == number and line.endswith("}")):
             return at
         has_body = has_body or line == margin + "{" or (line.startswith(margin + ")") and line.endswith("{"))
         depth += sum(line.count(it) for it in "({[") - sum(line.count(it) for it in ")}]")
