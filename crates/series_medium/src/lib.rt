@@ -1,0 +1,13 @@
+//! Recordings as a series of files, one for each broadcast.
+//!
+//! A recorder writes frames, which say what bytes the open file gets and when it ends (`specs/Frames.antt`). A [`SeriesSink`] reads
+//! them and writes the files to a [`file_series::FileSeries`]. An [`FlvSeriesRecorder`] writes a file of FLV for each broadcast, a
+//! [`TsSeriesRecorder`] one of a transport stream.
+//!
+//! Read `laws::files_law` first. The broadcasts of items, and their files, are `specs/Broadcasts.antt`. The crate opens no file.
+#![tactic(auto)]
+
+mod part;
+mod sink;
+
+pub use sink::SeriesSink;
