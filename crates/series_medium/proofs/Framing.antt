@@ -36,7 +36,7 @@ reads_on s bytes more o is =
 
 -- ---- data
 
-data_left : (n : ℕ) → 0 < n → data_or_kind n ≡ Data n
+pub data_left : (n : ℕ) → 0 < n → data_or_kind n ≡ Data n
 data_left n some = grind (arith, nat_tests)
 
 took_more : (s : Series) (xs ys : List ℕ) → took ys (took xs s) ≡ took (xs ++ ys) s

@@ -1,15 +1,18 @@
 -- What the series of a sink tells, step by step
-use Rattle.std.proofs.Common.{◌≡◌, ◌⊎◌, inl, inr, ℕ, ◌+◌, ◌-◌, ◌<◌, ◌≤◌, zero, suc, min, List, [], ◌∷◌, ◌++◌, length, take, drop, slice_index, Option, Some, None, option_map, refl, sym, ap, ◌∙◌, subst, arith, append_assoc, append-nil}
+use Rattle.std.proofs.Common.{◌≡◌, ◌≢◌, ◌⊎◌, inl, inr, ℕ, ◌+◌, ◌-◌, ◌<◌, ◌≤◌, zero, suc, min, List, [], ◌∷◌, ◌++◌, length, take, drop, slice_index, Option, Some, None, option_map, refl, sym, ap, ◌∙◌, subst, arith, append_assoc, append-nil}
+use native.Mathlib.Numerals.{unary_clauses}
 use Rattle.std.proofs.lemmas.List.{take_more, drop-take, take-take, take-append-drop, length-take-le, length-drop, take_all}
-use Rattle.std.proofs.lemmas.Option.{same_Some}
+use Rattle.std.proofs.lemmas.Option.{none-some}
 use Rattle.file_series.specs.Series.{NextFails, PutsPart, Series, none_yet, took, after_next}
+use Rattle.relay_outside.specs.declared.sink.Put.{Put}
 use Rattle.file_series.specs.declared.series.SeriesFail.{SeriesFail}
+use Rattle.file_series.specs.declared.series.SeriesFail.TheVariants.{Failed, OutOfMemory}
 use Rattle.series_medium.specs.declared.part.Part.{Part}
 use Rattle.series_medium.specs.declared.part.Part.TheVariants.{Kind, Length1, Length2, Length3, Length4, Data}
 use Rattle.series_medium.specs.Reading.{IsDue, Reading, start, data_or_kind, behind, read, files_read, part_behind}
-use Rattle.series_medium.specs.Heads.{IsHeadOf, head_behind}
-use Rattle.series_medium.specs.Sinks.{IsSink, TellsAll, TellsPart}
-use Rattle.series_medium.proofs.Framing.{part_of, read-append, reads_on, read_data}
+use Rattle.series_medium.specs.Heads.{IsHeadOf, Leads, head_behind}
+use Rattle.series_medium.specs.Sinks.{Breaks, IsSink, SinkState, SinkTakes, Tells, TellsAll, TellsPart, put_of}
+use Rattle.series_medium.proofs.Framing.{data_left, part_of, read-append, reads_on, read_data}
 
 mapped : (f g : Series → Series) (o : Option Series) → ((s : Series) → f s ≡ g s) → option_map f o ≡ option_map g o
 mapped f g None same = refl
@@ -19,10 +22,21 @@ mapped_twice : (f g : Series → Series) (o : Option Series) → option_map f (o
 mapped_twice f g None = refl
 mapped_twice f g (Some s) = refl
 
+map_same : (o : Option Series) → option_map (λ s. s) o ≡ o
+map_same None = refl
+map_same (Some s) = refl
+
 -- a sink that has taken nothing
 pub fresh_sink : (o : Option Series) → IsSink o o [] Kind None []
 fresh_sink None = record { part_is = refl; due = tt; tells = refl }
 fresh_sink (Some s) = record { part_is = refl; due = tt; tells = refl }
+
+-- the head that was read
+pub head_read : (began now : Option Series) (bytes piece handed : List ℕ) (used : ℕ) (from part q : Part) (stopped : Option SeriesFail)
+    → IsSink began now bytes from stopped handed → used ≤ length piece → Leads from (take used piece) part → (IsDue from → IsDue part) → part ≡ q
+    → IsHeadOf bytes piece used q
+head_read began now bytes piece handed used from part q stopped sink within leads due is =
+    rw (← is) (record { from = from; from_is = sink.part_is; within = within; leads = leads; due = due sink.due })
 
 module _ (bytes piece : List ℕ) (used : ℕ) (part : Part) (h : IsHeadOf bytes piece used part) where
   -- what is read of more bytes than the head's
@@ -56,7 +70,117 @@ module _ (bytes piece : List ℕ) (used : ℕ) (part : Part) (h : IsHeadOf bytes
   pub head_taken : (began now : Option Series) (handed : List ℕ) → TellsAll began bytes now → IsSink began now (bytes ++ take used piece) part None handed
   head_taken began now handed told =
       sink_by began now now handed used [] part (λ s. s) (sym (append-nil (take used piece))) (λ s. refl) h.due told (sym (map_same now))
+
+-- while nothing failed
+pub tells_all : (began now : Option Series) (bytes handed : List ℕ) (part : Part) (stopped : Option SeriesFail) → stopped ≡ None
+    → IsSink began now bytes part stopped handed → TellsAll began bytes now
+tells_all began now bytes handed part stopped works sink = subst (λ (o : Option SeriesFail). Tells o began bytes handed now) works sink.tells
+
+-- a sink that has come so far, as its fields say it
+pub sink_as : (began now : Option Series) (bytes bytes' handed : List ℕ) (part : Part) (stopped : Option SeriesFail) → stopped ≡ None → bytes' ≡ bytes
+    → IsSink began now bytes part None handed → IsSink began now bytes' part stopped handed
+sink_as began now bytes bytes' handed part stopped works is sink = rw (works, is) sink
+
+-- ---- takes of a list
+
+take_on : {X : Type 0} (n m : ℕ) (xs : List X) → take (n + m) xs ≡ take n xs ++ take m (drop n xs)
+take_on n m xs =
+    sym (take-append-drop n (take (n + m) xs))
+    ∙ ap (λ (l : List _). l ++ drop n (take (n + m) xs)) (take-take n (n + m) xs (omega arith))
+    ∙ ap (λ (l : List _). take n xs ++ l) (drop-take n m xs)
+
+-- the first of the first are the first
+take_first : {X : Type 0} (n m : ℕ) (xs : List X) → take n (take m xs) ≡ take (min n m) xs
+take_first zero m xs = simp unary_clauses refl
+take_first (suc n) zero xs = simp unary_clauses refl
+take_first (suc n) (suc m) [] = simp unary_clauses refl
+take_first (suc n) (suc m) (x ∷ xs) = simp unary_clauses (ap (λ (l : List _). x ∷ l) (take_first n m xs))
+
+kind_due : (n : ℕ) → IsDue (data_or_kind n)
+kind_due zero = tt
+kind_due (suc n) = subst IsDue (sym (data_left (suc n) (omega arith))) (omega arith)
+
+-- nothing is told but what was
+same_part : (began old now : Option Series) (bytes piece : List ℕ) → TellsAll began bytes old → now ≡ old → TellsPart began bytes piece now
+same_part began old now bytes piece told same = record {
+  more = 0;
+  tells = inl (same ∙ (told ∙ mapped (files_read bytes) (files_read (bytes ++ [])) began (λ s. ap (λ (l : List ℕ). files_read l s) (sym (append-nil bytes)))));
+}
+
+module _ (bytes piece : List ℕ) (used : ℕ) where
+  -- data is there behind the head
+  pub data_taken : (left count : ℕ) (began old new : Option Series) (handed : List ℕ) → IsHeadOf bytes piece used (Data left) → 0 < count → count ≤ left
+      → count ≤ length piece - used → TellsAll began bytes old → new ≡ option_map (took (take count (drop used piece))) old
+      → IsSink began new (bytes ++ take (used + count) piece) (data_or_kind (left - count)) None handed
+  data_taken left count began old new handed h some fits there told does =
+      let bits = take count (drop used piece) in
+      let size : length bits ≡ count = length-take-le count (drop used piece) (omega (arith, length-drop used piece, there)) in
+      let reads : (s : Series) → read (record { part = Some (Data left); series = s }) bits ≡ record { part = Some (data_or_kind (left - count)); series = took bits s }
+          = λ s. read_data left s bits (omega (arith, size, some)) (omega (arith, size, fits))
+              ∙ ap (λ (n : ℕ). record { part = Some (data_or_kind (left - n)); series = took bits s }) size in
+      sink_by bytes piece used (Data left) h began old new handed (used + count) bits (data_or_kind (left - count)) (took bits) (take_on used count piece) reads
+      (kind_due (left - count)) told does
+
+  -- the file ends behind the head
+  pub end_taken : (began old new : Option Series) (handed : List ℕ) → IsHeadOf bytes piece used Kind → used < length piece → slice_index piece used ≡ 1
+      → TellsAll began bytes old → new ≡ option_map (after_next None) old → IsSink began new (bytes ++ take (used + 1) piece) Kind None handed
+  end_taken began old new handed h there one told does =
+      let whole : take (used + 1) piece ≡ take used piece ++ 1 ∷ [] = take_more piece used 0 there ∙ ap (λ (b : ℕ). take used piece ++ b ∷ []) one in
+      sink_by bytes piece used Kind h began old new handed (used + 1) (1 ∷ []) Kind (after_next None) whole (λ s. refl) tt told does
+
+  -- some first bytes of the data that is there are added, perhaps none
+  data_part : (left count n : ℕ) (began old now : Option Series) → IsHeadOf bytes piece used (Data left) → count ≤ left → count ≤ length piece - used
+      → TellsAll began bytes old → now ≡ option_map (took (take n (take count (drop used piece)))) old → TellsPart began bytes piece now
+  data_part left count n began old now h fits there told does =
+      let first : take n (take count (drop used piece)) ≡ take (min n count) (drop used piece) = take_first n count (drop used piece) in
+      part_by (min n count) (omega arith) (does ∙ ap (λ (l : List ℕ). option_map (took l) old) first)
     where
-      map_same : (o : Option Series) → option_map (λ s. s) o ≡ o
-      map_same None = refl
-      map_same (Some s) = refl
+      part_by : (k : ℕ) → k ≤ count → now ≡ option_map (took (take k (drop used piece))) old → TellsPart began bytes piece now
+      part_by zero few is = record {
+        more = 0;
+        tells = inr (is ∙ ap (λ (o : Option Series). option_map (took []) o) (told ∙ mapped (files_read bytes) (files_read (bytes ++ [])) began (λ s. ap (λ (l : List ℕ). files_read l s) (sym (append-nil bytes)))));
+      }
+      part_by (suc k) few is = record {
+        more = used + suc k;
+        tells = inl (data_taken left (suc k) began old now [] h (omega arith) (omega (arith, few, fits)) (omega (arith, few, there)) told is).tells;
+      }
+
+  pub data_fails : (left count : ℕ) (began old now : Option Series) → IsHeadOf bytes piece used (Data left) → count ≤ left → count ≤ length piece - used
+      → TellsAll began bytes old → PutsPart (take count (drop used piece)) old now → TellsPart began bytes piece now
+  data_fails left count began old now h fits there told (inl same) = same_part began old now bytes piece told same
+  data_fails left count began old now h fits there told (inr part) = data_part left count part.0 began old now h fits there told part.1
+
+  pub end_fails : (began old now : Option Series) → IsHeadOf bytes piece used Kind → used < length piece → slice_index piece used ≡ 1
+      → TellsAll began bytes old → NextFails old now → TellsPart began bytes piece now
+  end_fails began old now h there one told (inl same) = same_part began old now bytes piece told same
+  end_fails began old now h there one told (inr ended) = record {
+    more = used + 1;
+    tells = inl (end_taken began old now [] h there one told ended).tells;
+  }
+
+-- a byte that no frame has there
+first_of : (piece : List ℕ) → 0 < length piece → take 1 piece ≡ slice_index piece 0 ∷ []
+first_of [] some = absurd (omega (arith, some))
+first_of (b ∷ bs) some = refl
+
+pub no_frame : (bytes piece : List ℕ) (part : Part) → IsHeadOf bytes piece 0 part → 0 < length piece → behind part (slice_index piece 0) ≡ None
+    → part_behind (bytes ++ take 1 piece) ≡ None
+no_frame bytes piece part h some none =
+    ap (λ (r : Reading). r.part) (past_first bytes piece 0 part h none_yet 1 (slice_index piece 0 ∷ []) (first_of piece some)) ∙ none
+
+-- where no head goes on and no file ends, no frame has the byte
+pub kind_ends : (byte : ℕ) → head_behind Kind byte ≡ None → byte ≢ 1 → behind Kind byte ≡ None
+kind_ends zero none other = absurd (none-some Length1 (sym none))
+kind_ends (suc zero) none other = absurd (other refl)
+kind_ends (suc (suc n)) none other = refl
+
+-- the series failed
+pub sink_broken : (began old now : Option Series) (bytes piece handed handed' : List ℕ) (part : Part) (stopped : Option SeriesFail) (fail : SeriesFail)
+    → IsSink began old bytes part stopped handed → TellsPart began bytes piece now → handed' ≡ piece → IsSink began now bytes part (Some fail) handed'
+sink_broken began old now bytes piece handed handed' part stopped fail sink tells is =
+    rw is (record { part_is = sink.part_is; due = sink.due; tells = tells })
+
+pub breaks : {F : Type 0} (told : F → Option Series) (faults : F → ℕ) (fail : SeriesFail) (s : SinkState F) (piece : List ℕ) (answer : Put) (t : SinkState F)
+    → answer ≡ put_of fail → Breaks told faults fail s piece t → SinkTakes told faults s piece answer t
+breaks told faults Failed s piece answer t is b = rw is (inl b)
+breaks told faults OutOfMemory s piece answer t is b = rw is (inl b)

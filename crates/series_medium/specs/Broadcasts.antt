@@ -3,14 +3,10 @@ use Rattle.std.specs.Prelude.{ℕ, List, [], ◌∷◌, ◌++◌, map, fold, fla
 use Rattle.av_unit.specs.declared.item.Item.{Item}
 use Rattle.av_unit.specs.declared.item.Item.TheVariants.{Begin, Unit as AUnit, End}
 use Rattle.flv_tags.specs.Text.{flv_text, item_bytes}
-use Rattle.ts_writer.specs.Text.{ts_text}
-use Rattle.std.specs.Prelude.{reverse}
+use Rattle.media_recorder.specs.Transport.{recorded_text}
 use Rattle.file_series.specs.Series.{Ended, Series}
 
 -- the broadcasts that are over, and the items of the one that goes on
-abbrev recorded_text : List Item → List ℕ
-recorded_text items = ts_text (reverse items)
-
 pub record Broadcasts : Type 0 where
   pub over : List (List Item)
   pub now : List Item

@@ -1,5 +1,6 @@
 //! A sink that reads frames.
-ghost use Rattle.std.specs.Prelude.{◌≡◌, ◌<◌, [], length, slice_index, None, Some, Result};
+ghost use Rattle.std.specs.Prelude.{◌≡◌, ◌≤◌, ◌<◌, ◌-◌, [], length, slice_index, None, Some, Result};
+ghost use Rattle.relay_outside.specs.Counts.{risen};
 ghost use Rattle.file_series.specs.declared.series.SeriesFail.{SeriesFail};
 ghost use Rattle.series_medium.specs.declared.part.Part.TheVariants.{Kind, Data};
 ghost use Rattle.series_medium.specs.Heads.{IsHeadOf, head_behind};
@@ -49,12 +50,19 @@ fn put_of(fail: SeriesFail) -> Put
     }
 }
 
+// One more, up to the last value of a u64.
+fn risen(count: u64) -> u64
+    ensures { result ≡ risen count }
+{
+    count.saturating_add(1)
+}
+
 // The puts that failed without a call of the series, with one more that answers this failure again.
 fn refused_again(fail: SeriesFail, refused: u64) -> u64
     ensures { result ≡ refused_again fail refused }
 {
     match fail {
-        SeriesFail::Failed => refused.saturating_add(1),
+        SeriesFail::Failed => risen(refused),
         SeriesFail::OutOfMemory => refused,
     }
 }
@@ -66,6 +74,16 @@ fn history(bytes: &[u8]) -> Flow<u8>
     let mut flow = Flow::new();
     flow.add_all(bytes);
     flow
+}
+
+// The number of bytes of data behind the head, of which at most so many are left.
+fn data_there(piece: &[u8], used: usize, left: u32) -> usize
+    requires { used ≤ length piece.now }
+    ensures within { result ≤ length piece.now - used }
+    ensures fits { result ≤ left }
+    ensures some { used < length piece.now → 0 < left → 0 < result }
+{
+    (piece.len() - used).min(left as usize)
 }
 
 impl<F: FileSeries> SeriesSink<F> {
@@ -139,7 +157,7 @@ impl<F: FileSeries> SeriesSink<F> {
         ensures { SinkTakes F.told F.faults self.old piece.now result self.new }
     {
         if used == 0 {
-            self.refused = self.refused.saturating_add(1);
+            self.refused = risen(self.refused);
             return Put::Failed;
         }
         self.taken.add_all(&piece[..used]);
@@ -154,12 +172,12 @@ impl<F: FileSeries> SeriesSink<F> {
         requires works { self.old.stopped ≡ None }
         ensures { SinkTakes F.told F.faults self.old piece.now result self.new }
     {
-        let data = &piece[used..];
-        if data.is_empty() {
+        if used == piece.len() {
             return self.take_head(piece, used, Part::Data { left });
         }
-        let count = data.len().min(left as usize);
-        match self.series.put(&data[..count]) {
+        let count = data_there(piece, used, left);
+        let behind = &piece[used..];
+        match self.series.put(&behind[..count]) {
             Ok(()) => {
                 self.taken.add_all(&piece[..used + count]);
                 self.part = data_or_kind(left - count as u32);
@@ -196,6 +214,7 @@ impl<F: FileSeries> SeriesSink<F> {
     }
 
     // Takes the head of a frame and what follows it, where the head ends at a kind.
+    #[tactic(auto, using(crate::proofs::Sinking::kind_ends))]
     fn take_kind(&mut self, piece: &[u8], used: usize) -> Put
         requires head { IsHeadOf self.old.bytes piece.now used Kind }
         requires ends { used < length piece.now → head_behind Kind (slice_index piece.now used) ≡ None }
