@@ -3,6 +3,9 @@ pub mod Reading
 pub mod Heads
 pub mod Broadcasts
 pub mod Text
+pub mod Growing
 pub mod Parts
 pub mod Sinks
 pub mod Meaning
+pub mod Writers
+pub mod GoesOn

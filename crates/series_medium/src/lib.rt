@@ -7,7 +7,11 @@
 //! Read `laws::files_law` first. The broadcasts of items, and their files, are `specs/Broadcasts.antt`. The crate opens no file.
 #![tactic(auto)]
 
+mod laws;
+mod medium;
 mod part;
 mod sink;
+mod writer;
 
+pub use laws::{files_law, frames_law, parts_law};
 pub use sink::SeriesSink;
