@@ -51,8 +51,8 @@ read_data left s [] some fits = absurd (omega (arith, some))
 read_data left s (b ∷ []) some fits = refl
 read_data left s (b ∷ c ∷ cs) some fits =
     let go : read (record { part = Some (data_or_kind (left - 1)); series = took (b ∷ []) s }) (c ∷ cs)
-        ≡ read (record { part = Some (Data (left - 1)); series = took (b ∷ []) s }) (c ∷ cs)
-        = ap (λ (p : Part). read (record { part = Some p; series = took (b ∷ []) s }) (c ∷ cs)) (data_left (left - 1) (omega (arith, fits))) in
+    ≡ read (record { part = Some (Data (left - 1)); series = took (b ∷ []) s }) (c ∷ cs)
+    = ap (λ (p : Part). read (record { part = Some p; series = took (b ∷ []) s }) (c ∷ cs)) (data_left (left - 1) (omega (arith, fits))) in
     let ih = read_data (left - 1) (took (b ∷ []) s) (c ∷ cs) (omega arith) (omega (arith, fits)) in
     let less : left - 1 - length (c ∷ cs) ≡ left - length (b ∷ c ∷ cs) = omega (arith, fits) in
     go ∙ ih

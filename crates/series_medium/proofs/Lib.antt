@@ -5,3 +5,6 @@ pub mod Filing
 pub mod Parting
 pub mod Growths
 pub mod Writing
+pub mod Adding
+pub mod FlvGrown
+pub mod TsGrown

@@ -57,7 +57,7 @@ module _ (bytes piece : List ℕ) (used : ℕ) (part : Part) (h : IsHeadOf bytes
       → TellsAll began bytes old → new ≡ option_map f old → IsSink began new (bytes ++ take n piece) q None handed
   sink_by began old new handed n more q f is reads due told does =
       let all : (s : Series) → read (start s) (bytes ++ take n piece) ≡ record { part = Some q; series = f (files_read bytes s) }
-          = λ s. past_first s n more is ∙ reads (files_read bytes s) in
+      = λ s. past_first s n more is ∙ reads (files_read bytes s) in
       let files : (s : Series) → f (files_read bytes s) ≡ files_read (bytes ++ take n piece) s = λ s. sym (ap (λ (r : Reading). r.series) (all s)) in
       record {
         part_is = ap (λ (r : Reading). r.part) (all none_yet);
@@ -116,8 +116,8 @@ module _ (bytes piece : List ℕ) (used : ℕ) where
       let bits = take count (drop used piece) in
       let size : length bits ≡ count = length-take-le count (drop used piece) (omega (arith, length-drop used piece, there)) in
       let reads : (s : Series) → read (record { part = Some (Data left); series = s }) bits ≡ record { part = Some (data_or_kind (left - count)); series = took bits s }
-          = λ s. read_data left s bits (omega (arith, size, some)) (omega (arith, size, fits))
-              ∙ ap (λ (n : ℕ). record { part = Some (data_or_kind (left - n)); series = took bits s }) size in
+      = λ s. read_data left s bits (omega (arith, size, some)) (omega (arith, size, fits))
+      ∙ ap (λ (n : ℕ). record { part = Some (data_or_kind (left - n)); series = took bits s }) size in
       sink_by bytes piece used (Data left) h began old new handed (used + count) bits (data_or_kind (left - count)) (took bits) (take_on used count piece) reads
       (kind_due (left - count)) told does
 

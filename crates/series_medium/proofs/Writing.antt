@@ -21,7 +21,7 @@ pub closed : (old : List ℕ) (at size : ℕ) → slice_index old at ≡ 0 → a
 closed old at size kind there is some small =
     let n : length (drop (at + 5) old) ≡ size = omega (arith, length-drop (at + 5) old, is) in
     let text : data_text (drop (at + 5) old) ≡ 0 ∷ (size_bytes size ++ drop (at + 5) old)
-        = data_is (drop (at + 5) old) (omega (arith, n, some)) (omega (arith, n, small)) ∙ ap (λ (m : ℕ). 0 ∷ (size_bytes m ++ drop (at + 5) old)) n in
+    = data_is (drop (at + 5) old) (omega (arith, n, some)) (omega (arith, n, small)) ∙ ap (λ (m : ℕ). 0 ∷ (size_bytes m ++ drop (at + 5) old)) n in
     let first : take (at + 1) old ≡ take at old ++ 0 ∷ [] = take_more old at 0 (omega (arith, there)) ∙ ap (λ (b : ℕ). take at old ++ b ∷ []) kind in
     ap (λ (l : List ℕ). l ++ (size_bytes size ++ drop (at + 5) old)) first
     ∙ append_assoc (take at old) (0 ∷ []) (size_bytes size ++ drop (at + 5) old)

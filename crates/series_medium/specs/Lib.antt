@@ -9,3 +9,5 @@ pub mod Sinks
 pub mod Meaning
 pub mod Writers
 pub mod GoesOn
+pub mod TsFiles
+pub mod FlvFiles

@@ -7,11 +7,17 @@
 //! Read `laws::files_law` first. The broadcasts of items, and their files, are `specs/Broadcasts.antt`. The crate opens no file.
 #![tactic(auto)]
 
+mod flv;
 mod laws;
 mod medium;
 mod part;
 mod sink;
+mod transport;
 mod writer;
 
+pub use flv::{FlvFile, FlvSeriesMedium, FlvSeriesRecorder, flv_series_law};
 pub use laws::{files_law, frames_law, parts_law};
+pub use medium::SeriesMedium;
 pub use sink::SeriesSink;
+pub use transport::{TsFile, TsSeriesMedium, TsSeriesRecorder, ts_series_law};
+pub use writer::FileWriter;

@@ -37,7 +37,7 @@ impl<W: FileWriter> Model for SeriesMedium<W> {
     ghost invariant = { λ m. IfSome m.writer (λ w. W.given w ≡ on_air_of m.items) };
 }
 
-// A body has at most as many bytes as any unit's.
+// Shows that a body has at most as many bytes as any unit's.
 fn known(item: &Item)
     ensures { body_of item.now ≤ 4194304 }
 {
@@ -96,11 +96,7 @@ fn write_frame<W: FileWriter>(
 }
 
 // Ends the open file, if there is one. The writer of the next begins anew.
-fn end_file<W: FileWriter>(
-    alloc: Global,
-    writer: W,
-    out: &mut Bytes,
-) -> Result<W, OutOfMemory>
+fn end_file<W: FileWriter>(alloc: Global, writer: W, out: &mut Bytes) -> Result<W, OutOfMemory>
     ensures out { OnOk result (out.new ≡ out.old ++ end_text (W.file (W.given writer))) }
     ensures given { IfOk result (λ w. W.given w ≡ []) }
     ensures kept { IfOk result (λ w. W.kept w ≡ 0) }

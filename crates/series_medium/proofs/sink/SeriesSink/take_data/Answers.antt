@@ -10,7 +10,7 @@ invariant_of-self g c =
     let told = tells_all _ _ c.self.inside.taken c.self.inside.handed c.self.inside.part c.self.inside.stopped works c.self.invariant in
     let some = c.data_there-count.ensures.some (omega (arith, head.within, c.if-used-piece.false)) head.due in
     let all = data_taken c.self.inside.taken c.args.piece.now c.args.used c.args.left c.data_there-count.result _ _ _ c.self.inside.handed head some
-        c.data_there-count.ensures.fits c.data_there-count.ensures.within told (rw (take_rest c.args.piece.now c.args.used) at c.in-Ok.ensures.told) in
+    c.data_there-count.ensures.fits c.data_there-count.ensures.within told (rw (take_rest c.args.piece.now c.args.used) at c.in-Ok.ensures.told) in
     rw c.data_or_kind-self-inside.ensures (sink_as _ _ _ c.add_all.new.self c.self.inside.handed _ c.self.inside.stopped works c.add_all.ensures all)
 
 pub returns-in-Ok : goal.returns-in-Ok
@@ -20,7 +20,7 @@ returns-in-Ok g c =
     let told = tells_all _ _ c.self.inside.taken c.self.inside.handed c.self.inside.part c.self.inside.stopped works c.self.invariant in
     let some = c.data_there-count.ensures.some (omega (arith, head.within, c.if-used-piece.false)) head.due in
     let all = data_taken c.self.inside.taken c.args.piece.now c.args.used c.args.left c.data_there-count.result _ _ _ c.self.inside.handed head some
-        c.data_there-count.ensures.fits c.data_there-count.ensures.within told (rw (take_rest c.args.piece.now c.args.used) at c.in-Ok.ensures.told) in
+    c.data_there-count.ensures.fits c.data_there-count.ensures.within told (rw (take_rest c.args.piece.now c.args.used) at c.in-Ok.ensures.told) in
     rw (← c.self.view_is, c.add_all.ensures) (record {
       works = works;
       some = omega (arith, some);
@@ -36,7 +36,7 @@ invariant_of-self-in-Err g c =
     let head = rw (← c.self.view_is) at c.requires.head in
     let told = tells_all _ _ c.self.inside.taken c.self.inside.handed c.self.inside.part c.self.inside.stopped works c.self.invariant in
     let part = data_fails c.self.inside.taken c.args.piece.now c.args.used c.args.left c.data_there-count.result _ _ _ head c.data_there-count.ensures.fits
-        c.data_there-count.ensures.within told (rw (take_rest c.args.piece.now c.args.used) at c.in-Err.ensures.told) in
+    c.data_there-count.ensures.within told (rw (take_rest c.args.piece.now c.args.used) at c.in-Err.ensures.told) in
     sink_broken _ _ _ c.self.inside.taken c.args.piece.now c.self.inside.handed c.history.result c.self.inside.part c.self.inside.stopped c.in-Err.fail c.self.invariant part
     c.history.ensures
 
@@ -46,6 +46,6 @@ returns-in-Err g c =
     let head = rw (← c.self.view_is) at c.requires.head in
     let told = tells_all _ _ c.self.inside.taken c.self.inside.handed c.self.inside.part c.self.inside.stopped works c.self.invariant in
     let part = data_fails c.self.inside.taken c.args.piece.now c.args.used c.args.left c.data_there-count.result _ _ _ head c.data_there-count.ensures.fits
-        c.data_there-count.ensures.within told (rw (take_rest c.args.piece.now c.args.used) at c.in-Err.ensures.told) in
+    c.data_there-count.ensures.within told (rw (take_rest c.args.piece.now c.args.used) at c.in-Err.ensures.told) in
     breaks _ _ c.in-Err.fail c.args.self.now c.args.piece.now c.put_of.result _ c.put_of.ensures
     (rw (← c.self.view_is, c.history.ensures) (record { works = works; after = refl; cause = c.in-Err.ensures.faults; tells = part }))
