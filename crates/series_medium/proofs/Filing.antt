@@ -11,7 +11,7 @@ use Rattle.series_medium.specs.Frames.{Adds, frame_text}
 use Rattle.series_medium.specs.Reading.{Reading, read, start}
 use Rattle.series_medium.specs.Broadcasts.{Broadcasts, broadcasts, ended_files, files_of, none_on_air, with_item, with_over}
 use Rattle.series_medium.specs.Text.{added, data_text, end_text, framed, grown, more_of, on_air, series_text, text_behind}
-use Rattle.series_medium.specs.Growing.{Grows, with_data, with_more}
+use Rattle.series_medium.proofs.Growing.{Grows, with_data, with_more}
 use Rattle.series_medium.proofs.Framing.{read-append, read_frame}
 
 -- ---- data

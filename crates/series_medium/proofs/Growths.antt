@@ -13,7 +13,7 @@ use Rattle.series_medium.specs.Reading.{Reading, files_read, read, start}
 use Rattle.series_medium.specs.Broadcasts.{broadcasts, files_of, flv_file, if_any, ts_file}
 use Rattle.series_medium.specs.Text.{grown, series_text}
 use Rattle.series_medium.specs.Parts.{IsPartOf}
-use Rattle.series_medium.specs.Growing.{Grows, with_more}
+use Rattle.series_medium.proofs.Growing.{Grows, with_more}
 use Rattle.series_medium.proofs.Framing.{read-append}
 use Rattle.series_medium.proofs.Filing.{files_are}
 use Rattle.series_medium.proofs.Parting.{read_part}

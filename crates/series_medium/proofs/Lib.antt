@@ -1,6 +1,7 @@
 pub mod Framing
 pub mod Heading
 pub mod Sinking
+pub mod Growing
 pub mod Filing
 pub mod Parting
 pub mod Growths

@@ -3,7 +3,6 @@ pub mod Reading
 pub mod Heads
 pub mod Broadcasts
 pub mod Text
-pub mod Growing
 pub mod Parts
 pub mod Sinks
 pub mod Meaning

@@ -1,4 +1,3 @@
--- Only proofs use it.
 -- Files that grow with each item
 use Rattle.std.specs.Prelude.{◌≡◌, ℕ, List, [], ◌∷◌, ◌++◌, Option, Some, None}
 use Rattle.av_unit.specs.declared.item.Item.{Item}
