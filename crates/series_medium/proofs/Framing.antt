@@ -39,7 +39,7 @@ reads_on s bytes more o is =
 pub data_left : (n : ℕ) → 0 < n → data_or_kind n ≡ Data n
 data_left n some = grind (arith, nat_tests)
 
-took_more : (s : Series) (xs ys : List ℕ) → took ys (took xs s) ≡ took (xs ++ ys) s
+pub took_more : (s : Series) (xs ys : List ℕ) → took ys (took xs s) ≡ took (xs ++ ys) s
 took_more s xs ys = ap (λ (l : List ℕ). record { ended = s.ended; last = Some l }) (append_assoc (last_bytes s.last) xs ys)
 
 data_first : (left : ℕ) (s : Series) (b : ℕ) → read_byte (record { part = Some (Data left); series = s }) b ≡ record { part = Some (data_or_kind (left - 1)); series = took (b ∷ []) s }

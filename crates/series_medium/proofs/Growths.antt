@@ -14,9 +14,8 @@ use Rattle.series_medium.specs.Broadcasts.{broadcasts, files_of, flv_file, if_an
 use Rattle.series_medium.specs.Text.{grown, series_text}
 use Rattle.series_medium.specs.Parts.{IsPartOf}
 use Rattle.series_medium.proofs.Growing.{Grows, with_more}
-use Rattle.series_medium.proofs.Framing.{read-append}
 use Rattle.series_medium.proofs.Filing.{files_are}
-use Rattle.series_medium.proofs.Parting.{read_part}
+use Rattle.series_medium.proofs.Parting.{first_part}
 
 -- a file of which nothing is written, and which has this head then
 -- what stands behind is what it has more
@@ -61,10 +60,6 @@ flv_files items = files_are flv_file flv_grows items
 
 pub ts_files : (items : List Item) → read (start none_yet) (series_text ts_file items) ≡ start (files_of ts_file (broadcasts items))
 ts_files items = files_are ts_file ts_grows items
-
-pub first_part : (s : Series) (first more : List ℕ) → IsPartOf (files_read first s) (files_read (first ++ more) s)
-first_part s first more =
-    subst (λ (r : Reading). IsPartOf (files_read first s) r.series) (sym (read-append (start s) first more)) (read_part (read (start s) first) more)
 
 part_by : (text first more : List ℕ) (t : Series) → read (start none_yet) text ≡ start t → first ++ more ≡ text → IsPartOf (files_read first none_yet) t
 part_by text first more t is whole =

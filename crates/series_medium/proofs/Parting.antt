@@ -1,12 +1,13 @@
 -- What is read later has the files so far as its first
-use Rattle.std.proofs.Common.{◌≡◌, ◌⊎◌, inl, inr, ℕ, zero, suc, List, [], ◌∷◌, ◌++◌, map, Option, Some, None, option_to_list, refl, sym, ap, ◌∙◌, subst, append_assoc, append-nil}
-use Rattle.std.proofs.lemmas.List.{map-append}
+use Rattle.std.proofs.Common.{◌≡◌, ◌⊎◌, inl, inr, ℕ, zero, suc, List, [], ◌∷◌, ◌++◌, map, length, Option, Some, None, option_to_list, refl, sym, ap, ◌∙◌, subst, arith, append_assoc, append-nil}
+use Rattle.std.proofs.lemmas.List.{append_cancel_left, map-append}
 use Rattle.std.proofs.lemmas.Option.{none-some, same_Some}
 use Rattle.turn_gate.specs.Histories.{Begins}
 use Rattle.file_series.specs.Series.{Ended, Series, after_next, all_files, ended_with, last_bytes, took}
 use Rattle.series_medium.specs.declared.part.Part.{Part}
 use Rattle.series_medium.specs.declared.part.Part.TheVariants.{Kind, Length1, Length2, Length3, Length4, Data}
-use Rattle.series_medium.specs.Reading.{Reading, read, read_byte, start, with_byte}
+use Rattle.series_medium.specs.Reading.{Reading, files_read, read, read_byte, start, with_byte}
+use Rattle.series_medium.proofs.Framing.{read-append}
 use Rattle.series_medium.specs.Parts.{AreFirstOf, IsPartOf}
 
 -- the open file has more bytes, and is open still
@@ -113,3 +114,77 @@ part_by (Some bytes) ended t l = record {
 -- what was read is a first part of what is read with more bytes
 pub read_part : (r : Reading) (bytes : List ℕ) → IsPartOf r.series (read r bytes).series
 read_part r bytes = part_by r.series.last r.series.ended (read r bytes).series (later_read r.series.last r.series.ended r bytes (later_same r.series.last r.series.ended))
+
+pub first_part : (s : Series) (first more : List ℕ) → IsPartOf (files_read first s) (files_read (first ++ more) s)
+first_part s first more =
+    subst (λ (r : Reading). IsPartOf (files_read first s) r.series) (sym (read-append (start s) first more)) (read_part (read (start s) first) more)
+
+pub part_same : (s : Series) → IsPartOf s s
+part_same s = part_by s.last s.ended s (later_same s.last s.ended)
+
+-- bytes are added, and more of them before more is read
+pub took_part : (s : Series) (xs : List ℕ) → IsPartOf s (took xs s)
+took_part s xs = part_by s.last s.ended (took xs s) (later_took s.last s.ended s xs (later_same s.last s.ended))
+
+pub took_read : (s : Series) (xs ys : List ℕ) (o : Option Part) (more : List ℕ) → IsPartOf (took xs s) (read (record { part = o; series = took ys (took xs s) }) more).series
+took_read s xs ys o more =
+    let t = took xs s in
+    part_by t.last t.ended (read (record { part = o; series = took ys t }) more).series
+    (later_read t.last t.ended (record { part = o; series = took ys t }) more (later_took t.last t.ended t ys (later_same t.last t.ended)))
+
+-- the open file ends
+pub next_part : (s : Series) → IsPartOf s (after_next None s)
+next_part s = part_by s.last s.ended (after_next None s) (later_next s.last s.ended s (later_same s.last s.ended))
+
+-- ---- a first part of a first part
+
+begins_on : {X : Type 0} (xs ys zs : List X) → Begins xs ys → Begins ys zs → Begins xs zs
+begins_on xs ys zs a b = (a.0 ++ b.0, sym (append_assoc xs a.0 b.0) ∙ ap (λ (l : List _). l ++ b.0) a.1 ∙ b.1)
+
+abbrev listed : List Ended → List (List ℕ)
+listed ended = map (λ x. x.bytes) ended
+
+abbrev first_or : List ℕ → List (List ℕ) → List ℕ
+first_or x [] = x
+first_or x (y ∷ ys) = y
+
+open_is : (last : Option (List ℕ)) (w : List ℕ) (later : List (List ℕ)) → option_to_list last ≡ w ∷ later → last ≡ Some w
+open_is None w later is = absurd (omega (arith, ap length is))
+open_is (Some x) w later is = ap (λ (l : List (List ℕ)). Some (first_or x l)) is
+
+all_behind : (ended more : List Ended) (t : Series) → ended ++ more ≡ t.ended → all_files t ≡ listed ended ++ (listed more ++ option_to_list t.last)
+all_behind ended more t is =
+    ap (λ (e : List Ended). listed e ++ option_to_list t.last) (sym is)
+    ∙ ap (λ (l : List (List ℕ)). l ++ option_to_list t.last) (map-append (λ (x : Ended). x.bytes) ended more)
+    ∙ append_assoc (listed ended) (listed more) (option_to_list t.last)
+
+first_by : (ended more : List Ended) (t u : Series) (bytes : List ℕ) → ended ++ more ≡ t.ended → AreFirstOf bytes ended t → IsPartOf t u → AreFirstOf bytes ended u
+first_by ended [] t u bytes is f b =
+    let same : t.ended ≡ ended = sym is ∙ append-nil ended in
+    let rest : option_to_list t.last ≡ f.whole ∷ f.later
+        = append_cancel_left (listed ended) (option_to_list t.last) (f.whole ∷ f.later) (sym (all_behind ended [] t is) ∙ f.files) in
+    let next = b.last f.whole (open_is t.last f.whole f.later rest) in
+    record {
+      whole = next.whole;
+      later = next.later;
+      begins = begins_on bytes f.whole next.whole f.begins next.begins;
+      files = next.files ∙ ap (λ (e : List Ended). listed e ++ next.whole ∷ next.later) same;
+    }
+first_by ended (r ∷ rs) t u bytes is f b =
+    let rest : r.bytes ∷ (listed rs ++ option_to_list t.last) ≡ f.whole ∷ f.later
+        = append_cancel_left (listed ended) (r.bytes ∷ (listed rs ++ option_to_list t.last)) (f.whole ∷ f.later) (sym (all_behind ended (r ∷ rs) t is) ∙ f.files) in
+    let one : f.whole ≡ r.bytes = sym (ap (λ (l : List (List ℕ)). first_or f.whole l) rest) in
+    let more = (r ∷ rs) ++ b.ended.0 in
+    let all : ended ++ more ≡ u.ended = sym (append_assoc ended (r ∷ rs) b.ended.0) ∙ ap (λ (e : List Ended). e ++ b.ended.0) is ∙ b.ended.1 in
+    record {
+      whole = r.bytes;
+      later = listed (rs ++ b.ended.0) ++ option_to_list u.last;
+      begins = subst (λ (w : List ℕ). Begins bytes w) one f.begins;
+      files = all_behind ended more u all;
+    }
+
+pub part_on : (s t u : Series) → IsPartOf s t → IsPartOf t u → IsPartOf s u
+part_on s t u a b = record {
+  ended = begins_on s.ended t.ended u.ended a.ended b.ended;
+  last = λ bytes is. first_by s.ended a.ended.0 t u bytes a.ended.1 (a.last bytes is) b;
+}

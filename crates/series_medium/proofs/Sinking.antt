@@ -1,8 +1,7 @@
 -- What the series of a sink tells, step by step
 use Rattle.std.proofs.Common.{◌≡◌, ◌≢◌, ◌⊎◌, inl, inr, ℕ, ◌+◌, ◌-◌, ◌<◌, ◌≤◌, zero, suc, min, List, [], ◌∷◌, ◌++◌, length, take, drop, slice_index, Option, Some, None, option_map, refl, sym, ap, ◌∙◌, subst, arith, append_assoc, append-nil}
-use native.Mathlib.Numerals.{unary_clauses}
 use Rattle.std.proofs.lemmas.List.{take_more, drop-take, take-take, take-append-drop, length-take-le, length-drop, take_all}
-use Rattle.std.proofs.lemmas.Option.{none-some}
+use Rattle.std.proofs.lemmas.Option.{none-some, same_Some}
 use Rattle.file_series.specs.Series.{NextFails, PutsPart, Series, none_yet, took, after_next}
 use Rattle.relay_outside.specs.declared.sink.Put.{Put}
 use Rattle.file_series.specs.declared.series.SeriesFail.{SeriesFail}
@@ -11,8 +10,10 @@ use Rattle.series_medium.specs.declared.part.Part.{Part}
 use Rattle.series_medium.specs.declared.part.Part.TheVariants.{Kind, Length1, Length2, Length3, Length4, Data}
 use Rattle.series_medium.specs.Reading.{IsDue, Reading, start, data_or_kind, behind, read, files_read, part_behind}
 use Rattle.series_medium.specs.Heads.{IsHeadOf, Leads, head_behind}
+use Rattle.series_medium.specs.Parts.{IsPartOf}
 use Rattle.series_medium.specs.Sinks.{Breaks, IsSink, SinkState, SinkTakes, Tells, TellsAll, TellsPart, put_of}
-use Rattle.series_medium.proofs.Framing.{data_left, part_of, read-append, reads_on, read_data}
+use Rattle.series_medium.proofs.Framing.{data_left, read-append, reads_on, read_data, took_more}
+use Rattle.series_medium.proofs.Parting.{first_part, next_part, part_same, took_part, took_read}
 
 mapped : (f g : Series → Series) (o : Option Series) → ((s : Series) → f s ≡ g s) → option_map f o ≡ option_map g o
 mapped f g None same = refl
@@ -89,22 +90,18 @@ take_on n m xs =
     ∙ ap (λ (l : List _). l ++ drop n (take (n + m) xs)) (take-take n (n + m) xs (omega arith))
     ∙ ap (λ (l : List _). take n xs ++ l) (drop-take n m xs)
 
--- the first of the first are the first
-take_first : {X : Type 0} (n m : ℕ) (xs : List X) → take n (take m xs) ≡ take (min n m) xs
-take_first zero m xs = simp unary_clauses refl
-take_first (suc n) zero xs = simp unary_clauses refl
-take_first (suc n) (suc m) [] = simp unary_clauses refl
-take_first (suc n) (suc m) (x ∷ xs) = simp unary_clauses (ap (λ (l : List _). x ∷ l) (take_first n m xs))
-
 kind_due : (n : ℕ) → IsDue (data_or_kind n)
 kind_due zero = tt
 kind_due (suc n) = subst IsDue (sym (data_left (suc n) (omega arith))) (omega arith)
 
 -- nothing is told but what was
-same_part : (began old now : Option Series) (bytes piece : List ℕ) → TellsAll began bytes old → now ≡ old → TellsPart began bytes piece now
-same_part began old now bytes piece told same = record {
-  more = 0;
-  tells = inl (same ∙ (told ∙ mapped (files_read bytes) (files_read (bytes ++ [])) began (λ s. ap (λ (l : List ℕ). files_read l s) (sym (append-nil bytes)))));
+same_told : (began old now : Option Series) (bytes piece : List ℕ) → TellsAll began bytes old → now ≡ old → TellsPart began bytes piece now
+same_told None old now bytes piece told same = same ∙ told
+same_told (Some s) old now bytes piece told same = record {
+  files = files_read bytes s;
+  now_is = same ∙ told;
+  has = part_same (files_read bytes s);
+  within = first_part s bytes piece;
 }
 
 module _ (bytes piece : List ℕ) (used : ℕ) where
@@ -129,34 +126,60 @@ module _ (bytes piece : List ℕ) (used : ℕ) where
       sink_by bytes piece used Kind h began old new handed (used + 1) (1 ∷ []) Kind (after_next None) whole (λ s. refl) tt told does
 
   -- some first bytes of the data that is there are added, perhaps none
-  data_part : (left count n : ℕ) (began old now : Option Series) → IsHeadOf bytes piece used (Data left) → count ≤ left → count ≤ length piece - used
+  data_part : (left count n : ℕ) (began old now : Option Series) → IsHeadOf bytes piece used (Data left) → 0 < count → count ≤ left → count ≤ length piece - used
       → TellsAll began bytes old → now ≡ option_map (took (take n (take count (drop used piece)))) old → TellsPart began bytes piece now
-  data_part left count n began old now h fits there told does =
-      let first : take n (take count (drop used piece)) ≡ take (min n count) (drop used piece) = take_first n count (drop used piece) in
-      part_by (min n count) (omega arith) (does ∙ ap (λ (l : List ℕ). option_map (took l) old) first)
-    where
-      part_by : (k : ℕ) → k ≤ count → now ≡ option_map (took (take k (drop used piece))) old → TellsPart began bytes piece now
-      part_by zero few is = record {
-        more = 0;
-        tells = inr (is ∙ ap (λ (o : Option Series). option_map (took []) o) (told ∙ mapped (files_read bytes) (files_read (bytes ++ [])) began (λ s. ap (λ (l : List ℕ). files_read l s) (sym (append-nil bytes)))));
-      }
-      part_by (suc k) few is = record {
-        more = used + suc k;
-        tells = inl (data_taken left (suc k) began old now [] h (omega arith) (omega (arith, few, fits)) (omega (arith, few, there)) told is).tells;
+  data_part left count n None old now h some fits there told does = does ∙ ap (λ (o : Option Series). option_map (took (take n (take count (drop used piece)))) o) told
+  data_part left count n (Some s) old now h some fits there told does =
+      let bits = take count (drop used piece) in
+      let r = files_read bytes s in
+      let size : length bits ≡ count = length-take-le count (drop used piece) (omega (arith, length-drop used piece, there)) in
+      let rest = drop (used + count) piece in
+      let q = data_or_kind (left - length bits) in
+      let whole : piece ≡ take used piece ++ (bits ++ rest)
+          = sym (take-append-drop (used + count) piece) ∙ ap (λ (l : List ℕ). l ++ rest) (take_on used count piece) ∙ append_assoc (take used piece) bits rest in
+      let cut : bits ≡ take n bits ++ drop n bits = sym (take-append-drop n bits) in
+      let all : read (start s) (bytes ++ piece) ≡ read (record { part = Some q; series = took (drop n bits) (took (take n bits) r) }) rest
+          = ap (λ (l : List ℕ). read (start s) (bytes ++ l)) whole
+              ∙ past_head bytes piece used (Data left) h s (bits ++ rest)
+              ∙ read-append (record { part = Some (Data left); series = r }) bits rest
+              ∙ ap (λ (t : Reading). read t rest) (read_data left r bits (omega (arith, size, some)) (omega (arith, size, fits)))
+              ∙ ap (λ (l : List ℕ). read (record { part = Some q; series = took l r }) rest) cut
+              ∙ ap (λ (t : Series). read (record { part = Some q; series = t }) rest) (sym (took_more r (take n bits) (drop n bits))) in
+      record {
+        files = took (take n bits) r;
+        now_is = does ∙ ap (λ (o : Option Series). option_map (took (take n bits)) o) told;
+        has = took_part r (take n bits);
+        within = subst (λ (t : Reading). IsPartOf (took (take n bits) r) t.series) (sym all) (took_read r (take n bits) (drop n bits) (Some q) rest);
       }
 
-  pub data_fails : (left count : ℕ) (began old now : Option Series) → IsHeadOf bytes piece used (Data left) → count ≤ left → count ≤ length piece - used
+  pub data_fails : (left count : ℕ) (began old now : Option Series) → IsHeadOf bytes piece used (Data left) → 0 < count → count ≤ left → count ≤ length piece - used
       → TellsAll began bytes old → PutsPart (take count (drop used piece)) old now → TellsPart began bytes piece now
-  data_fails left count began old now h fits there told (inl same) = same_part began old now bytes piece told same
-  data_fails left count began old now h fits there told (inr part) = data_part left count part.0 began old now h fits there told part.1
+  data_fails left count began old now h some fits there told (inl same) = same_told began old now bytes piece told same
+  data_fails left count began old now h some fits there told (inr part) = data_part left count part.0 began old now h some fits there told part.1
+
+  -- the file has ended, perhaps
+  end_part : (began old now : Option Series) → IsHeadOf bytes piece used Kind → used < length piece → slice_index piece used ≡ 1
+      → TellsAll began bytes old → now ≡ option_map (after_next None) old → TellsPart began bytes piece now
+  end_part None old now h there one told does = does ∙ ap (λ (o : Option Series). option_map (after_next None) o) told
+  end_part (Some s) old now h there one told does =
+      let r = files_read bytes s in
+      let ended = (end_taken (Some s) old now [] h there one told does).tells in
+      let files : after_next None r ≡ files_read (bytes ++ take (used + 1) piece) s
+          = same_Some (after_next None r) (files_read (bytes ++ take (used + 1) piece) s)
+              (sym (does ∙ ap (λ (o : Option Series). option_map (after_next None) o) told) ∙ ended) in
+      let whole : (bytes ++ take (used + 1) piece) ++ drop (used + 1) piece ≡ bytes ++ piece
+          = append_assoc bytes (take (used + 1) piece) (drop (used + 1) piece) ∙ ap (λ (l : List ℕ). bytes ++ l) (take-append-drop (used + 1) piece) in
+      record {
+        files = after_next None r;
+        now_is = does ∙ ap (λ (o : Option Series). option_map (after_next None) o) told;
+        has = next_part r;
+        within = rw (files, ← whole) (first_part s (bytes ++ take (used + 1) piece) (drop (used + 1) piece));
+      }
 
   pub end_fails : (began old now : Option Series) → IsHeadOf bytes piece used Kind → used < length piece → slice_index piece used ≡ 1
       → TellsAll began bytes old → NextFails old now → TellsPart began bytes piece now
-  end_fails began old now h there one told (inl same) = same_part began old now bytes piece told same
-  end_fails began old now h there one told (inr ended) = record {
-    more = used + 1;
-    tells = inl (end_taken began old now [] h there one told ended).tells;
-  }
+  end_fails began old now h there one told (inl same) = same_told began old now bytes piece told same
+  end_fails began old now h there one told (inr ended) = end_part began old now h there one told ended
 
 -- a byte that no frame has there
 first_of : (piece : List ℕ) → 0 < length piece → take 1 piece ≡ slice_index piece 0 ∷ []

@@ -3,11 +3,12 @@ use Rattle.std.specs.Prelude.{◌≡◌, ◌⊎◌, ℕ, ◌+◌, ◌<◌, ◌�
 use Rattle.relay_outside.specs.Counts.{risen}
 use Rattle.relay_outside.specs.declared.sink.Put.{Put}
 use Rattle.relay_outside.specs.declared.sink.Put.TheVariants as put
-use Rattle.file_series.specs.Series.{Cause, NextFails, Series, after_next, took}
+use Rattle.file_series.specs.Series.{Cause, NextFails, Series, after_next}
 use Rattle.file_series.specs.declared.series.SeriesFail.{SeriesFail}
 use Rattle.file_series.specs.declared.series.SeriesFail.TheVariants.{Failed, OutOfMemory}
 use Rattle.series_medium.specs.declared.part.Part.{Part}
 use Rattle.series_medium.specs.Reading.{IsDue, files_read, part_behind}
+use Rattle.series_medium.specs.Parts.{IsPartOf}
 
 pub record SinkState (F : Type 0) : Type 0 where
   -- the bytes that it took
@@ -27,13 +28,20 @@ pub record SinkState (F : Type 0) : Type 0 where
 abbrev pub TellsAll : Option Series → List ℕ → Option Series → Type 0
 TellsAll began bytes now = now ≡ option_map (files_read bytes) began
 
--- or of these and some first bytes of the piece, perhaps with a file opened behind them that has no byte yet
-pub record TellsPart (began : Option Series) (bytes piece : List ℕ) (now : Option Series) : Type 0 where
-  pub more : ℕ
-  pub tells : TellsAll began (bytes ++ take more piece) now ⊎ (now ≡ option_map (took []) (option_map (files_read (bytes ++ take more piece)) began))
+-- it tells files that have all of the first series, and are a first part of the second
+pub record TellsBetween (s u : Series) (now : Option Series) : Type 0 where
+  pub files : Series
+  pub now_is : now ≡ Some files
+  pub has : IsPartOf s files
+  pub within : IsPartOf files u
 
--- WHAT THE SERIES TELLS: while it hasn't failed the files of the bytes that the sink took; then at most some bytes more, of the
--- piece that the sink was handed
+-- the files of these bytes, and at most some more that follow in the piece
+abbrev pub TellsPart : Option Series → List ℕ → List ℕ → Option Series → Type 0
+TellsPart None bytes piece now = now ≡ None
+TellsPart (Some s) bytes piece now = TellsBetween (files_read bytes s) (files_read (bytes ++ piece) s) now
+
+-- WHAT THE SERIES TELLS: while it hasn't failed, the files of the bytes that the sink took; then these, and at most some more of
+-- the piece that the sink was handed
 abbrev pub Tells : Option SeriesFail → Option Series → List ℕ → List ℕ → Option Series → Type 0
 Tells None began bytes handed now = TellsAll began bytes now
 Tells (Some fail) began bytes handed now = TellsPart began bytes handed now

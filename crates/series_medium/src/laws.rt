@@ -13,9 +13,10 @@ pub fn frames_law()
     ensures { (s : Series) (frames : List Frame) → AllByRecursion IsFrame frames → read (start s) (frames_text frames) ≡ start (fold said s frames) }
 {}
 
-/// Shows that the first bytes of any bytes are read as a first part of their files.
+/// Shows that the first of any bytes are read as a first part of the files of all, and that a first part of a first part is one.
 pub fn parts_law()
-    ensures { (s : Series) (first more : List ℕ) → IsPartOf (files_read first s) (files_read (first ++ more) s) }
+    ensures on { (s t u : Series) → IsPartOf s t → IsPartOf t u → IsPartOf s u }
+    ensures first { (s : Series) (first more : List ℕ) → IsPartOf (files_read first s) (files_read (first ++ more) s) }
 {}
 
 /// Shows that the text of a medium is read as the files of the broadcasts of its items, in order: each has the FLV text, or the

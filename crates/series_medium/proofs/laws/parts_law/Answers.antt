@@ -1,5 +1,8 @@
-use Rattle.series_medium.proofs.Growths.{first_part}
+use Rattle.series_medium.proofs.Parting.{first_part, part_on}
 use Rattle.series_medium.proofs.laws.parts_law.Goals as goal
 
-pub returns : goal.returns
-returns c = first_part
+pub returns-clause-on : goal.returns-clause-on
+returns-clause-on c = part_on
+
+pub returns-clause-first : goal.returns-clause-first
+returns-clause-first c = first_part

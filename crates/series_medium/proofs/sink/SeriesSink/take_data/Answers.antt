@@ -35,7 +35,8 @@ invariant_of-self-in-Err g c =
     let works = rw (← c.self.view_is) at c.requires.works in
     let head = rw (← c.self.view_is) at c.requires.head in
     let told = tells_all _ _ c.self.inside.taken c.self.inside.handed c.self.inside.part c.self.inside.stopped works c.self.invariant in
-    let part = data_fails c.self.inside.taken c.args.piece.now c.args.used c.args.left c.data_there-count.result _ _ _ head c.data_there-count.ensures.fits
+    let some = c.data_there-count.ensures.some (omega (arith, head.within, c.if-used-piece.false)) head.due in
+    let part = data_fails c.self.inside.taken c.args.piece.now c.args.used c.args.left c.data_there-count.result _ _ _ head some c.data_there-count.ensures.fits
     c.data_there-count.ensures.within told (rw (take_rest c.args.piece.now c.args.used) at c.in-Err.ensures.told) in
     sink_broken _ _ _ c.self.inside.taken c.args.piece.now c.self.inside.handed c.history.result c.self.inside.part c.self.inside.stopped c.in-Err.fail c.self.invariant part
     c.history.ensures
@@ -45,7 +46,8 @@ returns-in-Err g c =
     let works = rw (← c.self.view_is) at c.requires.works in
     let head = rw (← c.self.view_is) at c.requires.head in
     let told = tells_all _ _ c.self.inside.taken c.self.inside.handed c.self.inside.part c.self.inside.stopped works c.self.invariant in
-    let part = data_fails c.self.inside.taken c.args.piece.now c.args.used c.args.left c.data_there-count.result _ _ _ head c.data_there-count.ensures.fits
+    let some = c.data_there-count.ensures.some (omega (arith, head.within, c.if-used-piece.false)) head.due in
+    let part = data_fails c.self.inside.taken c.args.piece.now c.args.used c.args.left c.data_there-count.result _ _ _ head some c.data_there-count.ensures.fits
     c.data_there-count.ensures.within told (rw (take_rest c.args.piece.now c.args.used) at c.in-Err.ensures.told) in
     breaks _ _ c.in-Err.fail c.args.self.now c.args.piece.now c.put_of.result _ c.put_of.ensures
     (rw (← c.self.view_is, c.history.ensures) (record { works = works; after = refl; cause = c.in-Err.ensures.faults; tells = part }))
