@@ -1,7 +1,6 @@
 -- What an item adds to the text of a medium
-use Rattle.std.proofs.Common.{◌≡◌, ℕ, ◌+◌, ◌*◌, ◌≤◌, List, [], ◌∷◌, ◌++◌, length, fold, Option, Some, refl, sym, ap, ◌∙◌, subst, arith, append-nil, length-append}
+use Rattle.std.proofs.Common.{◌≡◌, ℕ, ◌≤◌, List, [], ◌∷◌, ◌++◌, length, fold, Option, refl, sym, ap, ◌∙◌, subst, arith, append-nil}
 use Rattle.std.proofs.lemmas.List.{get_or_push, length_push}
-use Rattle.std.specs.Prelude.{IfSome}
 use Rattle.av_unit.specs.declared.item.Item.{Item}
 use Rattle.stream_model.specs.Held.{body_of}
 use Rattle.media_recorder.specs.Mediums.{Adds, AreWithin}

@@ -1,6 +1,5 @@
 -- The files of broadcasts are what is read of their text
-use Rattle.std.proofs.Common.{◌≡◌, ℕ, ◌+◌, ◌<◌, ◌≤◌, ◌^◌, zero, suc, Bool, true, false, nat_lt, List, [], ◌∷◌, ◌++◌, length, drop, fold, Option, Some, None, refl, sym, ap, ◌∙◌, subst, arith, append_assoc, append-nil, length-append}
-use Rattle.std.proofs.lemmas.List.{drop_at}
+use Rattle.std.proofs.Common.{◌≡◌, ℕ, ◌^◌, Bool, true, false, nat_lt, List, [], ◌∷◌, ◌++◌, length, fold, Option, Some, None, refl, sym, ap, ◌∙◌, arith, append_assoc, append-nil}
 use Rattle.std.proofs.lemmas.List.Concat.{flat_map-append}
 use Rattle.std.proofs.lemmas.Bool.Decides.{nat_tests}
 use Rattle.std.specs.List.{flat_map}
@@ -11,7 +10,7 @@ use Rattle.series_medium.specs.Frames.{Adds, frame_text}
 use Rattle.series_medium.specs.Reading.{Reading, read, start}
 use Rattle.series_medium.specs.Broadcasts.{Broadcasts, broadcasts, ended_files, files_of, none_on_air, with_item, with_over}
 use Rattle.series_medium.specs.Text.{added, data_text, end_text, framed, grown, more_of, on_air, series_text, text_behind}
-use Rattle.series_medium.proofs.Growing.{Grows, with_data, with_more}
+use Rattle.series_medium.proofs.Growing.{Grows, with_data}
 use Rattle.series_medium.proofs.Framing.{read-append, read_frame}
 
 -- ---- data

@@ -1,5 +1,5 @@
 -- What a file of FLV grows by
-use Rattle.std.proofs.Common.{◌≡◌, ℕ, ◌+◌, ◌*◌, ◌≤◌, Bool, true, false, List, [], ◌∷◌, ◌++◌, length, drop, Option, Some, None, is_some, refl, sym, ap, ◌∙◌, subst, arith, append_assoc, append-nil, length-append}
+use Rattle.std.proofs.Common.{◌≡◌, ℕ, ◌+◌, ◌≤◌, Bool, true, false, List, [], ◌∷◌, ◌++◌, length, drop, Option, Some, None, is_some, refl, sym, ap, ◌∙◌, arith, append_assoc, append-nil, length-append}
 use Rattle.std.proofs.lemmas.List.{drop_at}
 use Rattle.std.proofs.lemmas.List.Concat.{flat_map-append}
 use Rattle.std.specs.List.{flat_map}
@@ -8,12 +8,12 @@ use Rattle.av_unit.specs.declared.item.Item.TheVariants.{Begin, Unit as AUnit, E
 use Rattle.av_unit.specs.Classes.{message_type}
 use Rattle.av_unit.specs.Media.{Media}
 use Rattle.stream_model.specs.Held.{body_of}
-use Rattle.flv_tags.specs.Written.{back_bytes, head_bytes, header, tag_bytes}
-use Rattle.flv_tags.specs.Text.{item_bytes, tag_of}
+use Rattle.flv_tags.specs.Written.{back_bytes, head_bytes, header}
+use Rattle.flv_tags.specs.Text.{item_bytes}
 use Rattle.series_medium.specs.Broadcasts.{flv_file, if_any}
 use Rattle.series_medium.specs.Text.{grown}
 use Rattle.series_medium.specs.Writers.{FileGrows}
-use Rattle.series_medium.specs.FlvFiles.{flv_more, head_if, opens}
+use Rattle.series_medium.specs.FlvFiles.{flv_more, opens}
 
 -- the file of written tags
 abbrev flv_by : List ℕ → Option (List ℕ)

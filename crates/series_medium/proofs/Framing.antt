@@ -1,13 +1,13 @@
 -- How bytes are read as frames
-use Rattle.std.proofs.Common.{◌≡◌, ℕ, ◌+◌, ◌-◌, ◌<◌, ◌≤◌, ◌^◌, zero, suc, Bool, true, false, List, [], ◌∷◌, ◌++◌, length, take, drop, fold, Option, Some, None, refl, sym, ap, ◌∙◌, arith, append_assoc, append-nil, length-append}
+use Rattle.std.proofs.Common.{◌≡◌, ℕ, ◌-◌, ◌<◌, ◌≤◌, ◌^◌, List, [], ◌∷◌, ◌++◌, length, fold, Option, Some, None, refl, sym, ap, ◌∙◌, arith, append_assoc, append-nil}
 use Rattle.std.proofs.lemmas.Grind.{fold-append}
 use Rattle.std.proofs.lemmas.Bool.Decides.{nat_tests}
-use Rattle.std.specs.List.{AllByRecursion, flat_map}
+use Rattle.std.specs.List.{AllByRecursion}
 use Rattle.relay_base.specs.Numbers.{be32_of}
 use Rattle.relay_base.proofs.ReadBack.{be32_of-bytes}
-use Rattle.file_series.specs.Series.{Series, last_bytes, took, after_next}
+use Rattle.file_series.specs.Series.{Series, last_bytes, took}
 use Rattle.series_medium.specs.declared.part.Part.{Part}
-use Rattle.series_medium.specs.declared.part.Part.TheVariants.{Kind, Length1, Length2, Length3, Length4, Data}
+use Rattle.series_medium.specs.declared.part.Part.TheVariants.{Kind, Length1, Data}
 use Rattle.series_medium.specs.Frames.{Frame, Adds, EndsFile, size_bytes, frame_text, frames_text, IsFrame, said}
 use Rattle.series_medium.specs.Reading.{Reading, start, data_of, data_or_kind, behind, with_byte, read_byte, read, files_read, part_behind}
 

@@ -1,12 +1,12 @@
 -- The head of a frame leaves the files as they are
-use Rattle.std.proofs.Common.{◌≡◌, ℕ, ◌+◌, ◌<◌, ◌≤◌, zero, suc, List, [], ◌∷◌, ◌++◌, length, take, slice_index, Option, Some, None, refl, sym, ap, ◌∙◌, subst, arith}
+use Rattle.std.proofs.Common.{◌≡◌, ℕ, ◌+◌, ◌<◌, zero, suc, List, [], ◌∷◌, ◌++◌, length, take, slice_index, Option, Some, sym, ap, ◌∙◌, subst, arith}
 use Rattle.std.proofs.lemmas.List.{take_more}
 use Rattle.std.proofs.lemmas.Option.{none-some, same_Some}
 use Rattle.relay_base.specs.Numbers.{be32_of}
 use Rattle.file_series.specs.Series.{Series}
 use Rattle.series_medium.specs.declared.part.Part.{Part}
 use Rattle.series_medium.specs.declared.part.Part.TheVariants.{Kind, Length1, Length2, Length3, Length4, Data}
-use Rattle.series_medium.specs.Reading.{Reading, data_of, behind, with_byte, read_byte, read}
+use Rattle.series_medium.specs.Reading.{Reading, data_of, read_byte, read}
 use Rattle.series_medium.specs.Heads.{Leads, head_behind}
 use Rattle.series_medium.specs.Reading.{IsDue}
 use Rattle.series_medium.proofs.Framing.{read-append, some_data}

@@ -162,7 +162,7 @@ first_by : (ended more : List Ended) (t u : Series) (bytes : List ℕ) → ended
 first_by ended [] t u bytes is f b =
     let same : t.ended ≡ ended = sym is ∙ append-nil ended in
     let rest : option_to_list t.last ≡ f.whole ∷ f.later
-        = append_cancel_left (listed ended) (option_to_list t.last) (f.whole ∷ f.later) (sym (all_behind ended [] t is) ∙ f.files) in
+    = append_cancel_left (listed ended) (option_to_list t.last) (f.whole ∷ f.later) (sym (all_behind ended [] t is) ∙ f.files) in
     let next = b.last f.whole (open_is t.last f.whole f.later rest) in
     record {
       whole = next.whole;
@@ -172,7 +172,7 @@ first_by ended [] t u bytes is f b =
     }
 first_by ended (r ∷ rs) t u bytes is f b =
     let rest : r.bytes ∷ (listed rs ++ option_to_list t.last) ≡ f.whole ∷ f.later
-        = append_cancel_left (listed ended) (r.bytes ∷ (listed rs ++ option_to_list t.last)) (f.whole ∷ f.later) (sym (all_behind ended (r ∷ rs) t is) ∙ f.files) in
+    = append_cancel_left (listed ended) (r.bytes ∷ (listed rs ++ option_to_list t.last)) (f.whole ∷ f.later) (sym (all_behind ended (r ∷ rs) t is) ∙ f.files) in
     let one : f.whole ≡ r.bytes = sym (ap (λ (l : List (List ℕ)). first_or f.whole l) rest) in
     let more = (r ∷ rs) ++ b.ended.0 in
     let all : ended ++ more ≡ u.ended = sym (append_assoc ended (r ∷ rs) b.ended.0) ∙ ap (λ (e : List Ended). e ++ b.ended.0) is ∙ b.ended.1 in

@@ -1,13 +1,13 @@
 -- What the series of a sink tells, step by step
-use Rattle.std.proofs.Common.{◌≡◌, ◌≢◌, ◌⊎◌, inl, inr, ℕ, ◌+◌, ◌-◌, ◌<◌, ◌≤◌, zero, suc, min, List, [], ◌∷◌, ◌++◌, length, take, drop, slice_index, Option, Some, None, option_map, refl, sym, ap, ◌∙◌, subst, arith, append_assoc, append-nil}
-use Rattle.std.proofs.lemmas.List.{take_more, drop-take, take-take, take-append-drop, length-take-le, length-drop, take_all}
+use Rattle.std.proofs.Common.{◌≡◌, ◌≢◌, inl, inr, ℕ, ◌+◌, ◌-◌, ◌<◌, ◌≤◌, zero, suc, List, [], ◌∷◌, ◌++◌, length, take, drop, slice_index, Option, Some, None, option_map, refl, sym, ap, ◌∙◌, subst, arith, append_assoc, append-nil}
+use Rattle.std.proofs.lemmas.List.{take_more, drop-take, take-take, take-append-drop, length-take-le, length-drop}
 use Rattle.std.proofs.lemmas.Option.{none-some, same_Some}
 use Rattle.file_series.specs.Series.{NextFails, PutsPart, Series, none_yet, took, after_next}
 use Rattle.relay_outside.specs.declared.sink.Put.{Put}
 use Rattle.file_series.specs.declared.series.SeriesFail.{SeriesFail}
 use Rattle.file_series.specs.declared.series.SeriesFail.TheVariants.{Failed, OutOfMemory}
 use Rattle.series_medium.specs.declared.part.Part.{Part}
-use Rattle.series_medium.specs.declared.part.Part.TheVariants.{Kind, Length1, Length2, Length3, Length4, Data}
+use Rattle.series_medium.specs.declared.part.Part.TheVariants.{Kind, Length1, Data}
 use Rattle.series_medium.specs.Reading.{IsDue, Reading, start, data_or_kind, behind, read, files_read, part_behind}
 use Rattle.series_medium.specs.Heads.{IsHeadOf, Leads, head_behind}
 use Rattle.series_medium.specs.Parts.{IsPartOf}
@@ -136,15 +136,15 @@ module _ (bytes piece : List ℕ) (used : ℕ) where
       let rest = drop (used + count) piece in
       let q = data_or_kind (left - length bits) in
       let whole : piece ≡ take used piece ++ (bits ++ rest)
-          = sym (take-append-drop (used + count) piece) ∙ ap (λ (l : List ℕ). l ++ rest) (take_on used count piece) ∙ append_assoc (take used piece) bits rest in
+      = sym (take-append-drop (used + count) piece) ∙ ap (λ (l : List ℕ). l ++ rest) (take_on used count piece) ∙ append_assoc (take used piece) bits rest in
       let cut : bits ≡ take n bits ++ drop n bits = sym (take-append-drop n bits) in
       let all : read (start s) (bytes ++ piece) ≡ read (record { part = Some q; series = took (drop n bits) (took (take n bits) r) }) rest
-          = ap (λ (l : List ℕ). read (start s) (bytes ++ l)) whole
-              ∙ past_head bytes piece used (Data left) h s (bits ++ rest)
-              ∙ read-append (record { part = Some (Data left); series = r }) bits rest
-              ∙ ap (λ (t : Reading). read t rest) (read_data left r bits (omega (arith, size, some)) (omega (arith, size, fits)))
-              ∙ ap (λ (l : List ℕ). read (record { part = Some q; series = took l r }) rest) cut
-              ∙ ap (λ (t : Series). read (record { part = Some q; series = t }) rest) (sym (took_more r (take n bits) (drop n bits))) in
+      = ap (λ (l : List ℕ). read (start s) (bytes ++ l)) whole
+      ∙ past_head bytes piece used (Data left) h s (bits ++ rest)
+      ∙ read-append (record { part = Some (Data left); series = r }) bits rest
+      ∙ ap (λ (t : Reading). read t rest) (read_data left r bits (omega (arith, size, some)) (omega (arith, size, fits)))
+      ∙ ap (λ (l : List ℕ). read (record { part = Some q; series = took l r }) rest) cut
+      ∙ ap (λ (t : Series). read (record { part = Some q; series = t }) rest) (sym (took_more r (take n bits) (drop n bits))) in
       record {
         files = took (take n bits) r;
         now_is = does ∙ ap (λ (o : Option Series). option_map (took (take n bits)) o) told;
@@ -165,10 +165,10 @@ module _ (bytes piece : List ℕ) (used : ℕ) where
       let r = files_read bytes s in
       let ended = (end_taken (Some s) old now [] h there one told does).tells in
       let files : after_next None r ≡ files_read (bytes ++ take (used + 1) piece) s
-          = same_Some (after_next None r) (files_read (bytes ++ take (used + 1) piece) s)
-              (sym (does ∙ ap (λ (o : Option Series). option_map (after_next None) o) told) ∙ ended) in
+      = same_Some (after_next None r) (files_read (bytes ++ take (used + 1) piece) s)
+      (sym (does ∙ ap (λ (o : Option Series). option_map (after_next None) o) told) ∙ ended) in
       let whole : (bytes ++ take (used + 1) piece) ++ drop (used + 1) piece ≡ bytes ++ piece
-          = append_assoc bytes (take (used + 1) piece) (drop (used + 1) piece) ∙ ap (λ (l : List ℕ). bytes ++ l) (take-append-drop (used + 1) piece) in
+      = append_assoc bytes (take (used + 1) piece) (drop (used + 1) piece) ∙ ap (λ (l : List ℕ). bytes ++ l) (take-append-drop (used + 1) piece) in
       record {
         files = after_next None r;
         now_is = does ∙ ap (λ (o : Option Series). option_map (after_next None) o) told;

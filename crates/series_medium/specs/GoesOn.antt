@@ -7,7 +7,8 @@ use Rattle.turn_gate.specs.Histories.{Begins}
 use Rattle.series_medium.specs.Text.{added, on_air, series_text, text_behind}
 
 module _ (file : List Item → Option (List ℕ)) where
-  pub text_on : (now items more : List Item) → text_behind file now (items ++ more) ≡ text_behind file now items ++ text_behind file (fold on_air now items) more
+  pub text_on : (now items more : List Item)
+      → text_behind file now (items ++ more) ≡ text_behind file now items ++ text_behind file (fold on_air now items) more
   text_on now [] more = refl
   text_on now (x ∷ xs) more =
       ap (λ (l : List ℕ). added file now x ++ l) (text_on (on_air now x) xs more)

@@ -1,6 +1,6 @@
--- Only private functions use it.
+-- Only proofs and private functions use it.
 -- The head of a frame: what stands before its data
-use Rattle.std.specs.Prelude.{◌≡◌, ℕ, zero, suc, ◌≤◌, ◌<◌, List, [], ◌∷◌, length, take, Option, Some, None}
+use Rattle.std.specs.Prelude.{◌≡◌, ℕ, zero, suc, ◌≤◌, List, [], ◌∷◌, length, take, Option, Some, None}
 use Rattle.file_series.specs.Series.{Series}
 use Rattle.relay_base.specs.Numbers.{be32_of}
 use Rattle.series_medium.specs.declared.part.Part.{Part}

@@ -1,5 +1,5 @@
 -- THE READING of bytes as frames, byte for byte
-use Rattle.std.specs.Prelude.{ℕ, zero, suc, ◌-◌, ◌<◌, nat_eq, if◌then◌else◌, List, [], ◌∷◌, ◌++◌, fold, Option, Some, None}
+use Rattle.std.specs.Prelude.{ℕ, zero, suc, ◌-◌, ◌<◌, nat_eq, if◌then◌else◌, List, [], ◌∷◌, fold, Option, Some, None}
 use Rattle.relay_base.specs.Numbers.{be32_of}
 use Rattle.file_series.specs.Series.{Series, took, after_next}
 use Rattle.series_medium.specs.declared.part.Part.{Part}

@@ -1,5 +1,5 @@
 -- WHAT A SINK OF FRAMES IS, and what its calls do
-use Rattle.std.specs.Prelude.{◌≡◌, ◌⊎◌, ℕ, ◌+◌, ◌<◌, ◌≤◌, List, [], ◌++◌, length, take, Option, Some, None, option_map, Result, Ok, Err}
+use Rattle.std.specs.Prelude.{◌≡◌, ◌⊎◌, ℕ, ◌+◌, ◌<◌, ◌≤◌, List, ◌++◌, length, take, Option, Some, None, option_map, Result, Ok, Err}
 use Rattle.relay_outside.specs.Counts.{risen}
 use Rattle.relay_outside.specs.declared.sink.Put.{Put}
 use Rattle.relay_outside.specs.declared.sink.Put.TheVariants as put

@@ -1,4 +1,4 @@
--- Only private functions use it.
+-- Only proofs and private functions use it.
 -- What a writer of a transport stream file keeps true of its fields
 use Rattle.std.specs.Prelude.{◌≡◌, Bool, true, false, is_some, reverse}
 use Rattle.ts_writer.specs.Known.{TsKnown}

@@ -4,7 +4,7 @@
 //! them and writes the files to a [`file_series::FileSeries`]. An [`FlvSeriesRecorder`] writes a file of FLV for each broadcast, a
 //! [`TsSeriesRecorder`] one of a transport stream.
 //!
-//! Read `laws::files_law` first. The broadcasts of items, and their files, are `specs/Broadcasts.antt`. The crate opens no file.
+//! Read [`files_law`] first. The broadcasts of items, and their files, are `specs/Broadcasts.antt`. The crate opens no file.
 #![tactic(auto)]
 
 mod flv;

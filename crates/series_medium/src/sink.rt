@@ -35,7 +35,14 @@ impl<F: FileSeries> Model for SeriesSink<F> {
 
     ghost Value = { SinkState F };
 
-    ghost view = { λ k. record { bytes = k.taken; began = F.told k.began.value; series = k.series; stopped = k.stopped; handed = k.handed; refused = k.refused } };
+    ghost view = { λ k. record {
+      bytes = k.taken;
+      began = F.told k.began.value;
+      series = k.series;
+      stopped = k.stopped;
+      handed = k.handed;
+      refused = k.refused;
+    } };
 
     ghost invariant = { λ k. IsSink (F.told k.began.value) (F.told k.series) k.taken k.part k.stopped k.handed };
 }

@@ -92,7 +92,8 @@ impl FileWriter for TsFile {
 /// sent. If memory was refused, they are a beginning of it. So the files of the bytes that the sink took are a first part of the
 /// files of their broadcasts, and these once nothing is pending.
 pub fn ts_series_law<P: StreamPort>(recorder: &TsSeriesRecorder<P>)
-    ensures whole { recorder.now.end ≢ Some RecEnd.OutOfMemory → recorder.now.tape.sent ++ recorder.now.tape.pending ≡ ts_series_text (taken recorder.now.seat.calls) }
+    ensures whole { recorder.now.end ≢ Some RecEnd.OutOfMemory
+        → recorder.now.tape.sent ++ recorder.now.tape.pending ≡ ts_series_text (taken recorder.now.seat.calls) }
     ensures prefix { Begins (recorder.now.tape.sent ++ recorder.now.tape.pending) (ts_series_text (taken recorder.now.seat.calls)) }
     ensures part { IsPartOf (files_read recorder.now.tape.sent none_yet) (files_of ts_file (broadcasts (taken recorder.now.seat.calls))) }
     ensures files { recorder.now.end ≢ Some RecEnd.OutOfMemory → recorder.now.tape.pending ≡ []

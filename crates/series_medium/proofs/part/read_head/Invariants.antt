@@ -1,4 +1,4 @@
-use Rattle.std.proofs.Common.{◌≡◌, ◌≤◌, ◌-◌, length, take}
+use Rattle.std.proofs.Common.{◌≤◌, ◌-◌, length, take}
 use Rattle.series_medium.specs.Reading.{IsDue}
 use Rattle.series_medium.specs.Heads.{Leads}
 use Rattle.series_medium.proofs.part.read_head.Given as goal
