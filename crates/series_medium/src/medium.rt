@@ -61,8 +61,8 @@ fn set_size(alloc: Global, out: &mut Bytes, at: usize, size: u32)
     *out = Bytes::from_vec(list);
 }
 
-#[tactic(auto, using(crate::proofs::Writing::closed, crate::proofs::Writing::closed_none))]
 // Makes a frame of what was appended behind its head, or none of nothing.
+#[tactic(auto, using(crate::proofs::Writing::closed, crate::proofs::Writing::closed_none))]
 fn close_frame(alloc: Global, out: &mut Bytes, at: usize)
     requires kind { slice_index out.old at ≡ 0 }
     requires there { at + 5 ≤ length out.old }

@@ -62,9 +62,9 @@ impl Part {
     }
 }
 
-#[tactic(auto, using(crate::proofs::Heading::leads_on, crate::proofs::Heading::head_due))]
 /// Reads the head of a frame, as far as it stands at the front of a piece. Returns the part that follows, and the number of bytes
 /// that were read.
+#[tactic(auto, using(crate::proofs::Heading::leads_on, crate::proofs::Heading::head_due))]
 pub(crate) fn read_head(part: Part, piece: &[u8]) -> (Part, usize)
     ensures within { result.1 ≤ length piece.now }
     ensures reads { Leads part (take result.1 piece.now) result.0 }
