@@ -12,8 +12,7 @@ use std::test::Fail;
 // A header; the tag of the key picture, and that of the sound.
 const HEADER: &[u8; 13] = b"FLV\x01\x05\x00\x00\x00\x09\x00\x00\x00\x00";
 
-const PICTURE: &[u8; 17] =
-    b"\x09\x00\x00\x02\x02\x03\x04\x01\x00\x00\x00\x17\x01\x00\x00\x00\x0d";
+const PICTURE: &[u8; 17] = b"\x09\x00\x00\x02\x02\x03\x04\x01\x00\x00\x00\x17\x01\x00\x00\x00\x0d";
 
 const SOUND: &[u8; 18] =
     b"\x08\x00\x00\x03\x00\x00\x05\x00\x00\x00\x00\xaf\x01\x21\x00\x00\x00\x0e";
@@ -72,12 +71,7 @@ fn put_all(sink: &mut SeriesSink<MemSeries>, bytes: &[u8], cut: usize) -> u8
 }
 
 // Returns the last answer, and behind it the ended files, each followed by a `|`.
-fn told(
-    alloc: Global,
-    text: &[u8],
-    cut: usize,
-    fails: &[u64],
-) -> Result<Bytes, OutOfMemory>
+fn told(alloc: Global, text: &[u8], cut: usize, fails: &[u64]) -> Result<Bytes, OutOfMemory>
     requires { 0 < cut }
 {
     let mut sink = SeriesSink::new(MemSeries::new(alloc, fails.to_vec(alloc)?));
@@ -117,9 +111,33 @@ fn is_flv(
 fn each_broadcast_has_a_flv_file(rt: HostRuntime) -> Result<(), Fail> {
     let alloc = rt.alloc();
     assert!(rt; is_flv(alloc, b"bae", 100, &[], &[b".", HEADER, SOUND, b"|"])?);
-    assert!(rt; is_flv(alloc, b"baebebke", 100, &[], &[b".", HEADER, SOUND, b"|", HEADER, PICTURE, b"|"])?);
-    assert!(rt; is_flv(alloc, b"babk", 1, &[], &[b".", HEADER, SOUND, b"|", HEADER, PICTURE, b"|"])?);
-    assert!(rt; is_flv(alloc, b"akebe", 7, &[], &[b".", HEADER, SOUND, PICTURE, b"|"])?);
+    assert!(rt;
+        is_flv(
+            alloc,
+            b"baebebke",
+            100,
+            &[],
+            &[b".", HEADER, SOUND, b"|", HEADER, PICTURE, b"|"]
+        )?
+    );
+    assert!(rt;
+        is_flv(
+            alloc,
+            b"babk",
+            1,
+            &[],
+            &[b".", HEADER, SOUND, b"|", HEADER, PICTURE, b"|"]
+        )?
+    );
+    assert!(rt;
+        is_flv(
+            alloc,
+            b"akebe",
+            7,
+            &[],
+            &[b".", HEADER, SOUND, PICTURE, b"|"]
+        )?
+    );
     assert!(rt; is_flv(alloc, b"be", 1, &[], &[b"."])?);
     Ok(())
 }
