@@ -20,6 +20,8 @@ mod recorders;
 #[cfg(test)]
 mod rows;
 #[cfg(test)]
+mod series;
+#[cfg(test)]
 mod starved;
 #[cfg(test)]
 mod ts_in;

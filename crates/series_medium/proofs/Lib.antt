@@ -1,0 +1,11 @@
+pub mod Framing
+pub mod Heading
+pub mod Sinking
+pub mod Growing
+pub mod Filing
+pub mod Parting
+pub mod Growths
+pub mod Writing
+pub mod Adding
+pub mod FlvGrown
+pub mod TsGrown

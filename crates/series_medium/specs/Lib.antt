@@ -1,0 +1,12 @@
+pub mod Frames
+pub mod Reading
+pub mod Heads
+pub mod Broadcasts
+pub mod Text
+pub mod Parts
+pub mod Sinks
+pub mod Meaning
+pub mod Writers
+pub mod GoesOn
+pub mod TsFiles
+pub mod FlvFiles
