@@ -1,7 +1,6 @@
-use Rattle.std.proofs.Common.{◌≡◌, ◌∙◌, List, ap, arith}
+use Rattle.std.proofs.Common.{◌≡◌, ◌∙◌, ap, arith}
 use Rattle.stream_registry.specs.Books.{sole_rules}
 use Rattle.stream_registry.specs.Names.{places}
-use Rattle.stream_registry.specs.Told.{Step}
 use Rattle.loop_command.specs.Course.{skips_in}
 use Rattle.loop_command.proofs.ending.has_skipped.Goals as goal
 
