@@ -88,7 +88,7 @@ closed_granted (call.Take player want) r e = tt
 closed_granted (call.Leave player) r e = tt
 closed_granted call.Count r e = tt
 
-take_closed : (c : Call) → is_take c ≡ true → opens c ≡ false
+pub take_closed : (c : Call) → is_take c ≡ true → opens c ≡ false
 take_closed (call.Take player want) e = refl
 take_closed call.Begin e = absurd cc
 take_closed (call.BeginAs name) e = absurd cc
@@ -204,7 +204,7 @@ none_live past e = by_test (is_live (items_of past))
     by_test true = none_began past e
     by_test false = refl
 
-began_alone : (past : History) (who : ℕ) (c : Call) → is_began (reply_to limits past who c) ≡ true → begins c ≡ true
+pub began_alone : (past : History) (who : ℕ) (c : Call) → is_began (reply_to limits past who c) ≡ true → begins c ≡ true
 began_alone past who call.Begin e = refl
 began_alone past who (call.BeginAs name) e = refl
 began_alone past who call.Join e = absurd (join_not (free_place (holder past) limits.players) e)
@@ -341,7 +341,7 @@ joins (call.Leave player) = false
 joins call.Count = false
 
 -- where none was answered that it joined nobody holds a place
-none_joined : (past : History) → how_many is_joined past ≡ 0 → (q : ℕ) → holder past q ≡ None
+pub none_joined : (past : History) → how_many is_joined past ≡ 0 → (q : ℕ) → holder past q ≡ None
 none_joined [] e q = refl
 none_joined (s ∷ past) e q = by_reply (λ z. none_joined past z q) s.1 e
   where

@@ -1,7 +1,8 @@
 -- WHAT A FILM BECOMES that goes through the relay and back
-use Rattle.std.specs.Prelude.{◌≡◌, ◌++◌, ℕ, List, [], ◌∷◌, map, reverse}
+use Rattle.std.specs.Prelude.{◌≡◌, ◌⊎◌, ◌++◌, ℕ, List, [], ◌∷◌, map, reverse}
 use Rattle.av_unit.specs.Media.{Media}
 use Rattle.av_unit.specs.declared.item.Item.{Item}
+use Rattle.av_unit.specs.declared.item.Item.TheVariants as item
 use Rattle.av_unit.specs.declared.item.Item.TheVariants.{End}
 use Rattle.flv_tags.specs.declared.tag.Tag.{Tag}
 use Rattle.flv_tags.specs.Text.{flv_text}
@@ -22,6 +23,22 @@ gave_tag t = record { at = 0; given = Send t }
 -- the units of tags, each by the length size that those before it tell
 abbrev pub units_of : List Tag → List Media
 units_of tags = units (map gave_tag tags)
+
+-- these are among those, in their order, each once
+abbrev pub AreAmong : {X : Type 0} → List X → List X → Type 0
+AreAmong [] ys = Unit {0}
+AreAmong (x ∷ xs) [] = ⊥
+AreAmong (x ∷ xs) (y ∷ ys) = ((x ≡ y) × AreAmong xs ys) ⊎ AreAmong (x ∷ xs) ys
+
+abbrev pub unit_in : Item → List Media
+unit_in item.Begin = []
+unit_in (item.Unit u) = u ∷ []
+unit_in item.End = []
+
+-- the units of items, in their order
+abbrev pub units_in : List Item → List Media
+units_in [] = []
+units_in (i ∷ items) = unit_in i ++ units_in items
 
 -- these calls stand in a history in their order, each once
 abbrev pub StandIn : List Own → List Step → Type 0
