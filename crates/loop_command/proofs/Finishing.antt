@@ -14,7 +14,7 @@ use Rattle.stream_registry.specs.Books.{SoleState, journal_at, sole_rules}
 use Rattle.stream_registry.specs.Told.{Keeps, Step}
 use Rattle.loop_command.specs.Course.{text_of}
 use Rattle.loop_command.specs.Desk.{max_message, player, publisher, puller, rules, shape}
-use Rattle.loop_command.specs.Lines.{ClientSide, GoesAhead, Serves}
+use Rattle.loop_command.specs.Lines.{ClientSide, GoesAhead, HasCounted, Serves}
 use Rattle.loop_command.specs.Looped.{IsLooped}
 use Rattle.loop_command.specs.Rounds.{IsRun, IsSettled, IsTold, PushesOf}
 use Rattle.loop_command.specs.Sides.{SessionSide}
@@ -24,15 +24,16 @@ use Rattle.loop_command.specs.declared.rounds.Stage.TheVariants.{Done}
 use Rattle.loop_command.proofs.Back.{sent_few}
 use Rattle.loop_command.proofs.Clients.{side_of}
 use Rattle.loop_command.proofs.Laws.{PullLaw, PushLaw, ReadableLaw, looped}
+use Rattle.loop_command.proofs.Owning.{AreBoth, counted_both}
 use Rattle.loop_command.proofs.Sessions.{one_place, serves_on}
 
 module _ (push_law : PushLaw) (pull_law : PullLaw) (readable : ReadableLaw) where
   finished : (file : List Tag) (run : Run) (old now : Option (List ℕ)) (history : List Step) → IsRun file run old now → IsSettled run
-      → Keeps shape history → HaveRoom max_message history
+      → Keeps shape history → AreBoth history run.push.session.parts.calls run.pull.session.parts.calls → HaveRoom max_message history
       → SessionSide publisher run.push.far run.push.session.parts.x run.push.session.parts.calls history
       → SessionSide player run.pull.far run.pull.session.parts.x run.pull.session.parts.calls history
       → length (items_sent run.pull.session.parts.calls) ≤ run.told → IsLooped file (text_of run)
-  finished file run old now history r s keeps room p q few =
+  finished file run old now history r s keeps both room p q few =
       let c = run.pull.client.parts in
       let told : IsTold true run.begun c.taken old now = subst (λ (b : Bool). IsTold b run.begun c.taken old now) s.over_is r.told in
       let taken : c.taken ≡ told.0.0 ++ gift.Unpublished ∷ [] = told.0.1 in
@@ -47,20 +48,21 @@ module _ (push_law : PushLaw) (pull_law : PullLaw) (readable : ReadableLaw) wher
       (looped push_law pull_law readable history room file pushes.0 pushes.1 told.0.0 (listed c.gift) c.outgoing.pending run.push.near run.push.far
       run.pull.near run.pull.far
       run.push.forth run.push.back run.pull.forth run.pull.back run.push.session.parts.x run.pull.session.parts.x run.push.session.parts.calls
-      run.pull.session.parts.calls keeps pushes.4 pushes.3 pushes.2 p
+      run.pull.session.parts.calls keeps both pushes.4 pushes.3 pushes.2 p
       r.push_passed.forth r.push_passed.back s.came side s.pulls q r.pull_passed.forth r.pull_passed.back (omega (arith, few, r.few, ap length taken)))
 
   -- THE ENDING of a run: the stream is asked for its counts, the sessions end, and its history is looked through
   pub ended : (file : List Tag) (run : Run) (old now : Option (List ℕ)) (a b c : SoleState) (f g : MemLinkState) → sole_rules run.port.rules ≡ rules
       → IsRun file run old now → IsSettled run
-      → GoesAhead run.port a → Keeps shape (journal_at a.books 0)
+      → GoesAhead run.port a → HasCounted run.port a → Keeps shape (journal_at a.books 0)
+      → AreBoth (journal_at run.port.books 0) run.push.session.parts.calls run.pull.session.parts.calls
       → (Serves publisher a run.push.session run.push.far → SessionSide publisher f run.push.session.parts.x run.push.session.parts.calls
       (journal_at a.books 0))
       → (Serves publisher a run.push.session run.push.far → b ≡ a) → (Serves publisher a run.push.session run.push.far → f ≡ run.push.far)
       → (Serves player b run.pull.session run.pull.far → SessionSide player g run.pull.session.parts.x run.pull.session.parts.calls (journal_at b.books 0))
       → (Serves player b run.pull.session run.pull.far → c ≡ b) → (Serves player b run.pull.session run.pull.far → g ≡ run.pull.far)
       → HaveRoom max_message (journal_at c.books 0) → IsLooped file (text_of run)
-  ended file run old now a b c f g e r s ahead keeps side port far side' port' far' room =
+  ended file run old now a b c f g e r s ahead counts keeps both side port far side' port' far' room =
       let push = run.push.session.parts in
       let pull = run.pull.session.parts in
       let publishes : Serves publisher a run.push.session run.push.far = serves_on publisher run.port a run.push.session run.push.far ahead r.publishes in
@@ -74,5 +76,7 @@ module _ (push_law : PushLaw) (pull_law : PullLaw) (readable : ReadableLaw) wher
       subst (λ (x : SoleState). SessionSide player run.pull.far pull.x pull.calls (journal_at x.books 0)) same
       (subst (λ (m : MemLinkState). SessionSide player m pull.x pull.calls (journal_at b.books 0)) (far' plays') (side' plays')) in
       let stand = one_place run.pull.session.seat run.port pull.calls r.plays.home.none e r.plays.at.calls r.plays.visits r.plays.at.fit in
-      finished file run old now (journal_at a.books 0) r s keeps (subst (λ (x : SoleState). HaveRoom max_message (journal_at x.books 0)) all room) p q
+      finished file run old now (journal_at a.books 0) r s keeps
+      (counted_both (journal_at run.port.books 0) (journal_at a.books 0) push.calls pull.calls counts.entry counts.reply counts.adds counts.asks keeps both)
+      (subst (λ (x : SoleState). HaveRoom max_message (journal_at x.books 0)) all room) p q
       (omega (arith, sent_few shape pull.calls (journal_at run.port.books 0) stand, s.told))

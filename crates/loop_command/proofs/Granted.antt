@@ -162,6 +162,22 @@ module _ (w : Wish) (f : Reply → Bool) (fits : Call → Bool) (g : Grants w f 
           let t = g.opens_fits c.0.call h.0 in
           (g.granted c.0.call c.1 t (is_so t rest_none.0 (f c.1) refl), rest_none.1)
 
+  at_most : (b : Bool) (n : ℕ) → n ≡ 0 → (if b then 1 else 0) + n ≤ 1
+  at_most true n e = omega (arith, e)
+  at_most false n e = omega (arith, e)
+
+  -- and at most one of them is answered so
+  few_begin : (n : ℕ) (C : List Own) (rest : List Entry) → AreOpened w (makes C ++ rest) → AreRuled f n C → how_many f C ≤ 1
+  unfolding makes
+  few_begin n [] rest h r = omega arith
+  few_begin n (c ∷ C) rest h r = by_take (λ z. few_begin n C rest z r.1) (is_take c.0.call) refl h
+    where
+      by_take : (AreOpened w (makes C ++ rest) → how_many f C ≤ 1) → (b : Bool) → is_take c.0.call ≡ b
+          → AreOpened w ((if b then makes C else c.0 ∷ makes C) ++ rest) → how_many f (c ∷ C) ≤ 1
+      by_take ih true t h =
+          omega (arith, count_one (f c.1) (how_many f C) (unfit n c r.0 (g.closed c.0.call (take_closed c.0.call t))), ih h)
+      by_take ih false t h = at_most (f c.1) (how_many f C) (closed_none n C rest h.1 r.1).0
+
 -- ---- a broadcast
 
 abbrev begins : Call → Bool
@@ -504,19 +520,32 @@ pull_grants = record {
 
 -- ---- both sessions
 
+ruled : (history : List Step) (f : Reply → Bool) (E : List Step) → StandIn shape (reverse E) (reverse history) → AreRuled f (how_many f history) E
+ruled history f E s =
+    subst (AreRuled f (how_many f history)) (reverse-reverse E)
+    (ruled_reverse f (how_many f history) (reverse E)
+    (subst (λ (n : ℕ). AreRuled f n (reverse E)) (many_reverse f history) (stand_ruled f (reverse E) (reverse history) s)))
+
+-- A PUBLISHER'S SESSION JOINS NONE, a player's begins none, and joins at most once
+pub joins_none : (history C : List Step) (rest : List Entry) → StandIn shape (reverse C) (reverse history) → AreOpened wish.Push (makes C ++ rest)
+    → how_many is_joined C ≡ 0
+joins_none history C rest s h = others_none wish.Pull is_joined joins pull_grants wish.Push (λ e. cc) (how_many is_joined history) C rest h (ruled history is_joined C s)
+
+pub begins_none : (history C : List Step) (rest : List Entry) → StandIn shape (reverse C) (reverse history) → AreOpened wish.Pull (makes C ++ rest)
+    → how_many is_began C ≡ 0
+begins_none history C rest s h = others_none wish.Push is_began begins push_grants wish.Pull (λ e. cc) (how_many is_began history) C rest h (ruled history is_began C s)
+
+pub joins_once : (history C : List Step) (rest : List Entry) → StandIn shape (reverse C) (reverse history) → AreOpened wish.Pull (makes C ++ rest)
+    → how_many is_joined C ≤ 1
+joins_once history C rest s h = few_begin wish.Pull is_joined joins pull_grants (how_many is_joined history) C rest h (ruled history is_joined C s)
+
 module _ (history C D : List Step) (stand : StandIn shape (reverse C) (reverse history)) (others : StandIn shape (reverse D) (reverse history))
     (mixed : (f : Reply → Bool) → how_many f history ≡ how_many f C + how_many f D) where
-  ruled : (f : Reply → Bool) (E : List Step) → StandIn shape (reverse E) (reverse history) → AreRuled f (how_many f history) E
-  ruled f E s =
-      subst (AreRuled f (how_many f history)) (reverse-reverse E)
-      (ruled_reverse f (how_many f history) (reverse E)
-      (subst (λ (n : ℕ). AreRuled f n (reverse E)) (many_reverse f history) (stand_ruled f (reverse E) (reverse history) s)))
-
   granted_by : (w v : Wish) (f : Reply → Bool) (fits : Call → Bool) → Grants w f fits → (v ≡ w → ⊥) → (rest more : List Entry) → AreOpened w (makes C ++ rest)
       → AreOpened v (makes D ++ more) → AreGranted C
   granted_by w v f fits g ne rest more h i =
-      let none = others_none w f fits g v ne (how_many f history) D more i (ruled f D others) in
-      one_granted w f fits g (how_many f history) C rest h (ruled f C stand) (omega (arith, mixed f, none))
+      let none = others_none w f fits g v ne (how_many f history) D more i (ruled history f D others) in
+      one_granted w f fits g (how_many f history) C rest h (ruled history f C stand) (omega (arith, mixed f, none))
 
   -- THE PUBLISHER'S CALLS ARE GRANTED
   pub push_granted : (rest more : List Entry) → AreOpened wish.Push (makes C ++ rest) → AreOpened wish.Pull (makes D ++ more) → AreGranted C

@@ -1,5 +1,5 @@
 -- The two laws of a client and a session, over a run that is over
-use Rattle.std.proofs.Common.{◌≡◌, ℕ, ◌-◌, ◌<◌, ◌≤◌, ◌^◌, Bool, true, false, nat_le, if◌then◌else◌, List, [], ◌∷◌, ◌++◌, length, refl, sym, ap, ◌∙◌, arith}
+use Rattle.std.proofs.Common.{◌≡◌, ℕ, ◌-◌, ◌<◌, ◌≤◌, ◌^◌, Bool, true, false, nat_le, if◌then◌else◌, List, [], ◌∷◌, ◌++◌, length, reverse, refl, sym, ap, ◌∙◌, subst, arith}
 use Rattle.std.proofs.Common.{append_assoc, append-nil, length-append}
 use Rattle.std.specs.List.{concat}
 use Rattle.std.proofs.lemmas.Bool.Decides.{nat_tests}
@@ -26,6 +26,7 @@ use Rattle.client_owed.specs.Standing.{is_finished}
 use Rattle.session_owed.specs.Owed as session_owed
 use Rattle.session_owed.specs.Published.{published, pushed_by}
 use Rattle.session_owed.specs.Talk.{Own, hand_bytes}
+use Rattle.stream_model.specs.History.{items_of}
 use Rattle.stream_registry.specs.Told.{Keeps, Step}
 use Rattle.relay_session.specs.Session.{session}
 use Rattle.client_law.specs.Laws.{HaveSent}
@@ -36,8 +37,10 @@ use Rattle.client_command.specs.Film.{tags_given}
 use Rattle.client_command.specs.Gifts.{pull_text}
 use Rattle.loop_command.specs.Desk.{dialogue, granted, max_message, player, publisher, puller, pusher, shape, window}
 use Rattle.loop_command.specs.Lines.{ClientSide, IsPassed, most_passed}
-use Rattle.loop_command.specs.Looped.{IsLooped, StandIn, units_of}
+use Rattle.loop_command.specs.Looped.{AreAmong, IsLooped, StandIn, units_in, units_of}
 use Rattle.loop_command.specs.Sides.{SessionSide}
+use Rattle.loop_command.proofs.Owned.{AreBy}
+use Rattle.loop_command.proofs.Owning.{AreBoth, back_own, calls_by, own_units}
 use Rattle.loop_command.proofs.Back.{Closes, Told, all_came, calls_room, last_is, none_later, text_closed, told_first, units_given}
 
 -- ---- lengths
@@ -181,10 +184,10 @@ module _ (push_law : PushLaw) (pull_law : PullLaw) (readable : ReadableLaw) (his
   -- ---- both
 
   looped_by : (file : List Tag) (publishes plays : List Own) (before : List Gift) → Keeps shape history → StandIn publishes history
-      → StandIn plays history → pushed_by publishes ≡ units_of file
+      → StandIn plays history → pushed_by publishes ≡ units_of file → AreBoth history publishes plays → AreBy publisher publishes → AreBy player plays
       → (t : Told (before ++ gift.Unpublished ∷ []) (items_sent plays)) → t.later ≡ [] → Closes t.told
       → IsLooped file (pull_text (before ++ gift.Unpublished ∷ []))
-  looped_by file publishes plays before keeps s u units t none c =
+  looped_by file publishes plays before keeps s u units both mine its t none c =
       let all : items_sent plays ≡ c.before ++ item.End ∷ [] = sym t.all ∙ ap (λ (l : List Item). t.told ++ l) none ∙ append-nil t.told ∙ c.last in
       record {
         history = history;
@@ -192,23 +195,26 @@ module _ (push_law : PushLaw) (pull_law : PullLaw) (readable : ReadableLaw) (his
         publishes = publishes;
         published = s;
         pushed = units;
+        own = subst (AreAmong (units_in (items_of (reverse history)))) units (own_units history publishes plays keeps s u both mine its);
         plays = plays;
         played = u;
         before = c.before;
         sent = all;
+        back = subst (AreAmong (units_in (items_sent plays))) units (back_own history publishes plays keeps s u both mine its);
         text_is = ap pull_text (sym t.gifts ∙ ap gifts_of c.last) ∙ text_closed c.before ∙ ap flv_text (sym all);
       }
 
   -- A RUN THAT IS OVER: the client that plays was told as much as its session was sent
   pub looped : (file : List Tag) (T : List Gave) (gifts before after : List Gift) (unsent : List ℕ) (n f n' f' : MemLinkState) (a b a' b' : ℕ)
-      (x x' : List ℕ) (C D : List Own) → Keeps shape history
+      (x x' : List ℕ) (C D : List Own) → Keeps shape history → AreBoth history C D
       → is_finished T ≡ true → tags_given T ≡ file → ClientSide pusher n T gifts [] → SessionSide publisher f x C history → IsPassed n f a
       → IsPassed f n b → length x ≡ a
       → ClientSide puller n' [] ((before ++ gift.Unpublished ∷ []) ++ after) unsent → length unsent ≡ 0 → SessionSide player f' x' D history
       → IsPassed n' f' a' → IsPassed f' n' b'
       → length (items_sent D) ≤ length (before ++ gift.Unpublished ∷ []) → IsLooped file (pull_text (before ++ gift.Unpublished ∷ []))
-  looped file T gifts before after unsent n f n' f' a b a' b' x x' C D keeps done tags c s p q all c' none s' p' q' few =
+  looped file T gifts before after unsent n f n' f' a b a' b' x x' C D keeps both done tags c s p q all c' none s' p' q' few =
       let published_is = sent_all T gifts n f a b x C done c s p q all in
       let t = told_all before after unsent n' f' a' b' x' D c' none s' p' q' in
-      looped_by file C D before keeps s.stand s'.stand (s.units ∙ published_is ∙ units_given T file tags) t
+      looped_by file C D before keeps s.stand s'.stand (s.units ∙ published_is ∙ units_given T file tags) both
+      (calls_by (dialogue publisher) C s.ms s.talks.made) (calls_by (dialogue player) D s'.ms s'.talks.made) t
       (none_later (before ++ gift.Unpublished ∷ []) (items_sent D) t few) (last_is t.told before t.gifts)

@@ -5,7 +5,11 @@ pub mod Ties
 pub mod Home
 pub mod Sessions
 pub mod Serving
+pub mod Among
 pub mod Granted
+pub mod Owned
+pub mod Played
+pub mod Owning
 pub mod Mixing
 pub mod Laws
 pub mod Counting

@@ -69,6 +69,7 @@ use Rattle.loop_command.proofs.Granted.{many_reverse, pull_granted, push_granted
 use Rattle.loop_command.proofs.Home.{asked_home, heard_home}
 use Rattle.loop_command.proofs.Laws.{passed_all}
 use Rattle.loop_command.proofs.Links.{said_keeps}
+use Rattle.loop_command.proofs.Owning.{AreBoth}
 use Rattle.loop_command.proofs.Running.{pushes_runs}
 use Rattle.loop_command.proofs.Sessions.{one_place, tied_before}
 use Rattle.loop_command.proofs.Ties.{Fell, Why, not_both, turned_on}
@@ -536,6 +537,16 @@ module _ (once : OnceLaw) (file : List Tag) (old now : Option (List ℕ)) (r : R
       calls_count f C r.pull.session.seat.visits h.plays.at.calls,
       calls_count f D r.push.session.seat.visits h.publishes.at.calls,
     )
+
+    -- THE STREAM'S CALLS ARE THEIRS
+    pub are_both : AreBoth (journal_at r.port.books 0) D C
+    are_both = record {
+      theirs = λ f n. omega (arith, counted f);
+      rest = push_opens.rest;
+      begins = push_opens.opened;
+      more = pull_opens.rest;
+      joins = pull_opens.opened;
+    }
 
     player_granted : AreGranted C
     player_granted = pull_granted (journal_at r.port.books 0) C D played published counted pull_opens.rest push_opens.rest pull_opens.opened push_opens.opened

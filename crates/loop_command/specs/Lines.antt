@@ -1,6 +1,6 @@
 -- Only proofs and private functions use it.
 -- A client and the session that serves it, with the link of each
-use Rattle.std.specs.Prelude.{◌≡◌, ◌≢◌, ◌≤◌, ◌<◌, ◌+◌, ◌^◌, ◌++◌, ℕ, Bool, true, false, List, [], length, drop, map, Option, Some, None}
+use Rattle.std.specs.Prelude.{◌≡◌, ◌≢◌, ◌≤◌, ◌<◌, ◌+◌, ◌^◌, ◌++◌, ℕ, Bool, true, false, List, [], ◌∷◌, length, drop, map, Option, Some, None}
 use Rattle.std.specs.List.{concat}
 use Rattle.relay_outside.specs.MemLinks.{MemLinkState}
 use Rattle.chunk_reader.specs.Sound.{IsRead}
@@ -17,6 +17,8 @@ use Rattle.stream_registry.specs.Books.{FitsSole, SeenState, SoleState, journal_
 use Rattle.stream_registry.specs.Names.{places}
 use Rattle.stream_registry.specs.Told.{Step}
 use Rattle.stream_model.specs.Counts.{how_many}
+use Rattle.stream_model.specs.declared.calls.Call.TheVariants.{Count}
+use Rattle.stream_model.specs.declared.calls.Entry.{Entry}
 use Rattle.stream_model.specs.declared.replies.Reply.{Reply}
 use Rattle.relay_session.specs.Places.{IsAt}
 use Rattle.relay_session.specs.SeatState.{GoOn, SeatState, StandsAt, place_of}
@@ -103,6 +105,13 @@ pub record GoesAhead (p q : SoleState) : Type 0 where
   pub roots : GoOn (journal_at p.books) (journal_at q.books)
   pub passes : (place : ℕ) (pass : SeenState) → FitsSole p place pass → FitsSole q place pass
   pub others : ((n : ℕ) → n ≢ 0 → journal_at p.books n ≡ []) → (n : ℕ) → n ≢ 0 → journal_at q.books n ≡ []
+
+-- one call more was made at the stream of the loop, which asked for its counts
+pub record HasCounted (p q : SoleState) : Type 0 where
+  pub entry : Entry
+  pub reply : Reply
+  pub asks : entry.call ≡ Count
+  pub adds : journal_at q.books 0 ≡ journal_at p.books 0 ++ (entry, reply) ∷ []
 
 -- its calls, the newest first
 abbrev pub steps_of : List Visit → List Step

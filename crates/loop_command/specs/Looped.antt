@@ -12,6 +12,7 @@ use Rattle.client_law.specs.Loud.{units}
 use Rattle.client_law.specs.Pull.{items_sent}
 use Rattle.session_owed.specs.Published.{pushed_by}
 use Rattle.session_owed.specs.Talk.{Own}
+use Rattle.stream_model.specs.History.{items_of}
 use Rattle.stream_registry.specs.Told.{Keeps, Step}
 use Rattle.relay_session.specs.SeatVisits.{Stand}
 use Rattle.loop_command.specs.Desk.{shape}
@@ -45,8 +46,8 @@ abbrev pub StandIn : List Own → List Step → Type 0
 StandIn calls history = Stand shape (reverse calls) history
 
 -- A STREAM HAD THIS HISTORY, by its rules, so that what each player was sent keeps the viewer's law. A
--- publisher pushed the units of the tags, in order, and no other unit; and a player was sent items of which
--- the last is an End, and whose text this is
+-- publisher pushed the units of the tags, in order, and no other unit, and nobody else pushed any; and a
+-- player was sent items of which the last is an End, and whose text this is
 pub record IsLooped (tags : List Tag) (text : List ℕ) : Type 0 where
   pub history : List Step
   pub keeps : Keeps shape history
@@ -54,10 +55,14 @@ pub record IsLooped (tags : List Tag) (text : List ℕ) : Type 0 where
   pub publishes : List Own
   pub published : StandIn publishes history
   pub pushed : pushed_by publishes ≡ units_of tags
+  -- the units of the stream are units of the film
+  pub own : AreAmong (units_in (items_of (reverse history))) (units_of tags)
   -- the calls of the player
   pub plays : List Own
   pub played : StandIn plays history
   -- the items that it was sent
   pub before : List Item
   pub sent : items_sent plays ≡ before ++ End ∷ []
+  -- WHAT CAME BACK IS THE FILM'S OWN: its units are units of the film, in its order, each at most once
+  pub back : AreAmong (units_in (items_sent plays)) (units_of tags)
   pub text_is : text ≡ flv_text (items_sent plays)

@@ -12,7 +12,7 @@ ghost use Rattle.stream_registry.specs.Names.{places};
 ghost use Rattle.stream_registry.specs.Told.{Keeps};
 ghost use Rattle.loop_command.specs.Course.{has_skipped, has_told, is_done, is_quiet, is_settled, is_still, sent_in, skips_in, text_of};
 ghost use Rattle.loop_command.specs.Desk.{rules, shape};
-ghost use Rattle.loop_command.specs.Lines.{GoesAhead, Serves};
+ghost use Rattle.loop_command.specs.Lines.{GoesAhead, HasCounted, Serves};
 ghost use Rattle.loop_command.specs.Looped.{IsLooped};
 ghost use Rattle.loop_command.specs.Rounds.{FinishFails, IsRun, IsSettled, IsSound, IsStill};
 ghost use Rattle.loop_command.specs.Sides.{SessionSide};
@@ -22,8 +22,10 @@ use crate::desk::OneStream;
 use crate::line::Line;
 use crate::rounds::{Run, Stage};
 use crate::stop::Stop;
+use crate::talk::talk_law;
 use av_unit::{Item, UnitArc};
 use client_law::{pull_bytes_law, push_bytes_law, session_readable_law};
+use refusal_law::a_session_begins_once;
 use relay_session::{End, Session, Turn};
 use std::alloc::Global;
 use stream_core::{Call, Entry, Reply};
@@ -240,6 +242,7 @@ fn end_session(alloc: Global, line: &mut Line, port: &mut Sole) -> Result<(), St
 fn count(port: &mut Sole) -> Result<(), Stop>
     requires rules { sole_rules port.old.rules ≡ rules }
     ensures keeps { OnOk result (Keeps shape (journal_at port.new.books 0)) }
+    ensures counted { OnOk result (HasCounted port.old port.new) }
     ensures rules { sole_rules port.new.rules ≡ sole_rules port.old.rules }
     ensures ahead { GoesAhead port.old port.new }
     ensures err { IfErr result (λ stop. stop ≡ Memory) }
@@ -271,9 +274,11 @@ pub(crate) fn finish(alloc: Global, run: &mut Run) -> Result<(), Stop>
     push_bytes_law();
     pull_bytes_law();
     session_readable_law();
+    a_session_begins_once();
     if has_skipped(run) {
         return Err(Stop::Unfinished);
     }
+    talk_law(run);
     count(&mut run.port)?;
     end_session(alloc, &mut run.push, &mut run.port)?;
     end_session(alloc, &mut run.pull, &mut run.port)?;

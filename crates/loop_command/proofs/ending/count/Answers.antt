@@ -1,5 +1,6 @@
-use Rattle.std.proofs.Common.{◌∙◌, ap}
+use Rattle.std.proofs.Common.{◌∙◌, ◌++◌, List, ap, refl}
 use Rattle.stream_registry.specs.Names.{PortRules}
+use Rattle.stream_registry.specs.Told.{Step}
 use Rattle.loop_command.proofs.Sessions.{count_ahead, count_keeps}
 use Rattle.std.proofs.Common.{◌≡◌, arith}
 use Rattle.stream_registry.specs.Books.{sole_rules}
@@ -13,6 +14,11 @@ returns-in-Ok-clause-keeps c =
     let e = c.in-Ok.ensures in
     count_keeps _ _ _ _ _ _ _ _ _ e.reply e.adds t.ensures.pass.0.seen e.laws (t.ensures.pass.1 ∙ a.ensures.pass.1
     ∙ ap (λ (r : PortRules). r.limits 0) c.requires.rules)
+
+pub returns-in-Ok-clause-counted : goal.returns-in-Ok-clause-counted
+returns-in-Ok-clause-counted c =
+    let e = c.in-Ok.ensures in
+    record { entry = _; reply = _; asks = refl; adds = e.adds ∙ ap (λ (l : List Step). l ++ _) (c.attach-pass.ensures.root 0) }
 
 pub returns-in-Ok-clause-ahead : goal.returns-in-Ok-clause-ahead
 returns-in-Ok-clause-ahead c =

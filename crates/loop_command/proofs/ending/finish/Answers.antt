@@ -2,6 +2,7 @@ use Rattle.std.proofs.Common.{◌∙◌, subst}
 use Rattle.client_law.specs.Room.{HaveRoom}
 use Rattle.loop_command.specs.Desk.{player, publisher}
 use Rattle.loop_command.proofs.Finishing.{ended}
+use Rattle.loop_command.proofs.Refusing.{are_both}
 use Rattle.loop_command.proofs.Running.{stands_on}
 use Rattle.std.proofs.Common.{◌≡◌, ap, arith}
 use Rattle.stream_registry.specs.Books.{sole_rules}
@@ -23,7 +24,9 @@ returns-clause-looped c = λ file old now h.
     let b = c.end_session-2 in
     ended c.push_bytes_law.ensures c.pull_bytes_law.ensures c.session_readable_law.ensures file c.args.run.now old now c.count.new.port a.new.port
     b.new.port a.new.line.far b.new.line.far
-    c.requires.sound.rules_are h c.requires.settled c.count.ensures.ahead c.in_ok-count.ensures.keeps (c.in_ok-end_session.ensures.side publisher)
+    c.requires.sound.rules_are h c.requires.settled c.count.ensures.ahead c.in_ok-count.ensures.counted c.in_ok-count.ensures.keeps
+    (are_both c.a_session_begins_once.ensures file old now c.args.run.now c.requires.sound.rules_are h (c.talk_law.ensures.plays h.plays.stands)
+    (c.talk_law.ensures.publishes h.publishes.stands) c.talk_law.ensures.room) (c.in_ok-end_session.ensures.side publisher)
     (a.ensures.port publisher) (a.ensures.far publisher)
     (c.in_ok-end_session-2.ensures.side player) (b.ensures.port player) (b.ensures.far player) (subst (HaveRoom 4194304) c.journal.ensures c.have_room.ensures)
 
