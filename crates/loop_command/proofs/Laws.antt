@@ -25,8 +25,7 @@ use Rattle.client_owed.specs.Pulled.{pulled, pulled_from}
 use Rattle.client_owed.specs.Standing.{is_finished}
 use Rattle.session_owed.specs.Owed as session_owed
 use Rattle.session_owed.specs.Published.{published, pushed_by}
-use Rattle.session_owed.specs.Talk.{Own, hand_bytes}
-use Rattle.stream_model.specs.History.{items_of}
+use Rattle.session_owed.specs.Talk.{Own, hand_bytes, makes}
 use Rattle.stream_registry.specs.Told.{Keeps, Step}
 use Rattle.relay_session.specs.Session.{session}
 use Rattle.client_law.specs.Laws.{HaveSent}
@@ -39,6 +38,7 @@ use Rattle.loop_command.specs.Desk.{dialogue, granted, max_message, player, publ
 use Rattle.loop_command.specs.Lines.{ClientSide, IsPassed, most_passed}
 use Rattle.loop_command.specs.Looped.{AreAmong, IsLooped, StandIn, units_in, units_of}
 use Rattle.loop_command.specs.Sides.{SessionSide}
+use Rattle.loop_command.proofs.Opening.{AreOpen, calls_open}
 use Rattle.loop_command.proofs.Owned.{AreBy}
 use Rattle.loop_command.proofs.Owning.{AreBoth, back_own, calls_by, own_units}
 use Rattle.loop_command.proofs.Back.{Closes, Told, all_came, calls_room, last_is, none_later, text_closed, told_first, units_given}
@@ -185,9 +185,10 @@ module _ (push_law : PushLaw) (pull_law : PullLaw) (readable : ReadableLaw) (his
 
   looped_by : (file : List Tag) (publishes plays : List Own) (before : List Gift) → Keeps shape history → StandIn publishes history
       → StandIn plays history → pushed_by publishes ≡ units_of file → AreBoth history publishes plays → AreBy publisher publishes → AreBy player plays
+      → AreOpen (reverse (makes publishes))
       → (t : Told (before ++ gift.Unpublished ∷ []) (items_sent plays)) → t.later ≡ [] → Closes t.told
       → IsLooped file (pull_text (before ++ gift.Unpublished ∷ []))
-  looped_by file publishes plays before keeps s u units both mine its t none c =
+  looped_by file publishes plays before keeps s u units both mine its inside t none c =
       let all : items_sent plays ≡ c.before ++ item.End ∷ [] = sym t.all ∙ ap (λ (l : List Item). t.told ++ l) none ∙ append-nil t.told ∙ c.last in
       record {
         history = history;
@@ -195,12 +196,12 @@ module _ (push_law : PushLaw) (pull_law : PullLaw) (readable : ReadableLaw) (his
         publishes = publishes;
         published = s;
         pushed = units;
-        own = subst (AreAmong (units_in (items_of (reverse history)))) units (own_units history publishes plays keeps s u both mine its);
+        own = own_units history publishes plays keeps s u both mine its inside ∙ units;
         plays = plays;
         played = u;
         before = c.before;
         sent = all;
-        back = subst (AreAmong (units_in (items_sent plays))) units (back_own history publishes plays keeps s u both mine its);
+        back = subst (AreAmong (units_in (items_sent plays))) units (back_own history publishes plays keeps s u both mine its inside);
         text_is = ap pull_text (sym t.gifts ∙ ap gifts_of c.last) ∙ text_closed c.before ∙ ap flv_text (sym all);
       }
 
@@ -216,5 +217,6 @@ module _ (push_law : PushLaw) (pull_law : PullLaw) (readable : ReadableLaw) (his
       let published_is = sent_all T gifts n f a b x C done c s p q all in
       let t = told_all before after unsent n' f' a' b' x' D c' none s' p' q' in
       looped_by file C D before keeps s.stand s'.stand (s.units ∙ published_is ∙ units_given T file tags) both
-      (calls_by (dialogue publisher) C s.ms s.talks.made) (calls_by (dialogue player) D s'.ms s'.talks.made) t
+      (calls_by (dialogue publisher) C s.ms s.talks.made) (calls_by (dialogue player) D s'.ms s'.talks.made)
+      (calls_open publisher window granted C s.ms s.talks.made) t
       (none_later (before ++ gift.Unpublished ∷ []) (items_sent D) t few) (last_is t.told before t.gifts)

@@ -7,7 +7,9 @@ pub mod Sessions
 pub mod Serving
 pub mod Among
 pub mod Granted
+pub mod Opening
 pub mod Owned
+pub mod Filling
 pub mod Played
 pub mod Owning
 pub mod Mixing

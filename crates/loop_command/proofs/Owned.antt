@@ -2,6 +2,7 @@
 use Rattle.std.proofs.Common.{◌≡◌, inl, inr, ℕ, ◌+◌, ◌≤◌, Bool, true, false, ◌==◌, if◌then◌else◌, List, [], ◌∷◌, ◌++◌, length, Option, Some, None, refl, sym, ap, ◌∙◌, subst, arith, append-nil}
 use Rattle.std.proofs.lemmas.Bool.{eqb-true}
 use Rattle.av_unit.specs.Media.{Media}
+use Rattle.av_unit.specs.declared.head.Want.{Want}
 use Rattle.av_unit.specs.declared.item.Item.{Item}
 use Rattle.av_unit.specs.declared.item.Item.TheVariants as item
 use Rattle.relay_session.specs.SeatVisits.{StandIn}
@@ -48,7 +49,7 @@ few_stand f (m ∷ P) (x ∷ past) (inr s) = omega (arith, few_stand f (m ∷ P)
 
 -- ---- a reply that brings none changes none
 
-not_item : (c : Call) (r : Reply) (items : List Item) → is_item r ≡ false → items_after c r items ≡ items
+pub not_item : (c : Call) (r : Reply) (items : List Item) → is_item r ≡ false → items_after c r items ≡ items
 not_item c (reply_is.Began n) items e = absurd cc
 not_item c (reply_is.Pushed n) items e = absurd cc
 not_item c (reply_is.Ended n) items e = absurd cc
@@ -64,7 +65,7 @@ not_item c (reply_is.NotYet end) items e = refl
 not_item c (reply_is.Left player) items e = refl
 not_item c (reply_is.Counts began pushed ended joined skips) items e = refl
 
-not_began : (who : ℕ) (r : Reply) (o : Option ℕ) → is_item r ≡ false → began_by who r o ≡ o
+pub not_began : (who : ℕ) (r : Reply) (o : Option ℕ) → is_item r ≡ false → began_by who r o ≡ o
 not_began who (reply_is.Began n) o e = absurd cc
 not_began who (reply_is.Pushed n) o e = absurd cc
 not_began who (reply_is.Ended n) o e = absurd cc
@@ -133,11 +134,11 @@ began_own w (m ∷ P) (x ∷ past) (inr s) l b = (
 )
 
 -- the last that began was this caller's, if there is one
-abbrev IsNone_or : ℕ → Option ℕ → Type 0
+abbrev pub IsNone_or : ℕ → Option ℕ → Type 0
 IsNone_or w None = Unit {0}
 IsNone_or w (Some v) = v ≡ w
 
-last_own : (w : ℕ) (past : List Step) → BeganBy w past → IsNone_or w (last_began past)
+pub last_own : (w : ℕ) (past : List Step) → BeganBy w past → IsNone_or w (last_began past)
 last_own w [] b = tt
 last_own w (x ∷ past) b = by_reply (last_own w past b.1) x.1 b.0
   where
@@ -163,6 +164,31 @@ last_own w (x ∷ past) b = by_reply (last_own w past b.1) x.1 b.0
 abbrev pub AreBy : ℕ → List Step → Type 0
 AreBy w [] = Unit {0}
 AreBy w (c ∷ C) = (is_take c.0.call ≡ false → c.0.who ≡ w) × AreBy w C
+
+-- a Join, a Take and a Leave bring no item
+pub join_brings : (past : History) → is_item (join_reply (join limits (items_of past)) (free_place (holder past) limits.players)) ≡ false
+join_brings past = by_place (free_place (holder past) limits.players)
+  where
+    by_place : (o : Option ℕ) → is_item (join_reply (join limits (items_of past)) o) ≡ false
+    by_place None = refl
+    by_place (Some p) = refl
+
+pub take_brings : (past : History) (who player : ℕ) (want : Want) → is_item (reply_to limits past who (call.Take player want)) ≡ false
+take_brings past who player want =
+    by_test (is_who (holder past player) who) (taken limits (items_of past) (cursor (spell past player)) (sent (spell past player)) want)
+  where
+    by_test : (b : Bool) (t : Taken) → is_item (if b then reply_of t else reply_is.NotPlayer) ≡ false
+    by_test true (took.Sent from n i) = refl
+    by_test true (took.Skip from to) = refl
+    by_test true (took.NotYet end) = refl
+    by_test false t = refl
+
+pub leave_brings : (past : History) (who player : ℕ) → is_item (reply_to limits past who (call.Leave player)) ≡ false
+leave_brings past who player = by_test (is_who (holder past player) who)
+  where
+    by_test : (b : Bool) → is_item (if b then reply_is.Left player else reply_is.NotPlayer) ≡ false
+    by_test true = refl
+    by_test false = refl
 
 abbrev Published : History → ℕ → Call → Type 0
 Published past who c = (is_take c ≡ false) × (is_who (publisher past) who ≡ true)
@@ -190,32 +216,24 @@ published_alone past who call.End e n = by_test (is_who (publisher past) who) re
         → Published past who call.End
     by_test true t e = (refl, t)
     by_test false t e = absurd cc
-published_alone past who call.Join e n = absurd (by_place (free_place (holder past) limits.players) e)
-  where
-    by_place : (o : Option ℕ) → is_item (join_reply (join limits (items_of past)) o) ≡ true → ⊥
-    by_place None e = cc
-    by_place (Some p) e = cc
-published_alone past who (call.JoinAs name) e n = absurd (by_place (free_place (holder past) limits.players) e)
-  where
-    by_place : (o : Option ℕ) → is_item (join_reply (join limits (items_of past)) o) ≡ true → ⊥
-    by_place None e = cc
-    by_place (Some p) e = cc
-published_alone past who (call.Take player want) e n =
-    absurd (by_test (is_who (holder past player) who) (taken limits (items_of past) (cursor (spell past player)) (sent (spell past player)) want) e)
-  where
-    by_test : (b : Bool) (t : Taken) → is_item (if b then reply_of t else reply_is.NotPlayer) ≡ true → ⊥
-    by_test true (took.Sent from n i) e = cc
-    by_test true (took.Skip from to) e = cc
-    by_test true (took.NotYet end) e = cc
-    by_test false t e = cc
-published_alone past who (call.Leave player) e n = absurd (by_test (is_who (holder past player) who) e)
-  where
-    by_test : (b : Bool) → is_item (if b then reply_is.Left player else reply_is.NotPlayer) ≡ true → ⊥
-    by_test true e = cc
-    by_test false e = cc
+published_alone past who call.Join e n = absurd (not_both _ e (join_brings past))
+published_alone past who (call.JoinAs name) e n = absurd (not_both _ e (join_brings past))
+published_alone past who (call.Take player want) e n = absurd (not_both _ e (take_brings past who player want))
+published_alone past who (call.Leave player) e n = absurd (not_both _ e (leave_brings past who player))
 published_alone past who call.Count e n = absurd cc
 
 -- the publisher of a stream where all began by one caller is that caller
+pub who_began : (w v : ℕ) (past : List Step) → BeganBy w past → publisher past ≡ Some v → v ≡ w
+who_began w v past b e = by_live (is_live (items_of past)) e
+  where
+    by_last : (o : Option ℕ) → IsNone_or w o → o ≡ Some v → v ≡ w
+    by_last None h e = absurd (let f : None ≡ Some v = e in cc)
+    by_last (Some x) h e = let f : x ≡ v = cc in sym f ∙ h
+
+    by_live : (l : Bool) → (if l then last_began past else None) ≡ Some v → v ≡ w
+    by_live true e = by_last (last_began past) (last_own w past b) e
+    by_live false e = absurd (let f : None ≡ Some v = e in cc)
+
 who_is : (w who : ℕ) (past : List Step) → BeganBy w past → is_who (publisher past) who ≡ true → who ≡ w
 who_is w who past b e = by_live (is_live (items_of past)) e
   where
@@ -281,10 +299,10 @@ pushes [] = []
 pushes (c ∷ P) = pushes P ++ unit_of c.0.call
 
 -- what a reply adds
-record Adds (c : Call) (r : Reply) (items : List Item) : Type 0 where
-  units : List Media
-  are : units_in (items_after c r items) ≡ units_in items ++ units
-  own : AreAmong units (unit_of c)
+pub record Adds (c : Call) (r : Reply) (items : List Item) : Type 0 where
+  pub units : List Media
+  pub are : units_in (items_after c r items) ≡ units_in items ++ units
+  pub own : AreAmong units (unit_of c)
 
 adds_none : (c : Call) (r : Reply) (items : List Item) → units_in (items_after c r items) ≡ units_in items → Adds c r items
 adds_none c r items e = record { units = []; are = e ∙ sym (append-nil (units_in items)); own = tt }
@@ -300,7 +318,7 @@ adds_pushed (call.Take player want) n items = adds_none (call.Take player want) 
 adds_pushed (call.Leave player) n items = adds_none (call.Leave player) (reply_is.Pushed n) items refl
 adds_pushed call.Count n items = adds_none call.Count (reply_is.Pushed n) items refl
 
-adds : (c : Call) (r : Reply) (items : List Item) → Adds c r items
+pub adds : (c : Call) (r : Reply) (items : List Item) → Adds c r items
 adds c (reply_is.Pushed n) items = adds_pushed c n items
 adds c (reply_is.Began n) items = adds_none c (reply_is.Began n) items (units_join items (item.Begin ∷ []) ∙ append-nil (units_in items))
 adds c (reply_is.Ended n) items = adds_none c (reply_is.Ended n) items (units_join items (item.End ∷ []) ∙ append-nil (units_in items))

@@ -24,8 +24,10 @@ use Rattle.loop_command.specs.Desk.{limits, player, publisher, shape}
 use Rattle.loop_command.specs.Looped.{AreAmong, StandIn, units_in}
 use Rattle.loop_command.proofs.Among.{among_then, units_among}
 use Rattle.loop_command.proofs.Back.{reversed}
+use Rattle.loop_command.proofs.Filling.{all_pushed, makes_reverse}
+use Rattle.loop_command.proofs.Opening.{AreOpen}
 use Rattle.loop_command.proofs.Granted.{begins_none, joins_none, joins_once, many_join, many_reverse}
-use Rattle.loop_command.proofs.Owned.{AreBy, BeganBy, SameItems, began_own, is_item, items_pushed, others_bring_none, own_began, pushes, same_items}
+use Rattle.loop_command.proofs.Owned.{AreBy, BeganBy, began_own, is_item, others_bring_none, own_began, pushes, same_items}
 use Rattle.loop_command.proofs.Played.{taken_among, taken_by, told, told_among}
 
 -- ---- the calls that messages make are its session's
@@ -146,7 +148,7 @@ counted_both old history C D e r adds asks keeps b = record {
     is_count = (subst (IsLawful limits) turned keeps.rules).0 ∙ ap (reply_to limits (reverse old) e.who) asks
 
 module _ (history C D : List Own) (keeps : Keeps shape history) (stand : StandIn C history) (others : StandIn D history) (both : AreBoth history C D)
-    (mine : AreBy publisher C) (its : AreBy player D) where
+    (mine : AreBy publisher C) (its : AreBy player D) (inside : AreOpen (reverse (makes C))) where
   abbrev past : List Step
   past = reverse history
 
@@ -169,16 +171,15 @@ module _ (history C D : List Own) (keeps : Keeps shape history) (stand : StandIn
   none_brought =
       others_bring_none publisher player Q past others began (by_reverse player D its) (λ e. omega (arith, e)) (many_reverse is_began D ∙ none_begun)
 
-  -- THE STREAM'S ITEMS are those that the publisher's calls brought
-  pub same : SameItems past P
-  same =
-      same_items P past stand
-      (omega (arith, both.theirs is_item (λ a b c d e. refl), many_reverse is_item history, many_reverse is_item C, many_reverse is_item D, none_brought))
+  few_items : how_many is_item past ≤ how_many is_item P
+  few_items =
+      omega (arith, both.theirs is_item (λ a b c d e. refl), many_reverse is_item history, many_reverse is_item C, many_reverse is_item D, none_brought)
 
-  pub own_units : AreAmong (units_in (items_of past)) (pushed_by C)
+  -- THE STREAM'S UNITS are those that the publisher's calls push
+  pub own_units : units_in (items_of past) ≡ pushed_by C
   own_units =
-      subst (λ (i : List Item). AreAmong (units_in i) (pushed_by C)) (sym same.items)
-      (subst (AreAmong (units_in (items_of P))) (pushes_reverse C) (items_pushed P))
+      ap units_in (same_items P past stand few_items).items
+      ∙ all_pushed publisher P past stand few_items began (by_reverse publisher C mine) (subst AreOpen (sym (makes_reverse C)) inside) ∙ pushes_reverse C
 
   sent_own : AreAmong (items_sent D) (items_of past)
   sent_own =
@@ -195,5 +196,4 @@ module _ (history C D : List Own) (keeps : Keeps shape history) (stand : StandIn
 
   -- AND THE PLAYER WAS SENT NO OTHERS
   pub back_own : AreAmong (units_in (items_sent D)) (pushed_by C)
-  back_own =
-      among_then (units_in (items_sent D)) (units_in (items_of past)) (pushed_by C) (units_among (items_sent D) (items_of past) sent_own) own_units
+  back_own = subst (AreAmong (units_in (items_sent D))) own_units (units_among (items_sent D) (items_of past) sent_own)

@@ -55,8 +55,8 @@ pub record IsLooped (tags : List Tag) (text : List ℕ) : Type 0 where
   pub publishes : List Own
   pub published : StandIn publishes history
   pub pushed : pushed_by publishes ≡ units_of tags
-  -- the units of the stream are units of the film
-  pub own : AreAmong (units_in (items_of (reverse history))) (units_of tags)
+  -- the stream's units are those of the film, and no others
+  pub own : units_in (items_of (reverse history)) ≡ units_of tags
   -- the calls of the player
   pub plays : List Own
   pub played : StandIn plays history
