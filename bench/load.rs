@@ -23,7 +23,7 @@ One publisher sends a broadcast in real time: 25 pictures a second, of which one
 come while it runs. When each has its first unit, and a second later, the measured time begins.
 
   --players N      players that keep up (10; 0 to 250)
-  --http N         as many more, which pull over HTTP (none; 0 to 64)
+  --http N         as many more, which pull over HTTP (none; 0 to 250)
   --slow PERCENT   one player more, which reads at that share of the broadcast's rate (none; 1 to 99)
   --seconds S      measured time (10; 1 to 3600)
   --mbit M         the broadcast's rate in Mbit/s (4; 0.2 to 20)
@@ -127,7 +127,7 @@ impl Words {
                 "--serve" => words.serve = Some(text),
                 "--to" => words.to = Some(text),
                 "--players" => words.players = number(&word, &text, 0, 250),
-                "--http" => words.http = number(&word, &text, 0, 64),
+                "--http" => words.http = number(&word, &text, 0, 250),
                 "--http-at" => words.http_at = Some(text),
                 "--publish-at" => words.publish_at = Some(text),
                 "--slow" => words.slow = Some(number(&word, &text, 1, 99)),
@@ -1168,9 +1168,12 @@ impl Server {
         let folder = std::env::temp_dir().join(format!("relay-load-{}", std::process::id()));
         fs::create_dir_all(&folder).map_err(|e| e.to_string())?;
         let config = folder.join("relay.toml");
+        let http = match words.http {
+            0 => String::new(),
+            players => format!("http = \"127.0.0.2:0\"\nhttp_links = {players}\n"),
+        };
         let relay = format!(
-            "[relay]\nlisten = \"127.0.0.1:0\"\n{}workers = {}\nlinks = 64\naccept = {}\nmax_message = 1048576\nring_bytes = {}\nplayers = {}\n",
-            if words.http > 0 { "http = \"127.0.0.2:0\"\n" } else { "" },
+            "[relay]\nlisten = \"127.0.0.1:0\"\n{http}workers = {}\nlinks = 64\naccept = {}\nmax_message = 1048576\nring_bytes = {}\nplayers = {}\n",
             words.workers.max((words.links() - words.http).div_ceil(64)),
             words.links(),
             words.ring,

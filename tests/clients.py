@@ -111,6 +111,12 @@ class Run:
         out, err = self.process.communicate(more, timeout=60)
         return self.process.returncode, out, err.decode(), time.monotonic() - self.begun
 
+    def used(self):
+        """The processor time that it has taken, in seconds."""
+        with open(f"/proc/{self.process.pid}/stat") as f:
+            fields = f.read().rsplit(")", 1)[1].split()
+        return (int(fields[11]) + int(fields[12])) / os.sysconf("SC_CLK_TCK")
+
     def runs(self, seconds):
         """Whether it still runs then."""
         try:
@@ -314,6 +320,25 @@ def stalled(relay, folder):
     origin.close()
 
 
+def rests(relay, folder):
+    """A client with nothing to do takes no processor: a pull before the broadcast, and a push whose input gives nothing."""
+    server, origin = Server(relay, folder, {"cam": ""}), Origin()
+    waits, stalls = pull(relay, server.port), push(relay, origin.port)
+    stalls.give(SMALL)
+    origin.begin("publish", "NetStream.Publish.Start")
+    while origin.hear()[0] != VIDEO:
+        pass
+    time.sleep(2)
+    before = [one.used() for one in (waits, stalls)]
+    time.sleep(4)
+    for name, one, used in (("a pull", waits, before[0]), ("a push", stalls, before[1])):
+        expect(one.used() - used < 0.4, f"rests: {name} takes {one.used() - used:.2f} s of a processor in 4 s")
+        one.process.kill()
+        one.end()
+    origin.close()
+    server.kill()
+
+
 def bounded(relay, folder):
     """`--for` ends a pull with whole tags; `--from-zero` counts its times from the first frame; an empty one says so."""
     server = Server(relay, folder, {"cam": ""})
@@ -373,7 +398,7 @@ def told(relay, folder):
     server.kill()
 
 
-TESTS = [paced, shared, closed, late, parting, refused, silence, stalled, bounded, named, told]
+TESTS = [paced, shared, closed, late, parting, refused, silence, stalled, rests, bounded, named, told]
 
 
 def main():

@@ -19,7 +19,7 @@ use Rattle.http_flv.proofs.Moving.{moves_kept}
 module _ {P Q : Type 0} (fits : P → ℕ → Q → Type 0) (rules : P → PortRules) (root : P → Histories) (seen : Q → List Step) (count : Q → ℕ)
     (wants : Entry → Type 0) (busies : P → ℕ) (Asks : P → SeatState Q → ℕ → Entry → Made → P → SeatState Q → Type 0)
     (tells : (p : P) (s : SeatState Q) (place : ℕ) (e : Entry) (r : Made) (q : P) (t : SeatState Q)
-        → Asks p s place e r q t → Asked fits rules root seen count wants busies p s place e r q t) where
+    → Asks p s place e r q t → Asked fits rules root seen count wants busies p s place e r q t) where
   abbrev On : P → SeatState Q → P → SeatState Q → Type 0
   On = GoesOn fits rules root seen busies
 

@@ -239,7 +239,7 @@ module _ {P Q : Type 0} (fits : P → ℕ → Q → Type 0) (rules : P → PortR
 module _ {P Q : Type 0} (fits : P → ℕ → Q → Type 0) (rules : P → PortRules) (root : P → Histories) (seen : Q → List Step) (count : Q → ℕ) (wants : Entry
     → Type 0) (busies : P → ℕ) (Asks : P → SeatState Q → ℕ → Entry → Made → P → SeatState Q → Type 0)
     (tells : (p : P) (s : SeatState Q) (place : ℕ) (e : Entry) (r : Made) (q : P) (t : SeatState Q)
-        → Asks p s place e r q t → Asked fits rules root seen count wants busies p s place e r q t) where
+    → Asks p s place e r q t → Asked fits rules root seen count wants busies p s place e r q t) where
   pub on_called : (v w : Life P (SeatState Q)) (e : Entry) (rest : List Entry) (a : EdgeTurn)
       → Called Asks v e rest a w → GoesOn fits rules root seen busies v.port v.seat w.port w.seat
   on_called v w e rest a t = let x = tells v.port v.seat v.parts.place e t.came w.port w.seat t.asked in record {

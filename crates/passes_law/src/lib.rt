@@ -8,4 +8,6 @@
 
 mod laws;
 
-pub use laws::{edges_law, http_workers_law, players_law, recorders_law, sessions_law, workers_law};
+pub use laws::{
+    edges_law, http_workers_law, players_law, recorders_law, sessions_law, workers_law,
+};
