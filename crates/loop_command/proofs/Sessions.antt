@@ -16,8 +16,10 @@ use Rattle.session_owed.specs.Published.{published, pushed_by, pushed_in}
 use Rattle.session_owed.specs.Standing.{Past, new_past}
 use Rattle.session_owed.specs.Talk.{Own, hand_bytes, talk}
 use Rattle.session_owed.specs.Talks.{Rise, Talks}
+use Rattle.stream_model.specs.declared.calls.Call.TheVariants.{Count}
 use Rattle.stream_model.specs.declared.calls.Entry.{Entry}
 use Rattle.stream_model.specs.declared.calls.Shape.{Shape}
+use Rattle.stream_model.specs.declared.replies.Reply.{Reply}
 use Rattle.stream_registry.specs.Books.{FitsSole, SeenState, SoleState, journal_at, sole_rules}
 use Rattle.stream_registry.specs.Names.{PortRules, places}
 use Rattle.stream_registry.specs.Placed.{Placed}
@@ -36,7 +38,7 @@ use Rattle.relay_session.specs.declared.core_fields.Core.{Core}
 use Rattle.relay_session.specs.declared.end.End.{End}
 use Rattle.relay_session.specs.declared.end.End.TheVariants as end
 use Rattle.loop_command.specs.Desk.{dialogue, granted, max_message, rules, shape}
-use Rattle.loop_command.specs.Lines.{GoesAhead, Serves, StaysHome, Tied}
+use Rattle.loop_command.specs.Lines.{GoesAhead, HasCounted, Serves, StaysHome, Tied}
 use Rattle.loop_command.specs.Looped.{StandIn}
 use Rattle.loop_command.specs.Newly.{IsNewSession}
 use Rattle.loop_command.specs.Sides.{SessionSide}
@@ -296,6 +298,11 @@ count_keeps limits limits' journal journal' seen seen' mine mine' step p adds be
     ) in
     let same : seen' ≡ journal' = whole_same seen' begins.0 journal' begins.1 long in
     subst (λ (s : Shape). Keeps s journal') is (subst (Keeps limits') same keeps)
+
+pub has_counted : (p m q : SoleState) (entry : Entry) (reply : Reply) → journal_at q.books 0 ≡ journal_at m.books 0 ++ (entry, reply) ∷ []
+    → journal_at m.books 0 ≡ journal_at p.books 0 → entry.call ≡ Count → HasCounted p q
+has_counted p m q entry reply adds same asks =
+    record { entry = entry; reply = reply; asks = asks; adds = adds ∙ ap (λ (l : List Step). l ++ (entry, reply) ∷ []) same }
 
 pub count_ahead : (p a q : SoleState) → sole_rules a.rules ≡ sole_rules p.rules → ((n : ℕ) → journal_at a.books n ≡ journal_at p.books n)
     → ((n : ℕ) (x : SeenState) → FitsSole p n x → FitsSole a n x) → sole_rules q.rules ≡ sole_rules a.rules

@@ -1,7 +1,6 @@
-use Rattle.std.proofs.Common.{◌∙◌, ◌++◌, List, ap, refl}
+use Rattle.std.proofs.Common.{◌∙◌, ap, refl}
 use Rattle.stream_registry.specs.Names.{PortRules}
-use Rattle.stream_registry.specs.Told.{Step}
-use Rattle.loop_command.proofs.Sessions.{count_ahead, count_keeps}
+use Rattle.loop_command.proofs.Sessions.{count_ahead, count_keeps, has_counted}
 use Rattle.std.proofs.Common.{◌≡◌, arith}
 use Rattle.stream_registry.specs.Books.{sole_rules}
 use Rattle.stream_registry.specs.Names.{places}
@@ -18,7 +17,7 @@ returns-in-Ok-clause-keeps c =
 pub returns-in-Ok-clause-counted : goal.returns-in-Ok-clause-counted
 returns-in-Ok-clause-counted c =
     let e = c.in-Ok.ensures in
-    record { entry = _; reply = _; asks = refl; adds = e.adds ∙ ap (λ (l : List Step). l ++ _) (c.attach-pass.ensures.root 0) }
+    has_counted c.args.port.now c.attach-pass.new.self c.call.new.self _ _ e.adds (c.attach-pass.ensures.root 0) refl
 
 pub returns-in-Ok-clause-ahead : goal.returns-in-Ok-clause-ahead
 returns-in-Ok-clause-ahead c =
