@@ -3,7 +3,7 @@ use Rattle.std.proofs.Common.{◌≡◌, ℕ, List, [], Bool, true, false, if◌
 use Rattle.std.specs.Prelude.{IfSome}
 use Rattle.command_dialog.specs.declared.types.Ask.{Ask}
 use Rattle.command_dialog.specs.declared.types.Grant.{Grant}
-use Rattle.relay_config.specs.Sum.{http_workers}
+use Rattle.relay_config.specs.Sum.{http_room, http_workers}
 use Rattle.relay_config.specs.declared.config.Config.{Config}
 use Rattle.relay_outside.specs.Doors.{DoorTold, with_one}
 use Rattle.relay_outside.specs.Houses.{Asked, Shut, asked_door, shut_door}
