@@ -224,13 +224,6 @@ pub fn all_links(config: &Config) -> u32 {
         .saturating_add(players)
 }
 
-// Returns the most bytes that all links hold at once.
-fn links_sum(config: &Config) -> u64 {
-    let limits = &config.limits;
-    let sessions = sum_of(limits, 0, 0, session_links(config), 0);
-    sessions.saturating_add(players_sum(limits, player_links(config)))
-}
-
 // Returns the summary of a configuration.
 fn show(alloc: Global, config: &Config, sums: &Sums) -> Result<String, AllocError> {
     let listen = shown(config.listen.as_slice());
@@ -306,10 +299,12 @@ pub fn command<R: Eprint + Files<File = File>>(host: &HostRuntime, rt: &R, name:
     match read_config(alloc, bytes.as_slice()) {
         Ok(config) => {
             let limits = &config.limits;
+            let sessions = sum_of(limits, 0, 0, session_links(&config), 0);
+            let players = players_sum(limits, player_links(&config));
             let sums = Sums {
                 all: sum(&config),
                 streams: sum_of(limits, config.places.len() as u32, names_of(&config), 0, 0),
-                links: links_sum(&config),
+                links: sessions.saturating_add(players),
             };
             match show(alloc, &config, &sums) {
                 Ok(text) => tell(host, &text),
